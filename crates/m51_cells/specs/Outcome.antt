@@ -1,5 +1,5 @@
 -- What a call answers that may want memory.
-use Rattle.std.specs.Prelude.{◌≡◌, Unit, Option, Some, None, Result, Ok, Err}
+use Rattle.std.specs.Prelude.{◌≡◌, Option, Some, None, Result, Ok, Err}
 
 -- An error is the refusal that the definition gives; want of memory, which has no refusal, says nothing.
 abbrev pub RefusesWith : {V R : Type 0} → Option R → Result V R → Type 0

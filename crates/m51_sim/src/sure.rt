@@ -1,0 +1,34 @@
+//! A sink that never fails.
+ghost use Rattle.std.specs.Prelude.{None};
+
+use crate::sink::{Failed, Sink};
+
+/// A sink that never fails, and forgets its bytes.
+///
+/// Source: own choice ("Sinks in memory").
+#[derive(Drop)]
+pub struct SureSink {}
+
+impl SureSink {
+    /// Such a sink. All are alike.
+    ///
+    /// Source: own choice ("Sinks in memory").
+    pub fn make() -> SureSink {
+        SureSink {}
+    }
+}
+
+impl Sink for SureSink {
+    ghost text = { λ sink. None };
+
+    ghost faults = { λ sink. 0 };
+
+    /// Takes the whole piece.
+    ///
+    /// Source: own choice ("Sinks in memory").
+    fn write(&mut self, piece: &[u8]) -> Result<usize, Failed>
+        ensures whole { result ≡ Ok (length piece.now) }
+    {
+        Ok(piece.len())
+    }
+}

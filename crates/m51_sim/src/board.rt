@@ -161,18 +161,10 @@ impl Board {
         ensures first { IsFirstInstr result }
         ensures whole { next_of self.now.state result ≤ length self.now.code }
     {
-        let at = usize::from(self.pc);
-        match decode([self.byte(at), self.byte(at + 1), self.byte(at + 2)]) {
+        match decoded(self.code.as_slice(), usize::from(self.pc)) {
             Some(instr) => instr,
             None => unreachable!(),
         }
-    }
-
-    // The byte at an address, FFH past the unit.
-    fn byte(&self, at: usize) -> u8
-        ensures { result ≡ byte_at self.now.code at }
-    {
-        self.code.as_slice().get(at).copied().unwrap_or(0xff)
     }
 
     // Goes on to the next instruction, or stops at the end of the unit.
@@ -212,6 +204,21 @@ impl Board {
         self.cycle = self.cycle.saturating_add(u64::from(cycles(instr)));
         Ok(None)
     }
+}
+
+// The instruction that begins at an address.
+fn decoded(code: &[u8], at: usize) -> Option<Instr>
+    requires { at < 2 ^ 16 }
+    ensures { result ≡ instr_at code.now at }
+{
+    decode([byte(code, at), byte(code, at + 1), byte(code, at + 2)])
+}
+
+// The byte at an address, FFH past the unit.
+fn byte(code: &[u8], at: usize) -> u8
+    ensures { result ≡ byte_at code.now at }
+{
+    code.get(at).copied().unwrap_or(0xff)
 }
 
 // The entry of a write to P1.
@@ -257,7 +264,7 @@ fn write_end<S: Sink>(
     steps: u32,
     cycle: u64,
 ) -> Result<(), Failed>
-    requires { ForSome (option_copied event.entry) (HasText []) }
+    requires { ForSome (option_copied event) (HasText []) }
     ensures whole { OnOk result (Appends (S.text out.old) (S.text out.new) (last_line [] (option_copied event.entry) steps cycle)) }
     ensures short { OnErr result (StopsWithin (S.text out.old) (S.text out.new) (last_line [] (option_copied event.entry) steps cycle)) }
     ensures cause { HasCause (S.faults out.old) (S.faults out.new) result }

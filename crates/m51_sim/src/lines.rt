@@ -184,7 +184,7 @@ fn put_counts(into: &mut [u8; 128], at: usize, steps: u32, cycle: u64) -> usize
 ///
 /// Source: own choice ("Texts of a run").
 pub(crate) fn end_line(event: Option<&Event>, steps: u32, cycle: u64, into: &mut [u8; 128]) -> usize
-    requires { ForSome (option_copied event.entry) (HasText []) }
+    requires { ForSome (option_copied event) (HasText []) }
     ensures bound { result ≤ 128 }
     ensures line { take result into.new ≡ last_line [] (option_copied event.entry) steps cycle }
 {

@@ -1,8 +1,8 @@
 //! A sink in memory, whose failures are listed.
-ghost use Rattle.std.specs.Prelude.{◌≡◌, ◌≤◌, ◌<◌, [], Some, length, IfOk};
+ghost use Rattle.std.specs.Prelude.{◌≡◌, ◌≤◌, ◌<◌, ◌↔◌, [], Some, length, Contains, IsTrue, IfOk};
 ghost use Rattle.std.specs.Io.KnownBytes.{WriteAppends};
 ghost use Rattle.m51_cells.specs.Outside.{HasCause};
-ghost use Rattle.m51_sim.specs.Writing.{IsTaken};
+ghost use Rattle.m51_sim.specs.Writing.{FailsAt, IsTaken};
 
 use crate::sink::{Failed, Sink};
 use m51_cells::NoMemory;
@@ -59,6 +59,21 @@ impl MemSink {
     {
         &self.text
     }
+
+    // Whether the next call fails at this many bytes.
+    fn fails_at(&self, count: usize) -> bool
+        ensures { IsTrue result ↔ FailsAt self.now count }
+    {
+        is_listed(&self.fails, self.calls.saturating_add(1))
+            || self.room - self.text.len() < count
+    }
+}
+
+// Whether the number of a call is among these.
+fn is_listed(fails: &[u32], number: u64) -> bool
+    ensures { IsTrue result ↔ Contains fails.now number }
+{
+    fails.iter().any(|call| u64::from(*call) == number)
 }
 
 impl Sink for MemSink {
@@ -76,10 +91,9 @@ impl Sink for MemSink {
         ensures cause { HasCause self.old.faults self.new.faults result }
         ensures taken { IsTaken self.old self.new piece.now result }
     {
+        let fails = self.fails_at(piece.len());
         self.calls = self.calls.saturating_add(1);
-        let number = self.calls;
-        let listed = self.fails.iter().any(|call| u64::from(*call) == number);
-        if listed || self.room - self.text.len() < piece.len() {
+        if fails {
             self.faults = self.faults.saturating_add(1);
             return Err(Failed);
         }

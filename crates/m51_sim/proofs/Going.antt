@@ -1,5 +1,5 @@
 -- A run that is under way, and how it ends.
-use Rattle.std.proofs.Common.{◌≡◌, ℕ, suc, zero, ◌+◌, ◌-◌, ◌≤◌, ◌<◌, List, [], ◌∷◌, ◌++◌, length, take, Option, Some, None, Result, Ok, Err, refl, sym, ap, ◌∙◌, arith, append_assoc, append-nil, length-append, option_to_list, subst}
+use Rattle.std.proofs.Common.{◌≡◌, ℕ, suc, ◌+◌, ◌-◌, ◌≤◌, ◌<◌, List, [], ◌++◌, length, take, Option, Some, None, Ok, Err, refl, sym, ap, ◌∙◌, arith, append_assoc, append-nil, length-append, option_to_list, subst}
 use Rattle.std.proofs.Math.Logic.{inl, inr}
 use Rattle.std.proofs.Math.Seq.{take-append-add}
 use Rattle.std.proofs.lemmas.List.{take-append-le}
@@ -11,7 +11,7 @@ use Rattle.m51_cells.specs.declared.event.Event.{Event}
 use Rattle.m51_cells.specs.declared.event.Entry.{Entry}
 use Rattle.m51_cells.specs.Outside.{AppendsFront}
 use Rattle.m51_sim.specs.Writing.{StopsWithin}
-use Rattle.m51_sim.specs.Machine.{State, Performed, Record, no_step, with_step, step_of, record_of}
+use Rattle.m51_sim.specs.Machine.{State, Record, no_step, with_step, step_of, record_of}
 use Rattle.m51_sim.specs.Lines.{entry_line, entry_lines, last_line, record_text}
 use Rattle.m51_sim.specs.Run.{IsAdvance, lines_after, StandsAtCut}
 use Rattle.m51_sim.proofs.Sums.{joined, record_sum, record_goes, record_stops, record_zero}

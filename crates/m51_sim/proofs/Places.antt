@@ -1,10 +1,10 @@
 -- Where the instructions of a unit of the first form stand.
-use Rattle.std.proofs.Common.{◌≡◌, ℕ, suc, zero, ◌+◌, ◌*◌, ◌≤◌, ◌<◌, List, [], ◌∷◌, ◌++◌, length, take, Option, Some, refl, sym, ap, ◌∙◌, arith, append_assoc, length-append}
+use Rattle.std.proofs.Common.{◌≡◌, ℕ, suc, zero, ◌+◌, ◌*◌, ◌≤◌, ◌<◌, List, [], ◌∷◌, ◌++◌, length, take, Some, refl, sym, ap, ◌∙◌, arith, append_assoc, length-append}
 use Rattle.std.specs.Prelude.{None}
 use Rattle.std.proofs.lemmas.List.{get_or-append-add}
 use Rattle.std.specs.Prelude.{flat_map}
 use Rattle.m51_isa.specs.declared.instr.Instr.{Instr}
-use Rattle.m51_isa.specs.Table.{decoded_at, length_of}
+use Rattle.m51_isa.specs.Table.{length_of}
 use Rattle.m51_sim.specs.Machine.{byte_at, instr_at}
 use Rattle.m51_sim.specs.FirstForm.{FirstInstr, DataToA, DataToP1, AToP1, JumpHere, instr_of, bytes_of, IsFirstForm, IsFirstInstr, address_of, IsAtInstr}
 

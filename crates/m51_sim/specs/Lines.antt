@@ -1,5 +1,5 @@
 -- The printed lines of a record. Titles are those of the placed segments, in order.
-use Rattle.std.specs.Prelude.{ℕ, ◌+◌, ◌<◌, ◌/◌, ◌%◌, true, false, Bool, List, [], ◌∷◌, ◌++◌, length, Option, Some, None, codes, flat_map}
+use Rattle.std.specs.Prelude.{ℕ, ◌<◌, ◌/◌, ◌%◌, true, false, Bool, List, [], ◌∷◌, ◌++◌, length, Option, Some, None, codes, flat_map}
 use Rattle.std.specs.List.{slice_index_or}
 use Rattle.std.specs.Fmt.{decimal, digit_glyph}
 use Rattle.m51_cells.specs.declared.cell.Space.{Space}

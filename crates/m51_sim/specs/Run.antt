@@ -1,5 +1,5 @@
 -- What the calls of a board answer, and what a run has written.
-use Rattle.std.specs.Prelude.{◌≡◌, ℕ, ◌+◌, ◌-◌, ◌≤◌, ◌<◌, ◌⊎◌, List, length, Option, Some, None, Result, Ok, Err}
+use Rattle.std.specs.Prelude.{◌≡◌, ℕ, ◌-◌, ◌≤◌, ◌<◌, ◌⊎◌, List, length, Option, Some, None, Result, Ok, Err}
 use Rattle.std.specs.Io.KnownBytes.{Appends}
 use Rattle.m51_cells.specs.Outside.{AppendsFront}
 use Rattle.m51_cells.specs.declared.event.Event.{Event}
@@ -8,7 +8,7 @@ use Rattle.m51_sim.specs.declared.board.Step.{Step}
 use Rattle.m51_sim.specs.declared.board.Step.TheVariants.{Done, Stopped}
 use Rattle.m51_sim.specs.declared.board.RunEnd.{RunEnd}
 use Rattle.m51_sim.specs.declared.board.RunEnd.TheVariants as ends
-use Rattle.m51_sim.specs.Machine.{State, Performed, Record, record_of}
+use Rattle.m51_sim.specs.Machine.{State, Performed, record_of}
 use Rattle.m51_sim.specs.Lines.{entry_lines, record_text}
 
 -- the entry of a step that is performed, or the event of one that is stopped, which leaves the state

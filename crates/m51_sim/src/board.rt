@@ -3,8 +3,9 @@ ghost use Rattle.std.specs.Prelude.{◌≡◌, ◌≤◌, ◌<◌, ◌+◌, ◌^
 ghost use Rattle.std.specs.Option.{ForSome};
 ghost use Rattle.std.specs.Io.KnownBytes.{Appends};
 ghost use Rattle.m51_cells.specs.Outside.{Rose, AppendsFront, HasCause};
+ghost use Rattle.m51_isa.specs.Table.{cycles_of};
 ghost use Rattle.m51_sim.specs.Writing.{StopsWithin};
-ghost use Rattle.m51_sim.specs.Machine.{start, byte_at, instr_at, to_next, to_target, target_of, next_of, step_of, record_of};
+ghost use Rattle.m51_sim.specs.Machine.{start, cycles_on, byte_at, instr_at, to_next, to_target, target_of, next_of, step_of, record_of};
 ghost use Rattle.m51_sim.specs.FirstForm.{IsFirstForm, IsFirstInstr, IsAtInstr};
 ghost use Rattle.m51_sim.specs.Lines.{entry_line, last_line, HasText};
 ghost use Rattle.m51_sim.specs.Run.{IsAdvance, IsStep, Ended};
@@ -189,7 +190,7 @@ impl Board {
         }
         self.pc = next as u16;
         self.acc = acc;
-        self.cycle = self.cycle.saturating_add(u64::from(cycles(instr)));
+        self.cycle = cycle_after(self.cycle, instr);
         Ok(entry)
     }
 
@@ -201,7 +202,7 @@ impl Board {
         ensures text { IfErr result (HasText []) }
     {
         self.pc = target;
-        self.cycle = self.cycle.saturating_add(u64::from(cycles(instr)));
+        self.cycle = cycle_after(self.cycle, instr);
         Ok(None)
     }
 }
@@ -219,6 +220,13 @@ fn byte(code: &[u8], at: usize) -> u8
     ensures { result ≡ byte_at code.now at }
 {
     code.get(at).copied().unwrap_or(0xff)
+}
+
+// The cycle number after an instruction.
+fn cycle_after(cycle: u64, instr: &Instr) -> u64
+    ensures { result ≡ cycles_on cycle (cycles_of instr.now) }
+{
+    cycle.saturating_add(u64::from(cycles(instr)))
 }
 
 // The entry of a write to P1.

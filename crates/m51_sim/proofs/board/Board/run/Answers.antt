@@ -1,4 +1,4 @@
-use Rattle.std.proofs.Common.{◌≡◌, ◌+◌, ◌<◌, ap, ◌∙◌, arith}
+use Rattle.std.proofs.Common.{◌≡◌, ap, ◌∙◌, arith}
 use Rattle.m51_sim.specs.Machine.{State, BoardState}
 use Rattle.m51_sim.proofs.Sums.{stays}
 use Rattle.m51_sim.proofs.Going.{going_start, going_on, cut_in_entry, over_at_event, over_at_last, whole_at_end, cut_at_end}

@@ -17,6 +17,10 @@ is_name (first ∷ more) = not (is_ascii_digit first) && nat_le (length (first �
 abbrev pub name_of : List ℕ → Option (List ℕ)
 name_of text = if is_name text then Some (map to_ascii_uppercase text) else None
 
+-- a text writes the name, and the name writes itself, being in upper case
+abbrev pub IsWritten : List ℕ → Type 0
+IsWritten name = name_of name ≡ Some name
+
 -- the title of an absolute segment: @ and the four digits of its base
 abbrev pub title_at : ℕ → List ℕ
 title_at base = 0x40 ∷ hex4 base

@@ -1,4 +1,6 @@
+pub mod Cells
 pub mod Conflict
+pub mod Kept
 pub mod Plan
 pub mod Rising
 pub mod Roots

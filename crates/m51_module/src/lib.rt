@@ -2,14 +2,17 @@
 #![tactic(auto)]
 
 mod content;
+mod layout;
 mod linked;
 mod parts;
 mod placed;
+mod rows;
 mod segment;
 mod source;
 mod symbol;
 
 pub use content::{Fixup, Fixups, Form, Piece, Pieces};
+pub use layout::Layout;
 pub use linked::{Chain, Quantity, Refusal, Run, Runs};
 pub use parts::{LayoutParts, ModuleParts};
 pub use placed::{Mark, Pairs, Placed, PlacedList, Units};

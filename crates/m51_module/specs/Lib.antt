@@ -1,5 +1,6 @@
 pub mod Cells
 pub mod Conflict
+pub mod Image
 pub mod Kept
 pub mod Plan
 pub mod Rising

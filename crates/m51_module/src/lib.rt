@@ -2,8 +2,10 @@
 #![tactic(auto)]
 
 mod content;
+mod image;
 mod layout;
 mod linked;
+mod module;
 mod parts;
 mod placed;
 mod rows;
@@ -12,8 +14,10 @@ mod source;
 mod symbol;
 
 pub use content::{Fixup, Fixups, Form, Piece, Pieces};
+pub use image::{IMAGE_LEN, Image};
 pub use layout::Layout;
 pub use linked::{Chain, Quantity, Refusal, Run, Runs};
+pub use module::Module;
 pub use parts::{LayoutParts, ModuleParts};
 pub use placed::{Mark, Pairs, Placed, PlacedList, Units};
 pub use segment::{Segment, Segments};

@@ -75,6 +75,7 @@ performed code s (MovAData value) = to_next code s (MovAData value) value None
 performed code s (MovDirectData address value) = to_next code s (MovDirectData address value) s.acc (Some (Port s.cycle 1 value))
 performed code s (MovDirectA address) = to_next code s (MovDirectA address) s.acc (Some (Port s.cycle 1 s.acc))
 performed code s (SjmpRel offset) = to_target code s (SjmpRel offset) (target_of (next_of s (SjmpRel offset)) offset)
+performed code s other = Err (Reserved s.pc)
 
 -- first of all its bytes must lie in the unit
 abbrev pub judged : List ℕ → State → Option Instr → Result Performed Event

@@ -153,6 +153,7 @@ impl Board {
                 let target = jump_target(self.pc + 2, offset);
                 self.to_target(&instr, target)
             }
+            _ => unreachable!(),
         }
     }
 

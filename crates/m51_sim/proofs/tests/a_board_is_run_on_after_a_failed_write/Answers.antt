@@ -1,4 +1,4 @@
-use Rattle.std.proofs.Common.{List, [], ◌∷◌, refl, arith}
+use Rattle.std.proofs.Common.{[], ◌∷◌, refl, arith}
 use Rattle.m51_sim.specs.FirstForm.{DataToP1, JumpHere}
 use Rattle.m51_sim.proofs.tests.a_board_is_run_on_after_a_failed_write.Goals as goal
 

@@ -1,4 +1,4 @@
-use Rattle.std.proofs.Common.{List, [], ◌∷◌, refl, arith}
+use Rattle.std.proofs.Common.{[], ◌∷◌, refl, arith}
 use Rattle.m51_sim.specs.FirstForm.{DataToA, AToP1, DataToP1}
 use Rattle.m51_sim.proofs.tests.the_end_of_the_unit_stops_a_run.Goals as goal
 

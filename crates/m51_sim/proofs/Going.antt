@@ -38,7 +38,7 @@ pub record_of_next : (before now : Option (List ℕ)) (code : List ℕ) (first :
     → record_of code (done + 1) first ≡ joined (record_of code done first) (with_step entry (no_step None new))
 record_of_next before now code first done old new entry going h =
     record_of_rest before now code first done 1 (done + 1) old going refl
-      ∙ ap (λ r. joined (record_of code done first) r) (record_goes code 0 1 entry old new refl h ∙ ap (λ r. with_step entry r) (record_zero code new))
+    ∙ ap (λ r. joined (record_of code done first) r) (record_goes code 0 1 entry old new refl h ∙ ap (λ r. with_step entry r) (record_zero code new))
 
 pub entry_lines-joined : (r next : Record) → entry_lines (joined r next) ≡ entry_lines r ++ entry_lines next
 entry_lines-joined r next = flat_map-append entry_line r.entries next.entries
@@ -52,8 +52,8 @@ pub lines_of_next : (before now : Option (List ℕ)) (code : List ℕ) (first : 
     → lines_after code first (done + 1) ≡ lines_after code first done ++ lines_of entry
 lines_of_next before now code first done old new entry going h =
     ap entry_lines (record_of_next before now code first done old new entry going h)
-      ∙ entry_lines-joined (record_of code done first) (with_step entry (no_step None new))
-      ∙ ap (λ es. lines_after code first done ++ flat_map entry_line es) (append-nil (option_to_list entry))
+    ∙ entry_lines-joined (record_of code done first) (with_step entry (no_step None new))
+    ∙ ap (λ es. lines_after code first done ++ flat_map entry_line es) (append-nil (option_to_list entry))
 
 pub going_on : (before m n : Option (List ℕ)) (code : List ℕ) (first : State) (done : ℕ) (old new : State) (entry : Option Entry)
     → IsGoing before m code first done old → IsAdvance (step_of code old) (Ok entry) old new
@@ -81,25 +81,27 @@ cut_in_entry before m n code all first done old new entry more going h cut =
     let k = all - (done + 1) in
     let rest = record_of code k new in
     let whole : record_of code all first ≡ joined (record_of code done first) (with_step entry rest) =
-          record_of_rest before m code first done (suc k) all old going (omega arith) ∙ ap (λ r. joined (record_of code done first) r) (record_goes code k (suc k) entry old new refl h) in
+    record_of_rest before m code first done (suc k) all old going (omega arith) ∙ ap (λ r. joined (record_of code done first) r) (record_goes code k (suc k) entry old new refl h) in
     let so_far = lines_after code first done in
     let tail = entry_lines rest ++ last_line [] (record_of code all first).event (record_of code all first).steps (record_of code all first).last.cycle in
     let lines : entry_lines (record_of code all first) ≡ so_far ++ (lines_of entry ++ entry_lines rest) =
-          ap entry_lines whole ∙ entry_lines-joined (record_of code done first) (with_step entry rest) ∙ ap (λ t. so_far ++ t) (flat_map-append entry_line (option_to_list entry) rest.entries) in
+    ap entry_lines whole ∙ entry_lines-joined (record_of code done first) (with_step entry rest) ∙ ap (λ t. so_far ++ t) (flat_map-append entry_line (option_to_list entry) rest.entries) in
     let text : record_text (record_of code all first) ≡ so_far ++ (lines_of entry ++ tail) = rw (lines, append_assoc, append_assoc) refl in
     let next = lines_of_next before m code first done old new entry going h in
     let told = front_after before m n so_far (lines_of entry) tail going.text cut in
-    let back : done + 1 - 1 ≡ done = omega arith in
-    ((length so_far + cut.0, rw text told.0, rw text told.1), record {
-      steps = done + 1;
-      state = sym (ap (λ (r : Record). r.last) (record_of_next before m code first done old new entry going h));
-      cut = inl (record {
-        some = omega arith;
-        within = omega (arith, ap (λ (r : Record). r.steps) whole, going.steps);
-        begun = rw back (omega arith);
-        unfinished = omega (arith, ap length next, length-append so_far (lines_of entry), cut.1);
-      });
-    })
+    let back : done + 1 - 1 ≡ done = omega arith in (
+      (length so_far + cut.0, rw text told.0, rw text told.1),
+      record {
+        steps = done + 1;
+        state = sym (ap (λ (r : Record). r.last) (record_of_next before m code first done old new entry going h));
+        cut = inl (record {
+          some = omega arith;
+          within = omega (arith, ap (λ (r : Record). r.steps) whole, going.steps);
+          begun = rw back (omega arith);
+          unfinished = omega (arith, ap length next, length-append so_far (lines_of entry), cut.1);
+        });
+      },
+    )
 
 -- the steps done are all
 pub record IsOver (code : List ℕ) (all : ℕ) (first : State) (done : ℕ) (s : State) (event : Option Event) : Type 0 where
@@ -113,7 +115,7 @@ pub over_at_event : (before now : Option (List ℕ)) (code : List ℕ) (all : �
 over_at_event before now code all first done old new event more going h =
     let k = all - (done + 1) in
     let whole : record_of code all first ≡ joined (record_of code done first) (no_step (Some event) old) =
-          record_of_rest before now code first done (suc k) all old going (omega arith) ∙ ap (λ r. joined (record_of code done first) r) (record_stops code k (suc k) event old new refl h) in
+    record_of_rest before now code first done (suc k) all old going (omega arith) ∙ ap (λ r. joined (record_of code done first) r) (record_stops code k (suc k) event old new refl h) in
     record {
       event_is = ap (λ (r : Record). r.event) whole;
       lines = ap entry_lines whole ∙ ap (λ es. flat_map entry_line es) (append-nil (record_of code done first).entries);
@@ -146,13 +148,15 @@ cut_at_end before m n code all first done s event going over cut =
     let so_far = lines_after code first done in
     let line = last_line [] event done s.cycle in
     let text : record_text (record_of code all first) ≡ so_far ++ (line ++ []) = text_over code all first done s event over ∙ ap (λ t. so_far ++ t) (sym (append-nil line)) in
-    let told = front_after before m n so_far line [] going.text cut in
-    ((length so_far + cut.0, rw text told.0, rw text told.1), record {
-      steps = done;
-      state = going.last;
-      cut = inr (record {
-        all = sym over.steps;
-        begun = omega arith;
-        unfinished = omega (arith, ap length (text_over code all first done s event over), length-append so_far line, cut.1);
-      });
-    })
+    let told = front_after before m n so_far line [] going.text cut in (
+      (length so_far + cut.0, rw text told.0, rw text told.1),
+      record {
+        steps = done;
+        state = going.last;
+        cut = inr (record {
+          all = sym over.steps;
+          begun = omega arith;
+          unfinished = omega (arith, ap length (text_over code all first done s event over), length-append so_far line, cut.1);
+        });
+      },
+    )

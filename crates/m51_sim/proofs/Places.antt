@@ -81,19 +81,22 @@ fetched_first code pc at =
     let rest = flat_map bytes_of s.after in
     let is : code ≡ s.behind ++ (bytes_of s.here ++ rest) = sym at.form.bytes ∙ s.bytes in
     let place : pc ≡ length s.behind = at.place ∙ s.begins in
-    let size : length code ≡ length s.behind + (length (bytes_of s.here) + length rest) = omega (arith, ap length is, length-append s.behind (bytes_of s.here ++ rest), length-append (bytes_of s.here) rest) in
-    (s.here, rw (is, place, instr_at-append s.behind (bytes_of s.here ++ rest)) (decoded_first s.here rest), record {
-      first = (s.here, refl);
-      whole = omega arith;
-      next = λ inside. record {
-        form = at.form;
-        before = suc at.before;
-        some = more_left s.after at.before (length at.form.instrs) s.left (omega arith);
-        place = omega (arith, s.ends);
-        inside = inside;
-        short = at.short;
-      };
-    })
+    let size : length code ≡ length s.behind + (length (bytes_of s.here) + length rest) = omega (arith, ap length is, length-append s.behind (bytes_of s.here ++ rest), length-append (bytes_of s.here) rest) in (
+      s.here,
+      rw (is, place, instr_at-append s.behind (bytes_of s.here ++ rest)) (decoded_first s.here rest),
+      record {
+        first = (s.here, refl);
+        whole = omega arith;
+        next = λ inside. record {
+          form = at.form;
+          before = suc at.before;
+          some = more_left s.after at.before (length at.form.instrs) s.left (omega arith);
+          place = omega (arith, s.ends);
+          inside = inside;
+          short = at.short;
+        };
+      },
+    )
 
 pub fetched : (code : List ℕ) (pc : ℕ) (instr : Instr) → IsAtInstr code pc → instr_at code pc ≡ Some instr → Fetched code pc instr
 fetched code pc instr at is =

@@ -1,5 +1,5 @@
 //! A board with one unit of code.
-ghost use Rattle.std.specs.Prelude.{◌≡◌, ◌≤◌, ◌<◌, ◌+◌, ◌^◌, ◌≢◌, [], None, Some, length, OnOk, OnErr, IfOk, IfErr, option_to_list, option_copied, flat_map};
+ghost use Rattle.std.specs.Prelude.{◌≡◌, ◌≤◌, ◌<◌, ◌+◌, ◌^◌, ◌↔◌, [], Some, IsTrue, length, OnOk, OnErr, IfOk, IfErr, option_to_list, option_copied, flat_map};
 ghost use Rattle.std.specs.Option.{ForSome};
 ghost use Rattle.std.specs.Io.KnownBytes.{Appends};
 ghost use Rattle.m51_cells.specs.Outside.{Rose, AppendsFront, HasCause};
@@ -182,7 +182,7 @@ impl Board {
         ensures text { IfErr result (HasText []) }
     {
         let next = usize::from(self.pc) + usize::from(length(instr));
-        if next >= self.code.len() {
+        if !covers(self.code.as_slice(), next) {
             return Err(Event::Transfer {
                 why: Why::PastEnd,
                 from: self.pc,
@@ -206,6 +206,13 @@ impl Board {
         self.cycle = cycle_after(self.cycle, instr);
         Ok(None)
     }
+}
+
+// Whether the unit covers an address.
+fn covers(code: &[u8], address: usize) -> bool
+    ensures { IsTrue result ↔ (address < length code.now) }
+{
+    address < code.len()
 }
 
 // The instruction that begins at an address.

@@ -7,6 +7,8 @@ mod memory;
 mod sink;
 mod stdout;
 mod sure;
+#[cfg(test)]
+mod tests;
 
 pub use board::{Board, RunEnd, Step};
 pub use memory::MemSink;

@@ -64,8 +64,7 @@ impl MemSink {
     fn fails_at(&self, count: usize) -> bool
         ensures { IsTrue result ↔ FailsAt self.now count }
     {
-        is_listed(&self.fails, self.calls.saturating_add(1))
-            || self.room - self.text.len() < count
+        is_listed(&self.fails, self.calls.saturating_add(1)) || self.room - self.text.len() < count
     }
 }
 

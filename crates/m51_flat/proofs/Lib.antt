@@ -1,0 +1,6 @@
+pub mod Readings
+pub mod Bytes
+pub mod Flat
+pub mod Parity
+pub mod Outcomes
+pub mod Flows

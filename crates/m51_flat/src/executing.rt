@@ -1,0 +1,114 @@
+//! A reset, and one instruction.
+ghost use Rattle.std.specs.Prelude.{◌≡◌, length};
+ghost use Rattle.m51_flat.specs.Laws.{HasParity, IfDone};
+ghost use Rattle.m51_flat.specs.Meaning.{allowed, outcome_of, outcome_over, started};
+ghost use Rattle.m51_flat.specs.Reads.{Agrees, CellMap};
+ghost use Rattle.m51_flat.specs.Reset.{reset_cpu, reset_values};
+
+use crate::action_table::action_for;
+use crate::performing::perform;
+use crate::sfr::{P0, P1, P2, P3, PCON, SP, read_flag};
+use crate::state::{Cpu, Effect, Missing, Outcome, Pins, Put, Transfer};
+use crate::store::CellStore;
+use m51_isa::{Instr, cycles, length};
+
+/// The power-down bit of PCON.
+const POWER_DOWN: u8 = 1;
+
+/// The registers after a reset: SP is 07H, the latches of the ports are FFH, and all else is 0.
+fn reset_registers() -> [u8; 128]
+    ensures { result ≡ reset_values 128 0x80 }
+{
+    let mut regs = [0; 128];
+    regs[usize::from(SP - 0x80)] = 0x07;
+    regs[usize::from(P0 - 0x80)] = 0xFF;
+    regs[usize::from(P1 - 0x80)] = 0xFF;
+    regs[usize::from(P2 - 0x80)] = 0xFF;
+    regs[usize::from(P3 - 0x80)] = 0xFF;
+    regs
+}
+
+/// The processor after a reset: PC is 0, SP is 07H, the latches of the ports are FFH, and all else is 0.
+///
+/// Source: family manual.
+pub fn reset() -> Cpu
+    ensures value { result ≡ reset_cpu }
+    ensures parity { HasParity result }
+{
+    Cpu {
+        pc: 0,
+        regs: reset_registers(),
+        low: false,
+        high: false,
+        held: false,
+    }
+}
+
+/// The effect of an instruction that only goes on to the next.
+fn start(cpu: &Cpu, instr: &Instr) -> Effect
+    ensures { result ≡ started cpu.now instr.now }
+{
+    let mut next = *cpu;
+    next.pc = cpu.pc.wrapping_add(u16::from(length(instr)));
+    next.held = false;
+    Effect {
+        cpu: next,
+        first: Put::Nothing,
+        second: Put::Nothing,
+        transfer: Transfer::Next,
+        port: None,
+        sbuf: None,
+        cycles: cycles(instr),
+    }
+}
+
+/// The effect, where its puts may be written and it does not power down.
+fn allow<M: CellStore>(store: &M, effect: Effect) -> Outcome
+    ensures { result ≡ allowed (M.barred store.now) effect }
+{
+    if let Some(cell) = store.shut(&effect.first) {
+        return Outcome::Outside(cell);
+    }
+    if let Some(cell) = store.shut(&effect.second) {
+        return Outcome::Outside(cell);
+    }
+    if read_flag(&effect.cpu, PCON, POWER_DOWN) {
+        Outcome::PowerDown
+    } else {
+        Outcome::Done(effect)
+    }
+}
+
+#[tactic(auto, unfolding(crate::specs::Meaning::outcome_of))]
+fn run<M: CellStore>(cpu: &Cpu, store: &M, instr: &Instr, image: &[u8], ext: &Pins) -> Outcome
+    requires { length image.now ≡ 65536 }
+    ensures { result ≡ outcome_of cpu.now (M.cells store.now) (M.barred store.now) instr.now image.now ext.now }
+{
+    match perform(store, image, ext, start(cpu, instr), action_for(instr)) {
+        Ok(effect) => allow(store, effect),
+        Err(Missing::Outside(cell)) => Outcome::Outside(cell),
+        Err(Missing::Unset(cell)) => Outcome::Unset(cell),
+    }
+}
+
+/// What an instruction comes to over a store. It changes nothing: the caller puts `first` and then `second`.
+///
+/// - `Outside` and `Unset`: the first read that the store does not answer, in the order of the operands.
+/// - `Outside`, else: the lowest cell of the first put, then of the second, that may not be written.
+/// - `PowerDown`, else: PCON bit 1 would be set.
+/// - `Done`, else, with the whole effect.
+///
+/// Source: family manual; own choice ("Effects").
+pub fn exec<M: CellStore>(cpu: &Cpu, store: &M, instr: &Instr, image: &[u8], ext: &Pins) -> Outcome
+    requires { length image.now ≡ 65536 }
+    ensures outcome { result ≡ outcome_of cpu.now (M.cells store.now) (M.barred store.now) instr.now image.now ext.now }
+
+    // Over any map that agrees with the store: its reads up to the first that fails, or else its effect.
+    ensures over_map { (m : CellMap) → Agrees (M.cells store.now) m
+        → result ≡ outcome_over m cpu.now (M.cells store.now) (M.barred store.now) instr.now image.now ext.now }
+
+    // PSW bit 0 stays the parity of ACC.
+    ensures parity { HasParity cpu.now → IfDone result (λ e. HasParity e.cpu) }
+{
+    run(cpu, store, instr, image, ext)
+}

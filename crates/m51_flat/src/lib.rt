@@ -1,0 +1,25 @@
+//! One instruction of the MCS-51 over any store of cells.
+#![tactic(auto)]
+
+mod action_table;
+mod actions;
+mod arithmetic;
+mod bits;
+mod branches;
+mod calls;
+mod executing;
+mod laws;
+mod moves;
+mod operands;
+mod performing;
+mod ram;
+mod sfr;
+mod state;
+mod store;
+mod writing;
+
+pub use executing::{exec, reset};
+pub use laws::{accesses_agree, flow_is_kept, readings_agree};
+pub use ram::FlatRam;
+pub use state::{Cpu, Effect, Outcome, Pins, Put, Seen, Source, Transfer};
+pub use store::CellStore;

@@ -9,6 +9,7 @@ mod module;
 mod parts;
 mod placed;
 mod rows;
+mod sample;
 mod segment;
 mod source;
 mod symbol;

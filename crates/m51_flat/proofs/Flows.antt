@@ -1,5 +1,5 @@
 -- Each action ends as its flow says.
-use Rattle.std.proofs.Common.{◌≡◌, ◌≢◌, ◌+◌, ◌*◌, ◌%◌, ◌<◌, ◌∙◌, arith, length, get_or-set_same, get_or-set_other, ℕ, Bool, true, false, cond, List, refl, subst, rules, ◌⊎◌, inl, inr}
+use Rattle.std.proofs.Common.{◌≡◌, ◌≢◌, ◌+◌, ◌*◌, ◌%◌, ◌<◌, ◌∙◌, arith, lit<, length, get_or-set_same, get_or-set_other, ℕ, Bool, true, false, cond, List, refl, subst, rules, ◌⊎◌, inl, inr}
 use Rattle.std.specs.Prelude.{◌==◌, ◌&&◌, nat_lt, slice_index, slice_set}
 use Rattle.m51_isa.specs.declared.instr.Flow.{Flow}
 use Rattle.m51_isa.specs.declared.instr.Flow.TheVariants.{Next as FlowNext, Branch, Call as FlowCall, Ret as FlowRet, Reti as FlowReti}
@@ -168,8 +168,8 @@ tested_branches n e bit rel h =
     branches_then n (bit_latch_at e.cpu bit) (λ v. Ends (cond (v == 1) taken e))
     (λ v. either n (v == 1) taken e (branch_either n true rel (with_bit_at bit false e) (bit_next n bit false e h)) h)
 
-other_place : 1 ≢ 80
-other_place h = omega (arith, h)
+other_place : (n : ℕ) → n < 80 → n ≢ 80
+other_place n h e = omega (arith, h, e)
 
 -- SP reads as it was written
 sp_written : (v : ℕ) (e : Effect) → length e.cpu.regs ≡ 128 → latch (with_sfr sp v e).cpu sp ≡ v
@@ -178,7 +178,7 @@ sp_written v e len =
     let regs = slice_set e.cpu.regs 1 v in
     let byte = with_bit (slice_index regs 80) 0 (parity_of (slice_index regs 96)) in
     let inside : 1 < length e.cpu.regs = omega (arith, len) in
-    get_or-set_other regs 80 1 byte 0 other_place ∙ get_or-set_same e.cpu.regs 1 v 0 inside
+    get_or-set_other regs 80 1 byte 0 (other_place 1 (lit< tt)) ∙ get_or-set_same e.cpu.regs 1 v 0 inside
 
 latch_of : (cpu : Cpu) (pc a : ℕ) → latch (record cpu { pc = pc }) a ≡ latch cpu a
 unfolding latch

@@ -1,5 +1,5 @@
 -- From what holds of every plan to what holds of every outcome.
-use Rattle.std.proofs.Common.{◌≡◌, ℕ, Bool, true, false, cond, List, length, Option, Some, None, Result, Ok, Err, refl, ap}
+use Rattle.std.proofs.Common.{◌≡◌, ℕ, Bool, true, false, cond, List, length, Option, Some, None, Result, Ok, Err, refl, ap, ◌∙◌, sym, subst}
 use Rattle.m51_cells.specs.declared.cell.Cell.{Cell}
 use Rattle.m51_isa.specs.declared.instr.Instr.{Instr}
 use Rattle.m51_flat.specs.declared.state.Cpu.{Cpu}
@@ -77,3 +77,13 @@ outcome_control cpu s barred instr image ext len =
 pub reset_parity : HasParity reset_cpu
 unfolding latch has_register lib.Count.ones
 reset_parity = refl
+
+-- the same of what a call answers, where it answers the outcome
+pub over_map : (r : Outcome) (m : CellMap) (cpu : Cpu) (s : States) (barred : Cell → Bool) (instr : Instr) (image : List ℕ) (ext : Pins) → r ≡ outcome_of cpu s barred instr image ext → Agrees s m → r ≡ outcome_over m cpu s barred instr image ext
+over_map r m cpu s barred instr image ext e g = e ∙ outcomes_agree m cpu s barred instr image ext g
+
+pub keeps_parity : (r : Outcome) (cpu : Cpu) (s : States) (barred : Cell → Bool) (instr : Instr) (image : List ℕ) (ext : Pins) → r ≡ outcome_of cpu s barred instr image ext → length cpu.regs ≡ 128 → HasParity cpu → IfDone r (λ e. HasParity e.cpu)
+keeps_parity r cpu s barred instr image ext e len h = subst (λ r. IfDone r (λ e. HasParity e.cpu)) (sym e) (outcome_parity cpu s barred instr image ext len h)
+
+pub keeps_control : (r : Outcome) (cpu : Cpu) (s : States) (barred : Cell → Bool) (instr : Instr) (image : List ℕ) (ext : Pins) → r ≡ outcome_of cpu s barred instr image ext → length cpu.regs ≡ 128 → IfDone r (λ e. Follows (flow_of instr) (next_address cpu instr) (latch cpu sp) e)
+keeps_control r cpu s barred instr image ext e len = subst (λ r. IfDone r (λ e. Follows (flow_of instr) (next_address cpu instr) (latch cpu sp) e)) (sym e) (outcome_control cpu s barred instr image ext len)

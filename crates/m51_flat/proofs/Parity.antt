@@ -1,5 +1,5 @@
 -- Every write of a register leaves bit 0 of PSW the parity of ACC, and so does every action.
-use Rattle.std.proofs.Common.{◌≡◌, ◌≢◌, ℕ, ◌+◌, ◌-◌, ◌%◌, ◌<◌, Bool, true, false, cond, List, length, refl, sym, ap, ◌∙◌, arith, rules, get_or-set_same, get_or-set_other, length-set}
+use Rattle.std.proofs.Common.{◌≡◌, ◌≢◌, ℕ, ◌+◌, ◌-◌, ◌%◌, ◌<◌, Bool, true, false, cond, List, length, refl, sym, ap, ◌∙◌, arith, lit<, rules, get_or-set_same, get_or-set_other, length-set}
 use Rattle.std.specs.Prelude.{slice_index, slice_set, ◌==◌, nat_lt}
 use Rattle.std.specs.Int.{bit_at}
 use Rattle.m51_alu.specs.Arithmetic.{bit_of, parity_of}
@@ -35,8 +35,8 @@ pub record IsRight (cpu : Cpu) : Type 0 where
 abbrev pub AlwaysRight : Reads Effect → Type 0
 AlwaysRight p = Always (λ e. IsRight e.cpu) p
 
-other_place : 96 ≢ 80
-other_place h = omega (arith, h)
+other_place : (n : ℕ) → 80 < n → n ≢ 80
+other_place n h e = omega (arith, h, e)
 
 -- a list of registers whose parity was set
 parity_right : (cpu : Cpu) (regs : List ℕ) → length regs ≡ 128 → cpu.regs ≡ with_parity regs → IsRight cpu
@@ -46,7 +46,7 @@ parity_right cpu regs len e =
     let inside : 80 < length regs = omega (arith, len) in
     let low : 0 < 8 = omega arith in
     let at80 = ap (λ r. slice_index r 80) e ∙ get_or-set_same regs 80 byte 0 inside in
-    let at96 = ap (λ r. slice_index r 96) e ∙ get_or-set_other regs 80 96 byte 0 other_place in
+    let at96 = ap (λ r. slice_index r 96) e ∙ get_or-set_other regs 80 96 byte 0 (other_place 96 (lit< tt)) in
     record {
       len = ap length e ∙ length-set regs 80 byte ∙ len;
       parity =

@@ -14,7 +14,7 @@ use Rattle.m51_flat.specs.Flat.{FlatBytes, flat_cells}
 use Rattle.m51_flat.specs.Sfr.{with_bit}
 use Rattle.m51_flat.proofs.Flat.{same_states}
 
-below_8 : (P : ℕ → Type 0) → P 0 → P 1 → P 2 → P 3 → P 4 → P 5 → P 6 → P 7 → (n : ℕ) → n < 8 → P n
+pub below_8 : (P : ℕ → Type 0) → P 0 → P 1 → P 2 → P 3 → P 4 → P 5 → P 6 → P 7 → (n : ℕ) → n < 8 → P n
 below_8 P p0 p1 p2 p3 p4 p5 p6 p7 zero h = p0
 below_8 P p0 p1 p2 p3 p4 p5 p6 p7 (suc zero) h = p1
 below_8 P p0 p1 p2 p3 p4 p5 p6 p7 (suc (suc zero)) h = p2

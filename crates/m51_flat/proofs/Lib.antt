@@ -4,3 +4,4 @@ pub mod Flat
 pub mod Parity
 pub mod Outcomes
 pub mod Flows
+pub mod BitLaws

@@ -1,5 +1,5 @@
 -- Every write of a register leaves bit 0 of PSW the parity of ACC, and so does every action.
-use Rattle.std.proofs.Common.{◌≡◌, ◌≢◌, ℕ, ◌+◌, ◌-◌, ◌%◌, ◌<◌, Bool, true, false, cond, List, length, refl, sym, ap, ◌∙◌, arith, rules, get_or-set_same, get_or-set_other, length-set}
+use Rattle.std.proofs.Common.{◌≡◌, ◌≢◌, ℕ, ◌+◌, ◌-◌, ◌%◌, ◌<◌, Bool, true, false, cond, List, length, refl, sym, ap, ◌∙◌, arith, lit<, rules, get_or-set_same, get_or-set_other, length-set}
 use Rattle.std.specs.Prelude.{slice_index, slice_set, ◌==◌, nat_lt}
 use Rattle.std.specs.Int.{bit_at}
 use Rattle.m51_alu.specs.Arithmetic.{bit_of, parity_of}
@@ -35,16 +35,18 @@ pub record IsRight (cpu : Cpu) : Type 0 where
 abbrev pub AlwaysRight : Reads Effect → Type 0
 AlwaysRight p = Always (λ e. IsRight e.cpu) p
 
+other_place : (n : ℕ) → 80 < n → n ≢ 80
+other_place n h e = omega (arith, h, e)
+
 -- a list of registers whose parity was set
 parity_right : (cpu : Cpu) (regs : List ℕ) → length regs ≡ 128 → cpu.regs ≡ with_parity regs → IsRight cpu
 unfolding with_parity
 parity_right cpu regs len e =
     let byte = with_bit (slice_index regs 80) 0 (parity_of (slice_index regs 96)) in
     let inside : 80 < length regs = omega (arith, len) in
-    let far : 96 ≢ 80 = λ (h : 96 ≡ 80). omega (arith, h) in
     let low : 0 < 8 = omega arith in
     let at80 = ap (λ r. slice_index r 80) e ∙ get_or-set_same regs 80 byte 0 inside in
-    let at96 = ap (λ r. slice_index r 96) e ∙ get_or-set_other regs 80 96 byte 0 far in
+    let at96 = ap (λ r. slice_index r 96) e ∙ get_or-set_other regs 80 96 byte 0 (other_place 96 (lit< tt)) in
     record {
       len = ap length e ∙ length-set regs 80 byte ∙ len;
       parity =
@@ -57,16 +59,16 @@ pick true c x y z hx hy hz = hx
 pick false true x y z hx hy hz = hy
 pick false false x y z hx hy hz = hz
 
-sfr_right : (a v : ℕ) (e : Effect) → IsRight e.cpu → IsRight (with_sfr a v e).cpu
+pub sfr_right : (a v : ℕ) (e : Effect) → IsRight e.cpu → IsRight (with_sfr a v e).cpu
 unfolding with_sfr
 sfr_right a v e r =
     pick (a == sbuf) (has_register a) _ _ e r (parity_right _ (slice_set e.cpu.regs (a - 128) v) (length-set e.cpu.regs (a - 128) v ∙ r.len) refl) r
 
-right_then : {A : Type 0} (p : Reads A) (go : A → Reads Effect) → ((a : A) → AlwaysRight (go a)) → AlwaysRight (then_read p go)
+pub right_then : {A : Type 0} (p : Reads A) (go : A → Reads Effect) → ((a : A) → AlwaysRight (go a)) → AlwaysRight (then_read p go)
 right_then (Ends a) go h = h a
 right_then (Read x more) go h = λ v. right_then (more v) go h
 
-location_right : (at : Location) (v : ℕ) (e : Effect) → IsRight e.cpu → IsRight (with_location at v e).cpu
+pub location_right : (at : Location) (v : ℕ) (e : Effect) → IsRight e.cpu → IsRight (with_location at v e).cpu
 unfolding with_location
 location_right (Ram a) v e r = r
 location_right (Sfr a) v e r = sfr_right a v e r

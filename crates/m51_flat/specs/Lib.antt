@@ -13,3 +13,4 @@ pub mod Flat
 pub mod FlatLaws
 pub mod Reset
 pub mod Laws
+pub mod BitLaws

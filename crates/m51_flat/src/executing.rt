@@ -1,9 +1,11 @@
 //! A reset, and one instruction.
 ghost use Rattle.std.specs.Prelude.{◌≡◌, length};
-ghost use Rattle.m51_flat.specs.Laws.{HasParity, IfDone};
+ghost use Rattle.m51_isa.specs.Table.{flow_of};
+ghost use Rattle.m51_flat.specs.Laws.{Follows, HasParity, IfDone, next_address};
 ghost use Rattle.m51_flat.specs.Meaning.{allowed, outcome_of, outcome_over, started};
 ghost use Rattle.m51_flat.specs.Reads.{Agrees, CellMap};
 ghost use Rattle.m51_flat.specs.Reset.{reset_cpu, reset_values};
+ghost use Rattle.m51_flat.specs.Sfr.{latch, sp};
 
 use crate::action_table::action_for;
 use crate::performing::perform;
@@ -109,6 +111,10 @@ pub fn exec<M: CellStore>(cpu: &Cpu, store: &M, instr: &Instr, image: &[u8], ext
 
     // PSW bit 0 stays the parity of ACC.
     ensures parity { HasParity cpu.now → IfDone result (λ e. HasParity e.cpu) }
+
+    // Control goes on by the flow of the instruction: PC of the next, a call's two bytes, SP after a call or a return.
+    ensures control { IfDone result (λ e.
+        Follows (flow_of instr.now) (next_address cpu.now instr.now) (latch cpu.now sp) e) }
 {
     run(cpu, store, instr, image, ext)
 }

@@ -31,7 +31,7 @@ impl Model for FlatRam {
 }
 
 /// So many bytes, and each of them the fill.
-fn bytes(alloc: Global, fill: u8, count: usize) -> Result<Vec<u8>, NoMemory>
+pub(crate) fn bytes(alloc: Global, fill: u8, count: usize) -> Result<Vec<u8>, NoMemory>
     ensures len { IfOk result (λ v. length v.items ≡ count) }
     ensures each { IfOk result (λ v. (n : ℕ) → n < count → slice_index v.items n ≡ fill) }
 {

@@ -4,3 +4,5 @@ pub mod Flat
 pub mod Parity
 pub mod Outcomes
 pub mod Flows
+pub mod Causes
+pub mod Whole

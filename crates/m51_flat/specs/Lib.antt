@@ -12,4 +12,5 @@ pub mod Meaning
 pub mod Flat
 pub mod FlatLaws
 pub mod Reset
+pub mod Causes
 pub mod Laws

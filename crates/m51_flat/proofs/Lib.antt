@@ -5,3 +5,5 @@ pub mod Parity
 pub mod Outcomes
 pub mod Flows
 pub mod BitLaws
+pub mod Causes
+pub mod Whole

@@ -12,5 +12,6 @@ pub mod Meaning
 pub mod Flat
 pub mod FlatLaws
 pub mod Reset
+pub mod Causes
 pub mod Laws
 pub mod BitLaws

@@ -1,5 +1,6 @@
 //! Moves, arithmetic and logic.
-ghost use Rattle.std.specs.Prelude.{◌≡◌, length};
+ghost use Rattle.std.specs.Prelude.{◌≡◌, length, IfErr};
+ghost use Rattle.m51_flat.specs.Causes.{IsMissing};
 ghost use Rattle.m51_flat.specs.Arithmetic.{assigned, summed, combined, changed, with_turn, exchanged, digits_exchanged, sum_by, logic_of, stepped, turned};
 ghost use Rattle.m51_flat.specs.Reads.{answer};
 
@@ -67,7 +68,8 @@ pub(crate) fn assign<M: CellStore>(
     place: Place,
     from: ByteOperand,
 ) -> Result<Effect, Missing>
-    ensures { result ≡ answer (M.cells store.now) (assigned ext.now effect place from) }
+    ensures value { result ≡ answer (M.cells store.now) (assigned ext.now effect place from) }
+    ensures missing { IfErr result (IsMissing (M.cells store.now)) }
 {
     let location = locate(store, &effect.cpu, place)?;
     let value = read_operand(store, &effect.cpu, ext, from)?;
@@ -83,7 +85,8 @@ pub(crate) fn accumulate<M: CellStore>(
     op: Addition,
     from: ByteOperand,
 ) -> Result<Effect, Missing>
-    ensures { result ≡ answer (M.cells store.now) (summed ext.now effect op from) }
+    ensures value { result ≡ answer (M.cells store.now) (summed ext.now effect op from) }
+    ensures missing { IfErr result (IsMissing (M.cells store.now)) }
 {
     let value = read_operand(store, &effect.cpu, ext, from)?;
     let sum = add_by(
@@ -105,7 +108,8 @@ pub(crate) fn combine<M: CellStore>(
     place: Place,
     from: ByteOperand,
 ) -> Result<Effect, Missing>
-    ensures { result ≡ answer (M.cells store.now) (combined ext.now effect op place from) }
+    ensures value { result ≡ answer (M.cells store.now) (combined ext.now effect op place from) }
+    ensures missing { IfErr result (IsMissing (M.cells store.now)) }
 {
     let location = locate(store, &effect.cpu, place)?;
     let value = read_latch_at(store, &effect.cpu, location)?;
@@ -121,7 +125,8 @@ pub(crate) fn change<M: CellStore>(
     count: Count,
     place: Place,
 ) -> Result<Effect, Missing>
-    ensures { result ≡ answer (M.cells store.now) (changed effect count place) }
+    ensures value { result ≡ answer (M.cells store.now) (changed effect count place) }
+    ensures missing { IfErr result (IsMissing (M.cells store.now)) }
 {
     let location = locate(store, &effect.cpu, place)?;
     let value = read_latch_at(store, &effect.cpu, location)?;
@@ -151,7 +156,8 @@ pub(crate) fn exchange<M: CellStore>(
     effect: Effect,
     place: Place,
 ) -> Result<Effect, Missing>
-    ensures { result ≡ answer (M.cells store.now) (exchanged ext.now effect place) }
+    ensures value { result ≡ answer (M.cells store.now) (exchanged ext.now effect place) }
+    ensures missing { IfErr result (IsMissing (M.cells store.now)) }
 {
     let location = locate(store, &effect.cpu, place)?;
     let value = find_at(store, &effect.cpu, ext, location)?;
@@ -167,7 +173,8 @@ pub(crate) fn exchange_digit<M: CellStore>(
     effect: Effect,
     place: Place,
 ) -> Result<Effect, Missing>
-    ensures { result ≡ answer (M.cells store.now) (digits_exchanged ext.now effect place) }
+    ensures value { result ≡ answer (M.cells store.now) (digits_exchanged ext.now effect place) }
+    ensures missing { IfErr result (IsMissing (M.cells store.now)) }
 {
     let location = locate(store, &effect.cpu, place)?;
     let value = find_at(store, &effect.cpu, ext, location)?;

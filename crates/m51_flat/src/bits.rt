@@ -1,5 +1,6 @@
 //! Operations on bits.
-ghost use Rattle.std.specs.Prelude.{◌≡◌};
+ghost use Rattle.std.specs.Prelude.{◌≡◌, IfErr};
+ghost use Rattle.m51_flat.specs.Causes.{IsMissing};
 ghost use Rattle.m51_flat.specs.Bits.{passes, changed_carry, merged_carry, bit_from, carry_merged, bit_flipped, branched_on_bit, tested_and_cleared};
 ghost use Rattle.m51_flat.specs.Operands.{bit_latch_at, bit_found_at, with_bit_at};
 ghost use Rattle.m51_flat.specs.Reads.{answer};
@@ -14,7 +15,8 @@ use crate::writing::{branch_if, read_carry, write_carry};
 /// A bit for an operand that is changed: of a port that of its latch.
 #[tactic(auto, unfolding(crate::specs::Operands::bit_latch_at))]
 pub(crate) fn read_bit_latch<M: CellStore>(store: &M, cpu: &Cpu, bit: u8) -> Result<u8, Missing>
-    ensures { result ≡ answer (M.cells store.now) (bit_latch_at cpu.now bit) }
+    ensures value { result ≡ answer (M.cells store.now) (bit_latch_at cpu.now bit) }
+    ensures missing { IfErr result (IsMissing (M.cells store.now)) }
 {
     if bit < 128 {
         read_bit(store, bit)
@@ -45,7 +47,8 @@ pub(crate) fn write_bit(effect: Effect, bit: u8, value: bool) -> Effect
 /// What a read finds in a bit: at a port the level of its pin.
 #[tactic(auto, unfolding(crate::specs::Operands::bit_found_at))]
 fn find_bit<M: CellStore>(store: &M, cpu: &Cpu, ext: &Pins, bit: u8) -> Result<u8, Missing>
-    ensures { result ≡ answer (M.cells store.now) (bit_found_at cpu.now ext.now bit) }
+    ensures value { result ≡ answer (M.cells store.now) (bit_found_at cpu.now ext.now bit) }
+    ensures missing { IfErr result (IsMissing (M.cells store.now)) }
 {
     if bit < 128 {
         read_bit(store, bit)
@@ -98,7 +101,8 @@ pub(crate) fn carry_with<M: CellStore>(
     by: CarryMerge,
     bit: u8,
 ) -> Result<Effect, Missing>
-    ensures { result ≡ answer (M.cells store.now) (carry_merged ext.now effect by bit) }
+    ensures value { result ≡ answer (M.cells store.now) (carry_merged ext.now effect by bit) }
+    ensures missing { IfErr result (IsMissing (M.cells store.now)) }
 {
     let value = find_bit(store, &effect.cpu, ext, bit)?;
     let carry = merge_carry(by, read_carry(&effect.cpu), value == 1);
@@ -108,7 +112,8 @@ pub(crate) fn carry_with<M: CellStore>(
 /// CPL bit: of a port the latch is read.
 #[tactic(auto, using(crate::proofs::Readings::answer_then), unfolding(crate::specs::Bits::bit_flipped))]
 pub(crate) fn flip_bit<M: CellStore>(store: &M, effect: Effect, bit: u8) -> Result<Effect, Missing>
-    ensures { result ≡ answer (M.cells store.now) (bit_flipped effect bit) }
+    ensures value { result ≡ answer (M.cells store.now) (bit_flipped effect bit) }
+    ensures missing { IfErr result (IsMissing (M.cells store.now)) }
 {
     let value = read_bit_latch(store, &effect.cpu, bit)?;
     Ok(write_bit(effect, bit, value != 1))
@@ -134,7 +139,8 @@ pub(crate) fn branch_on_bit<M: CellStore>(
     bit: u8,
     rel: u8,
 ) -> Result<Effect, Missing>
-    ensures { result ≡ answer (M.cells store.now) (branched_on_bit ext.now effect test bit rel) }
+    ensures value { result ≡ answer (M.cells store.now) (branched_on_bit ext.now effect test bit rel) }
+    ensures missing { IfErr result (IsMissing (M.cells store.now)) }
 {
     let value = find_bit(store, &effect.cpu, ext, bit)?;
     Ok(branch_if(effect, is_passed(test, value == 1), rel))
@@ -148,7 +154,8 @@ pub(crate) fn test_and_clear<M: CellStore>(
     bit: u8,
     rel: u8,
 ) -> Result<Effect, Missing>
-    ensures { result ≡ answer (M.cells store.now) (tested_and_cleared effect bit rel) }
+    ensures value { result ≡ answer (M.cells store.now) (tested_and_cleared effect bit rel) }
+    ensures missing { IfErr result (IsMissing (M.cells store.now)) }
 {
     let value = read_bit_latch(store, &effect.cpu, bit)?;
     if value == 1 {

@@ -1,5 +1,6 @@
 //! Conditional branches.
-ghost use Rattle.std.specs.Prelude.{◌≡◌};
+ghost use Rattle.std.specs.Prelude.{◌≡◌, IfErr};
+ghost use Rattle.m51_flat.specs.Causes.{IsMissing};
 ghost use Rattle.m51_flat.specs.Reads.{answer};
 ghost use Rattle.m51_flat.specs.Transfers.{compared, counted_down, is_met};
 
@@ -33,7 +34,8 @@ pub(crate) fn compare<M: CellStore>(
     second: ByteOperand,
     rel: u8,
 ) -> Result<Effect, Missing>
-    ensures { result ≡ answer (M.cells store.now) (compared ext.now effect first second rel) }
+    ensures value { result ≡ answer (M.cells store.now) (compared ext.now effect first second rel) }
+    ensures missing { IfErr result (IsMissing (M.cells store.now)) }
 {
     let a = read_operand(store, &effect.cpu, ext, first)?;
     let b = read_operand(store, &effect.cpu, ext, second)?;
@@ -48,7 +50,8 @@ pub(crate) fn count_down<M: CellStore>(
     place: Place,
     rel: u8,
 ) -> Result<Effect, Missing>
-    ensures { result ≡ answer (M.cells store.now) (counted_down effect place rel) }
+    ensures value { result ≡ answer (M.cells store.now) (counted_down effect place rel) }
+    ensures missing { IfErr result (IsMissing (M.cells store.now)) }
 {
     let location = locate(store, &effect.cpu, place)?;
     let value = read_latch_at(store, &effect.cpu, location)?.wrapping_sub(1);

@@ -1,5 +1,6 @@
 //! Calls and returns.
-ghost use Rattle.std.specs.Prelude.{◌≡◌};
+ghost use Rattle.std.specs.Prelude.{◌≡◌, IfErr};
+ghost use Rattle.m51_flat.specs.Causes.{IsMissing};
 ghost use Rattle.m51_flat.specs.Reads.{answer};
 ghost use Rattle.m51_flat.specs.Transfers.{called, returned, returned_from};
 
@@ -54,7 +55,8 @@ pub(crate) fn return_from<M: CellStore>(
     effect: Effect,
     from: ReturnFrom,
 ) -> Result<Effect, Missing>
-    ensures { result ≡ answer (M.cells store.now) (returned effect from) }
+    ensures value { result ≡ answer (M.cells store.now) (returned effect from) }
+    ensures missing { IfErr result (IsMissing (M.cells store.now)) }
 {
     let sp = read_latch(&effect.cpu, SP);
     let high = read_byte(store, sp)?;

@@ -1,17 +1,20 @@
 //! A reset, and one instruction.
-ghost use Rattle.std.specs.Prelude.{◌≡◌, length};
+ghost use Rattle.std.specs.Prelude.{◌≡◌, length, IfSome};
 ghost use Rattle.m51_isa.specs.Table.{flow_of};
+ghost use Rattle.m51_flat.specs.Causes.{IsBarred, IsCause, IsWhole, unless_down};
 ghost use Rattle.m51_flat.specs.Laws.{Follows, HasParity, IfDone, next_address};
-ghost use Rattle.m51_flat.specs.Meaning.{allowed, outcome_of, outcome_over, started};
-ghost use Rattle.m51_flat.specs.Reads.{Agrees, CellMap};
+ghost use Rattle.m51_flat.specs.Meaning.{allowed, outcome_of, outcome_over, plan_of, started};
+ghost use Rattle.m51_flat.specs.Reads.{Agrees, CellMap, result_over};
 ghost use Rattle.m51_flat.specs.Reset.{reset_cpu, reset_values};
 ghost use Rattle.m51_flat.specs.Sfr.{latch, sp};
+ghost use Rattle.m51_flat.specs.States.{shut_of};
 
 use crate::action_table::action_for;
 use crate::performing::perform;
 use crate::sfr::{P0, P1, P2, P3, PCON, SP, read_flag};
 use crate::state::{Cpu, Effect, Missing, Outcome, Pins, Put, Transfer};
 use crate::store::CellStore;
+use m51_cells::Cell;
 use m51_isa::{Instr, cycles, length};
 
 /// The power-down bit of PCON.
@@ -64,14 +67,24 @@ fn start(cpu: &Cpu, instr: &Instr) -> Effect
     }
 }
 
+/// The lowest cell of a put that may not be written.
+#[tactic(auto, using(crate::proofs::Causes::shut_barred))]
+fn shut_cell<M: CellStore>(store: &M, put: Put) -> Option<Cell>
+    ensures value { result ≡ shut_of (M.barred store.now) put }
+    ensures barred { IfSome result (IsBarred (M.barred store.now)) }
+{
+    store.shut(&put)
+}
+
 /// The effect, where its puts may be written and it does not power down.
 fn allow<M: CellStore>(store: &M, effect: Effect) -> Outcome
-    ensures { result ≡ allowed (M.barred store.now) effect }
+    ensures value { result ≡ allowed (M.barred store.now) effect }
+    ensures cause { IsCause (M.cells store.now) (M.barred store.now) result }
 {
-    if let Some(cell) = store.shut(&effect.first) {
+    if let Some(cell) = shut_cell(store, effect.first) {
         return Outcome::Outside(cell);
     }
-    if let Some(cell) = store.shut(&effect.second) {
+    if let Some(cell) = shut_cell(store, effect.second) {
         return Outcome::Outside(cell);
     }
     if read_flag(&effect.cpu, PCON, POWER_DOWN) {
@@ -84,7 +97,8 @@ fn allow<M: CellStore>(store: &M, effect: Effect) -> Outcome
 #[tactic(auto, unfolding(crate::specs::Meaning::outcome_of))]
 fn run<M: CellStore>(cpu: &Cpu, store: &M, instr: &Instr, image: &[u8], ext: &Pins) -> Outcome
     requires { length image.now ≡ 65536 }
-    ensures { result ≡ outcome_of cpu.now (M.cells store.now) (M.barred store.now) instr.now image.now ext.now }
+    ensures value { result ≡ outcome_of cpu.now (M.cells store.now) (M.barred store.now) instr.now image.now ext.now }
+    ensures cause { IsCause (M.cells store.now) (M.barred store.now) result }
 {
     match perform(store, image, ext, start(cpu, instr), action_for(instr)) {
         Ok(effect) => allow(store, effect),
@@ -108,6 +122,13 @@ pub fn exec<M: CellStore>(cpu: &Cpu, store: &M, instr: &Instr, image: &[u8], ext
     // Over any map that agrees with the store: its reads up to the first that fails, or else its effect.
     ensures over_map { (m : CellMap) → Agrees (M.cells store.now) m
         → result ≡ outcome_over m cpu.now (M.cells store.now) (M.barred store.now) instr.now image.now ext.now }
+
+    // A cell that it names exists, and is outside or barred, or was never written.
+    ensures missing { IsCause (M.cells store.now) (M.barred store.now) result }
+
+    // Over a store that holds a map, and of which no cell is barred: the effect over the map, or power-down.
+    ensures whole { (m : CellMap) → IsWhole (M.cells store.now) (M.barred store.now) m
+        → result ≡ unless_down (result_over m (plan_of cpu.now instr.now image.now ext.now)) }
 
     // PSW bit 0 stays the parity of ACC.
     ensures parity { HasParity cpu.now → IfDone result (λ e. HasParity e.cpu) }

@@ -1,5 +1,6 @@
 //! External memory, program memory and the stack.
-ghost use Rattle.std.specs.Prelude.{◌≡◌, length};
+ghost use Rattle.std.specs.Prelude.{◌≡◌, length, IfErr};
+ghost use Rattle.m51_flat.specs.Causes.{IsMissing};
 ghost use Rattle.m51_flat.specs.Moves.{external_address, code_base, external_loaded, external_stored, code_loaded, pushed, popped};
 ghost use Rattle.m51_flat.specs.Reads.{answer};
 
@@ -13,7 +14,8 @@ use crate::writing::read_dptr;
 /// An address in external memory: DPTR, or the latch of P2 and a register.
 #[tactic(auto, unfolding(crate::specs::Moves::external_address))]
 fn locate_external<M: CellStore>(store: &M, cpu: &Cpu, external: ExternalAt) -> Result<u16, Missing>
-    ensures { result ≡ answer (M.cells store.now) (external_address cpu.now external) }
+    ensures value { result ≡ answer (M.cells store.now) (external_address cpu.now external) }
+    ensures missing { IfErr result (IsMissing (M.cells store.now)) }
 {
     match external {
         ExternalAt::ByDptr => Ok(read_dptr(cpu)),
@@ -41,7 +43,8 @@ pub(crate) fn load_external<M: CellStore>(
     effect: Effect,
     from: ExternalAt,
 ) -> Result<Effect, Missing>
-    ensures { result ≡ answer (M.cells store.now) (external_loaded effect from) }
+    ensures value { result ≡ answer (M.cells store.now) (external_loaded effect from) }
+    ensures missing { IfErr result (IsMissing (M.cells store.now)) }
 {
     let address = locate_external(store, &effect.cpu, from)?;
     let value = read_xbyte(store, address)?;
@@ -55,7 +58,8 @@ pub(crate) fn store_external<M: CellStore>(
     effect: Effect,
     to: ExternalAt,
 ) -> Result<Effect, Missing>
-    ensures { result ≡ answer (M.cells store.now) (external_stored effect to) }
+    ensures value { result ≡ answer (M.cells store.now) (external_stored effect to) }
+    ensures missing { IfErr result (IsMissing (M.cells store.now)) }
 {
     let address = locate_external(store, &effect.cpu, to)?;
     let value = read_latch(&effect.cpu, ACC);
@@ -86,7 +90,8 @@ pub(crate) fn push<M: CellStore>(
     effect: Effect,
     place: Place,
 ) -> Result<Effect, Missing>
-    ensures { result ≡ answer (M.cells store.now) (pushed ext.now effect place) }
+    ensures value { result ≡ answer (M.cells store.now) (pushed ext.now effect place) }
+    ensures missing { IfErr result (IsMissing (M.cells store.now)) }
 {
     let sp = read_latch(&effect.cpu, SP).wrapping_add(1);
     let raised = write_sfr(effect, SP, sp);
@@ -97,7 +102,8 @@ pub(crate) fn push<M: CellStore>(
 /// POP: the stack is read and SP lowered, then the operand is written.
 #[tactic(auto, using(crate::proofs::Readings::answer_then), unfolding(crate::specs::Moves::popped))]
 pub(crate) fn pop<M: CellStore>(store: &M, effect: Effect, place: Place) -> Result<Effect, Missing>
-    ensures { result ≡ answer (M.cells store.now) (popped effect place) }
+    ensures value { result ≡ answer (M.cells store.now) (popped effect place) }
+    ensures missing { IfErr result (IsMissing (M.cells store.now)) }
 {
     let sp = read_latch(&effect.cpu, SP);
     let location = locate(store, &effect.cpu, place)?;

@@ -1,5 +1,6 @@
 //! Reads and writes of operands.
-ghost use Rattle.std.specs.Prelude.{◌≡◌, ◌+◌, ◌≤◌, ◌<◌};
+ghost use Rattle.std.specs.Prelude.{◌≡◌, ◌+◌, ◌≤◌, ◌<◌, IfErr};
+ghost use Rattle.m51_flat.specs.Causes.{IsMissing};
 ghost use Rattle.m51_flat.specs.Operands.{bank, location_of, latch_at, found_at, operand_value, with_location};
 ghost use Rattle.m51_flat.specs.Reads.{answer, value_or_missing};
 ghost use Rattle.m51_flat.specs.States.{byte_seen, bit_seen, xbyte_seen};
@@ -21,15 +22,19 @@ fn value(seen: Seen) -> Result<u8, Missing>
 }
 
 /// A byte of internal RAM.
+#[tactic(auto, using(crate::proofs::Causes::byte_missing))]
 pub(crate) fn read_byte<M: CellStore>(store: &M, address: u8) -> Result<u8, Missing>
-    ensures { result ≡ value_or_missing (byte_seen (M.cells store.now) address) }
+    ensures value { result ≡ value_or_missing (byte_seen (M.cells store.now) address) }
+    ensures missing { IfErr result (IsMissing (M.cells store.now)) }
 {
     value(store.byte(address))
 }
 
 /// A byte of external memory.
+#[tactic(auto, using(crate::proofs::Causes::xbyte_missing))]
 pub(crate) fn read_xbyte<M: CellStore>(store: &M, address: u16) -> Result<u8, Missing>
-    ensures { result ≡ value_or_missing (xbyte_seen (M.cells store.now) address) }
+    ensures value { result ≡ value_or_missing (xbyte_seen (M.cells store.now) address) }
+    ensures missing { IfErr result (IsMissing (M.cells store.now)) }
 {
     value(store.xbyte(address))
 }
@@ -46,7 +51,8 @@ pub(crate) fn bank_base(cpu: &Cpu) -> u8
 /// Where a place is: for an indirect one its register is read.
 #[tactic(auto, unfolding(crate::specs::Operands::location_of))]
 pub(crate) fn locate<M: CellStore>(store: &M, cpu: &Cpu, place: Place) -> Result<Location, Missing>
-    ensures { result ≡ answer (M.cells store.now) (location_of cpu.now place) }
+    ensures value { result ≡ answer (M.cells store.now) (location_of cpu.now place) }
+    ensures missing { IfErr result (IsMissing (M.cells store.now)) }
 {
     match place {
         Place::Accumulator => Ok(Location::Sfr(ACC)),
@@ -72,7 +78,8 @@ pub(crate) fn read_latch_at<M: CellStore>(
     cpu: &Cpu,
     location: Location,
 ) -> Result<u8, Missing>
-    ensures { result ≡ answer (M.cells store.now) (latch_at cpu.now location) }
+    ensures value { result ≡ answer (M.cells store.now) (latch_at cpu.now location) }
+    ensures missing { IfErr result (IsMissing (M.cells store.now)) }
 {
     match location {
         Location::Ram(address) => read_byte(store, address),
@@ -88,7 +95,8 @@ pub(crate) fn find_at<M: CellStore>(
     ext: &Pins,
     location: Location,
 ) -> Result<u8, Missing>
-    ensures { result ≡ answer (M.cells store.now) (found_at cpu.now ext.now location) }
+    ensures value { result ≡ answer (M.cells store.now) (found_at cpu.now ext.now location) }
+    ensures missing { IfErr result (IsMissing (M.cells store.now)) }
 {
     match location {
         Location::Ram(address) => read_byte(store, address),
@@ -104,7 +112,8 @@ pub(crate) fn read_operand<M: CellStore>(
     ext: &Pins,
     operand: ByteOperand,
 ) -> Result<u8, Missing>
-    ensures { result ≡ answer (M.cells store.now) (operand_value cpu.now ext.now operand) }
+    ensures value { result ≡ answer (M.cells store.now) (operand_value cpu.now ext.now operand) }
+    ensures missing { IfErr result (IsMissing (M.cells store.now)) }
 {
     match operand {
         ByteOperand::Immediate(value) => Ok(value),
@@ -130,9 +139,11 @@ pub(crate) fn write_location(effect: Effect, location: Location, value: u8) -> E
 }
 
 /// A bit of internal RAM by its bit address.
+#[tactic(auto, using(crate::proofs::Causes::bit_missing))]
 pub(crate) fn read_bit<M: CellStore>(store: &M, bit: u8) -> Result<u8, Missing>
     requires { bit < 128 }
-    ensures { result ≡ value_or_missing (bit_seen (M.cells store.now) (256 + bit)) }
+    ensures value { result ≡ value_or_missing (bit_seen (M.cells store.now) (256 + bit)) }
+    ensures missing { IfErr result (IsMissing (M.cells store.now)) }
 {
     value(store.bit(bit))
 }

@@ -1,5 +1,6 @@
 //! What each action comes to.
-ghost use Rattle.std.specs.Prelude.{◌≡◌, length};
+ghost use Rattle.std.specs.Prelude.{◌≡◌, length, IfErr};
+ghost use Rattle.m51_flat.specs.Causes.{IsMissing};
 ghost use Rattle.m51_flat.specs.Reads.{answer};
 ghost use Rattle.m51_flat.specs.Meaning.{plan};
 
@@ -28,7 +29,8 @@ pub(crate) fn perform<M: CellStore>(
     action: Action,
 ) -> Result<Effect, Missing>
     requires { length image.now ≡ 65536 }
-    ensures { result ≡ answer (M.cells store.now) (plan image.now ext.now effect action) }
+    ensures value { result ≡ answer (M.cells store.now) (plan image.now ext.now effect action) }
+    ensures missing { IfErr result (IsMissing (M.cells store.now)) }
 {
     let cpu = &effect.cpu;
     match action {

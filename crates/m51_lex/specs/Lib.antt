@@ -1,0 +1,4 @@
+pub mod Characters
+pub mod Number
+pub mod Lexeme
+pub mod Tokens

@@ -1,0 +1,96 @@
+//! What a link answers beside a layout and an image: runs, chains and refusals.
+use crate::Units;
+use m51_cells::{ListOf, Name, Names, NoMemory};
+
+/// Bytes of the image in a row that content fills.
+///
+/// Source: own choice ("Runs").
+#[derive(Clone, Copy, Debug, PartialEq, Eq)]
+pub struct Run {
+    /// The address of the first byte.
+    pub first: u16,
+    /// How many bytes there are: 1 to 65,536.
+    pub len: u32,
+}
+
+/// The runs of an image, in ascending order.
+///
+/// Source: own choice ("Lists in types").
+pub type Runs = ListOf<Run>;
+
+/// A walk from a root, and the bytes of overlaid DATA that its units have.
+///
+/// Source: own choice ("Heaviest chains").
+#[derive(Drop)]
+pub struct Chain {
+    /// The unit that the root is.
+    pub root: u16,
+    /// The sum of the sizes of the overlaid DATA segments of type UNIT whose units the walk names, in bytes.
+    pub bytes: u32,
+    /// The units of the walk, the root first.
+    pub units: Units,
+}
+
+/// What a limit is of.
+///
+/// Source: own choice ("Limits").
+#[derive(Clone, Copy, Debug, PartialEq, Eq)]
+pub enum Quantity {
+    Files,
+    Bytes,
+    ControlLines,
+    ScriptLines,
+    Modules,
+    Segments,
+    Units,
+}
+
+/// Why a link is refused.
+///
+/// Source: RL51 guide.
+#[derive(Drop)]
+pub enum Refusal {
+    /// The module is not of the form that the first linker takes.
+    L0,
+    /// Two chosen modules define this public.
+    L1 { name: Name },
+    /// No chosen module defines this external.
+    L2 { name: Name },
+    /// The kinds of this external and of its public do not agree.
+    L3 { name: Name },
+    /// Parts of the segment of this name differ in kind, type or OVERLAYABLE.
+    L4 { name: Name },
+    /// The joined segment of this name is too large.
+    L5 { name: Name },
+    /// The segment of this name is marked OVERLAYABLE and is no local of a unit that is there.
+    L6 { name: Name },
+    /// The control line of this number does not fit the program.
+    L7 { line: u32 },
+    /// No absolute code segment begins at 0000H.
+    L8,
+    /// Two fixed extents share a cell.
+    L9 { one: Name, two: Name },
+    /// Some units reach themselves: all of them, in order.
+    L10 { units: Names },
+    /// A unit with overlaid locals lies under two roots.
+    L11 { unit: Name, one: Name, two: Name },
+    /// There is no base for the segment of this name.
+    L12 { name: Name },
+    /// The rule of a fixup fails: the segment of the field, and the field's place in it.
+    L13 { name: Name, offset: u16 },
+    /// There are more of these than a link takes.
+    Limit { what: Quantity },
+    /// Memory is wanted.
+    Memory,
+}
+
+impl From<NoMemory> for Refusal {
+    ghost use Rattle.std.specs.Prelude.{◌≡◌};
+    ghost use Rattle.m51_module.specs.declared.linked.Refusal.TheVariants.{Memory};
+
+    ghost from_gives = { λ _ refusal. refusal ≡ Memory };
+
+    fn from(_error: NoMemory) -> Refusal {
+        Refusal::Memory
+    }
+}

@@ -1,0 +1,35 @@
+//! Source files, and the rows of their listing.
+use m51_cells::{Bytes, ListOf};
+
+/// A source file or an include.
+///
+/// Source: own choice ("Files").
+#[derive(Drop)]
+pub struct SourceFile {
+    pub name: Bytes,
+    pub bytes: Bytes,
+}
+
+/// What a line of a source gives.
+///
+/// Source: own choice ("Listing").
+#[derive(Clone, Copy, Debug, PartialEq, Eq)]
+pub struct Row {
+    /// The file of the line: 0 for the source, k for the k-th include.
+    pub file: u16,
+    /// The line in that file, counted from 1.
+    pub line: u32,
+    /// The place of what the line gives, modulo 65,536, if it has one.
+    pub place: Option<u16>,
+    /// How many of the bytes count: 0 to 3.
+    pub count: u8,
+    /// The first bytes that the line gives.
+    pub bytes: [u8; 3],
+    /// A fixup lies in the statement.
+    pub marked: bool,
+}
+
+/// The rows of a source, in line order.
+///
+/// Source: own choice ("Lists in types").
+pub type Rows = ListOf<Row>;

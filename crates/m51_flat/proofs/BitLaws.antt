@@ -1,13 +1,13 @@
 -- Flags and rotations bit by bit.
-use Rattle.std.proofs.Common.{◌≡◌, ◌≢◌, ℕ, zero, suc, ◌+◌, ◌-◌, ◌*◌, ◌/◌, ◌%◌, ◌<◌, Bool, true, false, refl, sym, ap, subst, ◌∙◌, arith, lit<, ⊎_elim, nat_eq}
-use Rattle.std.specs.Prelude.{◌==◌, if◌then◌else◌}
+use Rattle.std.proofs.Common.{◌≡◌, ◌≢◌, ℕ, zero, suc, ◌+◌, ◌-◌, ◌*◌, ◌/◌, ◌%◌, ◌<◌, Bool, true, false, refl, ap, ◌∙◌, arith, lit<, ⊎_elim, nat_eq}
+use Rattle.std.specs.Prelude.{◌==◌}
 use Rattle.std.specs.Int.{bit_at}
 use Rattle.std.proofs.lemmas.Bool.Decides.{eqb_tells}
 use Rattle.m51_alu.specs.declared.sum.Sum.{Sum}
 use Rattle.m51_alu.specs.Arithmetic.{bit_of}
 use Rattle.m51_flat.specs.Sfr.{with_bit}
 use Rattle.m51_flat.specs.Parts.{with_flags}
-use Rattle.m51_flat.specs.BitLaws.{OneBitIsReplaced, HasFlags, FlagsAreWritten, TurnsBits, BitsAreTurned}
+use Rattle.m51_flat.specs.BitLaws.{OneBitIsReplaced, HasFlags, FlagsAreWritten, BitsAreTurned}
 use Rattle.m51_flat.proofs.Bytes.{below_8, bit_same, bit_other}
 
 pub one_bit_is_replaced : OneBitIsReplaced

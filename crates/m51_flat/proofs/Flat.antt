@@ -1,5 +1,5 @@
 -- The cells of memory that holds a value in each of them.
-use Rattle.std.proofs.Common.{◌≡◌, ℕ, ◌/◌, ◌%◌, ◌<◌, Bool, true, false, cond, refl, ap, arith, nat_lt}
+use Rattle.std.proofs.Common.{◌≡◌, sym, ℕ, ◌/◌, ◌%◌, ◌<◌, Bool, true, false, cond, refl, ap, arith, nat_lt}
 use Rattle.std.specs.Prelude.{slice_index, None}
 use Rattle.std.specs.Int.{bit_at}
 use Rattle.std.proofs.lemmas.Bool.{ltb-true}
@@ -31,3 +31,6 @@ none_shut Nothing = refl
 none_shut (Byte address value) = refl
 none_shut (Bit address value) = refl
 none_shut (Xbyte address value) = refl
+
+pub open_to_puts : (put : Put) → shut_of (λ cell. false) put ≡ None
+open_to_puts put = sym (none_shut put)

@@ -10,7 +10,7 @@ use Rattle.m51_alu.specs.Arithmetic.{parity_of}
 use Rattle.m51_flat.specs.declared.state.Cpu.{Cpu}
 use Rattle.m51_flat.specs.declared.state.Pins.{Pins}
 use Rattle.m51_flat.specs.declared.state.Effect.{Effect}
-use Rattle.m51_flat.specs.declared.state.Transfer.TheVariants.{Next, Jump, Call}
+use Rattle.m51_flat.specs.declared.state.Transfer.TheVariants.{Next, Jump}
 use Rattle.m51_flat.specs.declared.actions.Location.{Location}
 use Rattle.m51_flat.specs.declared.actions.Location.TheVariants.{Ram, Sfr}
 use Rattle.m51_flat.specs.declared.actions.ReturnFrom.{ReturnFrom}
@@ -27,7 +27,7 @@ use Rattle.m51_flat.specs.Bits.{bit_flipped, branched_on_bit, carry_merged, test
 use Rattle.m51_flat.specs.Transfers.{called, compared, counted_down, returned}
 use Rattle.m51_flat.specs.Actions.{action_of}
 use Rattle.m51_flat.specs.Meaning.{plan, plan_of, started}
-use Rattle.m51_flat.specs.Laws.{Always, FlowIsKept, Follows, GoesOn, IsCall, IsReturn, next_address}
+use Rattle.m51_flat.specs.Laws.{Always, FlowIsKept, Follows, GoesOn, IsCall, next_address}
 use Rattle.m51_alu.specs.declared.sum.Sum.{Sum}
 
 -- control goes on to the next instruction, whatever is read

@@ -18,23 +18,33 @@ pub trait CellStore {
 
     /// A byte of internal RAM: its value exactly where its eight cells hold bits, or else the answer of the lowest that
     /// holds none.
+    ///
+    /// Source: own choice ("Stores of cells").
     fn byte(&self, address: u8) -> Seen
         ensures { result ≡ byte_seen (cells self.now) address };
 
     /// A bit of internal RAM by its bit address: 0 or 1, or the answer of its cell.
+    ///
+    /// Source: own choice ("Stores of cells").
     fn bit(&self, address: u8) -> Seen
         requires { address < 128 }
         ensures { result ≡ bit_seen (cells self.now) (256 + address) };
 
     /// A byte of external memory, or the answer of its cell.
+    ///
+    /// Source: own choice ("Stores of cells").
     fn xbyte(&self, address: u16) -> Seen
         ensures { result ≡ xbyte_seen (cells self.now) address };
 
     /// The lowest cell of the put that may not be written.
+    ///
+    /// Source: own choice ("Stores of cells").
     fn shut(&self, put: &Put) -> Option<Cell>
         ensures { result ≡ shut_of (barred self.now) put.now };
 
     /// Writes the cells of the put. All others hold what they held, and those that may not be written stay the same.
+    ///
+    /// Source: own choice ("Stores of cells").
     fn put(&mut self, put: &Put)
         requires { shut_of (barred self.old) put.now ≡ None }
         ensures cells { cells self.new ≡ states_after put.now (cells self.old) }

@@ -19,6 +19,12 @@ fn effect_of(cpu: &Cpu, store: &FlatRam, instr: &Instr, image: &[u8]) -> Option<
     }
 }
 
+/// Writes to memory of which no cell is barred.
+#[tactic(auto, using(crate::proofs::Flat::open_to_puts))]
+fn write(store: &mut FlatRam, put: &Put) {
+    store.put(put);
+}
+
 #[test]
 fn decimal_digits_are_added_and_shown_on_a_port(rt: HostRuntime) -> Result<(), Fail> {
     let image = bytes(rt.alloc(), 0, 65536)?;
@@ -58,8 +64,8 @@ fn a_call_is_stored_low_byte_first_and_returned_from(rt: HostRuntime) -> Result<
         (call.first, call.second, call.transfer),
         (low, high, Transfer::Call)
     );
-    store.put(&low);
-    store.put(&high);
+    write(&mut store, &low);
+    write(&mut store, &high);
     assert_eq!(rt; store.byte(0x08), Seen::Value(0x26));
     let back = effect_of(&call.cpu, &store, &Instr::Ret, &image).ok_or("an effect")?;
     assert_eq!(rt; (back.cpu.pc, back.cpu.regs[1]), (0x0126, 0x07));

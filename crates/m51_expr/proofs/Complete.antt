@@ -1,0 +1,158 @@
+-- What is in the grammar, and does not go on, is read.
+use Rattle.std.proofs.Common.{◌≡◌, ℕ, ◌+◌, ◌-◌, ◌*◌, ◌<◌, ◌≤◌, ◌==◌, cond, true, false, List, length, Option, Some, None, option_map, refl, sym, ap, ◌∙◌, arith, subst, ⊎_elim, slice_get}
+use Rattle.std.proofs.str.Laws.{order}
+use Rattle.std.proofs.lemmas.Grind.{common_steps}
+use Rattle.m51_lex.specs.declared.token.Token.{Token}
+use Rattle.std.proofs.lemmas.Option.{slice_get_within}
+use Rattle.m51_expr.specs.declared.symbol.Symbol.{Symbol}
+use Rattle.m51_expr.specs.Symbol.{symbol_of, symbol_at}
+use Rattle.m51_expr.specs.Tree.{Tree, One, Two}
+use Rattle.m51_expr.specs.Ranks.{prefix_of, is_open, is_close, leaf_of}
+use Rattle.m51_expr.specs.Reading.{Line, Reads, and_on, closed, leaf_at, read, more, enough, expression_at}
+use Rattle.m51_expr.specs.Grammar.{Writes, Leaf, Parens, Before, Between, Tighter, Ends, IsExpression}
+use Rattle.m51_expr.proofs.Ranking.{of_prefix, infix_below, leaf_no_prefix, leaf_not_open, open_no_prefix, close_no_infix, no_tighter_infix, no_looser_prefix, ends_at, ends_above}
+use Rattle.m51_expr.proofs.Steps.{read_operand, read_prefix, read_plain, more_ends, more_goes}
+use Rattle.m51_expr.proofs.Sound.{it}
+
+apart : (rank : ℕ) → rank < 8 → (rank == 8) ≡ false
+apart rank h = grind (arith, common_steps)
+
+-- an expression begins with no prefix operator of a lower rank
+starts : {line : Line} {r at : ℕ} {e : Tree} {to : ℕ} → Writes line r at e to → (low : ℕ) → low < r → prefix_of (line at) low ≡ None
+starts {line} {r} {at} (Leaf {e = e} is leaf end) low lt = leaf_no_prefix (line at) low e leaf
+starts {line} {r} {at} (Parens is open' inner close end) low lt = open_no_prefix (line at) low open'
+starts {line} {r} {at} (Before {op = op} is inner) low lt = no_looser_prefix (line at) r low op is lt
+starts (Between left is right) low lt = starts left low lt
+starts (Tighter high inner) low lt = starts inner low (omega (arith, lt))
+
+longer : {line : Line} {r at : ℕ} {e : Tree} {to : ℕ} → Writes line r at e to → at < to
+longer (Leaf is leaf end) = omega (arith, end)
+longer (Parens is open' inner close end) = omega (arith, end, longer inner)
+longer (Before is inner) = omega (arith, longer inner)
+longer (Between left is right) = omega (arith, longer left, longer right)
+longer (Tighter high inner) = longer inner
+
+rank_le : {line : Line} {r at : ℕ} {e : Tree} {to : ℕ} → Writes line r at e to → r ≤ 8
+rank_le (Leaf is leaf end) = omega (arith, is)
+rank_le (Parens is open' inner close end) = omega (arith, is)
+rank_le {line} {r} {at} (Before {op = op} is inner) = omega (arith, (of_prefix (line at) r op is).low)
+rank_le {line} {r} (Between {mid = mid} {op = op} left is right) = omega (arith, infix_below (line mid) r op is)
+rank_le (Tighter high inner) = omega (arith, high)
+
+-- a tree that is read at a rank, as far as it has come
+abbrev reach : ℕ → Line → ℕ → Tree → ℕ → Reads
+reach m line rank e to = cond (rank == 8) (it e to) (more m line rank e to)
+
+record Reached (n : ℕ) (line : Line) (rank at : ℕ) (e : Tree) (to : ℕ) : Type 0 where
+  steps : ℕ
+  left : n ≤ steps + 10 * (to - at)
+  is : read n line rank at ≡ reach steps line rank e to
+
+reach_low : (m : ℕ) (line : Line) (rank : ℕ) (e : Tree) (to : ℕ) → rank < 8 → reach m line rank e to ≡ more m line rank e to
+reach_low m line rank e to low = ap (λ b. cond b (it e to) (more m line rank e to)) (apart rank low)
+
+reach_ends : (m : ℕ) (line : Line) (rank : ℕ) (e : Tree) (to : ℕ) → rank ≤ 8 → 9 ≤ m + rank → Ends line rank to → reach m line rank e to ≡ it e to
+reach_ends m line rank e to le some ends =
+    ⊎_elim (λ low. reach_low m line rank e to low ∙ more_ends m (m - 1) line rank e to (omega (arith, some, low)) (ends rank (omega arith)))
+    (λ high. let is : 8 ≡ rank = omega (arith, le, high) in let P : ℕ → Type 0 = λ r. reach m line r e to ≡ it e to in subst P is refl)
+    (order rank 8)
+
+finish : (n : ℕ) (line : Line) (rank at : ℕ) (e : Tree) (to : ℕ) → rank ≤ 8 → enough (to - at) rank ≤ n → Ends line rank to → Reached n line rank at e to → read n line rank at ≡ it e to
+finish n line rank at e to le some ends r = r.is ∙ reach_ends r.steps line rank e to le (omega (arith, some, le, r.left)) ends
+
+leaf_case : (n : ℕ) (line : Line) (rank at : ℕ) (e : Tree) (to : ℕ) → rank ≡ 8 → leaf_of (line at) ≡ Some e → to ≡ at + 1 → 0 < n → read n line rank at ≡ reach n line rank e to
+leaf_case n line rank at e to is leaf end some =
+    let P : ℕ → Type 0 = λ r. read n line r at ≡ reach n line r e to in
+    let inner = read (n - 1) line 0 (at + 1) in
+    subst P (sym is) (read_operand n (n - 1) line at (omega (arith, some))
+    ∙ ap (λ b. cond b (and_on inner (λ f next. closed (is_close (line next)) f next)) (leaf_at (leaf_of (line at)) at)) (leaf_not_open (line at) e leaf)
+    ∙ ap (λ o. leaf_at o at) leaf ∙ ap (it e) (sym end))
+
+parens_case : (n : ℕ) (line : Line) (rank at last : ℕ) (e : Tree) (to : ℕ) → rank ≡ 8 → is_open (line at) ≡ true → read (n - 1) line 0 (at + 1) ≡ it e last → is_close (line last) ≡ true → to ≡ last + 1 → 0 < n → read n line rank at ≡ reach n line rank e to
+parens_case n line rank at last e to is open' inner close end some =
+    let P : ℕ → Type 0 = λ r. read n line r at ≡ reach n line r e to in
+    subst P (sym is) (read_operand n (n - 1) line at (omega (arith, some))
+    ∙ ap (λ b. cond b (and_on (read (n - 1) line 0 (at + 1)) (λ f next. closed (is_close (line next)) f next)) (leaf_at (leaf_of (line at)) at)) open'
+    ∙ ap (λ r. and_on r (λ f next. closed (is_close (line next)) f next)) inner
+    ∙ ap (λ b. closed b e last) close ∙ ap (it e) (sym end))
+
+complete : {line : Line} {rank at : ℕ} {e : Tree} {to : ℕ} → Writes line rank at e to → (n : ℕ) → enough (to - at) rank ≤ n → Ends line (rank + 1) to → Reached n line rank at e to
+complete {line} {rank} {at} {e} {to} (Leaf is leaf end) n some ends =
+    record { steps = n; left = omega arith; is = leaf_case n line rank at e to is leaf end (omega (arith, some, is, end)) }
+complete {line} {rank} {at} {e} {to} (Parens {last = last} is open' inner close end) n some ends =
+    let ends' : Ends line 0 last = λ r le. close_no_infix (line last) r close in
+    let more : at + 1 < last = longer inner in
+    let enough' : enough (last - (at + 1)) 0 ≤ n - 1 = omega (arith, some, is, end, more) in
+    record {
+      steps = n;
+      left = omega arith;
+      is = parens_case n line rank at last e to is open' (finish (n - 1) line 0 (at + 1) e last (omega arith) enough' ends' (complete inner (n - 1) enough' (ends_above line 0 (0 + 1) last (omega arith) ends'))) close end (omega (arith, some, is, end, more));
+    }
+complete {line} {rank} {at} {to = to} (Before {op = op} {e = e} is inner) n some ends =
+    let home = of_prefix (line at) rank op is in
+    let ends' = ends_at line rank to (home.none (line to)) ends in
+    let more : at + 1 < to = longer inner in
+    let enough' : enough (to - (at + 1)) rank ≤ n - 1 = omega (arith, some, home.low, more) in
+    record {
+      steps = n;
+      left = omega arith;
+      is = read_prefix n (n - 1) line rank at op (omega (arith, some, home.low)) home.low is
+          ∙ ap (λ r. and_on r (λ f next. it (One op f) next)) (finish (n - 1) line rank (at + 1) e to (omega (arith, home.low)) enough' ends' (complete inner (n - 1) enough' ends))
+          ∙ sym (reach_ends n line rank (One op e) to (omega (arith, home.low)) (omega (arith, some)) ends');
+    }
+complete {line} {rank} {at} {to = to} (Between {mid = mid} {op = op} {left = left} {right = right} lefts is rights) n some ends =
+    let low : rank < 8 = infix_below (line mid) rank op is in
+    let a : at < mid = longer lefts in
+    let b : mid + 1 < to = longer rights in
+    let l = complete lefts n (omega (arith, some, a, b)) (λ r le. no_tighter_infix (line mid) rank r op is (omega (arith, le))) in
+    let m = l.steps - 1 in
+    let enough' : enough (to - (mid + 1)) (rank + 1) ≤ m = omega (arith, some, low, a, b, l.left) in
+    record {
+      steps = m;
+      left = omega (arith, l.left, a, b, some, low);
+      is = l.is ∙ reach_low l.steps line rank left mid low
+          ∙ more_goes l.steps m line rank left mid op (omega (arith, some, low, a, b, l.left)) is
+          ∙ ap (λ r. and_on r (λ f next. more m line rank (Two op left f) next)) (finish m line (rank + 1) (mid + 1) right to (omega (arith, low)) enough' ends (complete rights m enough' (ends_above line (rank + 1) (rank + 1 + 1) to (omega arith) ends)))
+          ∙ sym (reach_low m line rank (Two op left right) to low);
+    }
+complete {line} {rank} {at} {e} {to} (Tighter low inner) n some ends =
+    let a : at < to = longer inner in
+    let enough' : enough (to - at) (rank + 1) ≤ n - 1 = omega (arith, some, low) in
+    record {
+      steps = n - 1;
+      left = omega (arith, a);
+      is = read_plain n (n - 1) line rank at (omega (arith, some, low)) low (starts inner rank (omega arith))
+          ∙ ap (λ r. and_on r (λ f next. more (n - 1) line rank f next)) (finish (n - 1) line (rank + 1) at e to (omega (arith, low)) enough' ends (complete inner (n - 1) enough' (ends_above line (rank + 1) (rank + 1 + 1) to (omega arith) ends)))
+          ∙ sym (reach_low (n - 1) line rank e to low);
+    }
+
+-- what is in the grammar, and does not go on, is read
+pub complete_at : (n : ℕ) (line : Line) (at : ℕ) (e : Tree) (to : ℕ) → IsExpression line 0 at e to → enough (to - at) 0 ≤ n → read n line 0 at ≡ Some (e, to)
+complete_at n line at e to found some = finish n line 0 at e to (omega arith) some found.ends (complete found.writes n some (ends_above line 0 (0 + 1) to (omega arith) found.ends))
+
+-- a symbol stands within the tokens
+some_within : (line : List ℕ) (tokens : List Token) (at : ℕ) (o : Option Token) → slice_get tokens at ≡ o → (s : Symbol) → option_map (symbol_of line) o ≡ Some s → at < length tokens
+some_within line tokens at None is s h = absurd (cc h)
+some_within line tokens at (Some t) is s h = slice_get_within tokens at t is
+
+symbol_within : (line : List ℕ) (tokens : List Token) (at : ℕ) (s : Symbol) → symbol_at line tokens at ≡ Some s → at < length tokens
+symbol_within line tokens at s h = some_within line tokens at (slice_get tokens at) refl s h
+
+leaf_within : (line : List ℕ) (tokens : List Token) (at : ℕ) (o : Option Symbol) → symbol_at line tokens at ≡ o → (e : Tree) → leaf_of o ≡ Some e → at < length tokens
+leaf_within line tokens at None is e h = absurd (cc h)
+leaf_within line tokens at (Some s) is e h = symbol_within line tokens at s is
+
+close_within : (line : List ℕ) (tokens : List Token) (at : ℕ) (o : Option Symbol) → symbol_at line tokens at ≡ o → is_close o ≡ true → at < length tokens
+close_within line tokens at None is h = absurd (cc h)
+close_within line tokens at (Some s) is h = symbol_within line tokens at s is
+
+-- what the tokens of a line write ends within them
+ends_within : (line : List ℕ) (tokens : List Token) {rank from : ℕ} {e : Tree} {to : ℕ} → Writes (symbol_at line tokens) rank from e to → to ≤ length tokens
+ends_within line tokens {rank} {from} {e} {to} (Leaf is leaf end) = omega (arith, end, leaf_within line tokens from (symbol_at line tokens from) refl e leaf)
+ends_within line tokens (Parens {last = last} is open' inner close end) = omega (arith, end, close_within line tokens last (symbol_at line tokens last) refl close)
+ends_within line tokens (Before is inner) = ends_within line tokens inner
+ends_within line tokens (Between lefts is rights) = ends_within line tokens rights
+ends_within line tokens (Tighter low inner) = ends_within line tokens inner
+
+pub expression_is : (line : List ℕ) (tokens : List Token) (from : ℕ) (e : Tree) (to : ℕ) → IsExpression (symbol_at line tokens) 0 from e to → expression_at line tokens from ≡ Some (e, to)
+expression_is line tokens from e to found = complete_at (enough (length tokens - from) 0) (symbol_at line tokens) from e to found (omega (arith, ends_within line tokens found.writes))

@@ -1,0 +1,4 @@
+pub mod Ranking
+pub mod Steps
+pub mod Sound
+pub mod Complete

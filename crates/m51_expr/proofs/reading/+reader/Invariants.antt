@@ -1,0 +1,12 @@
+use Rattle.std.proofs.Common.{◌-◌, length}
+use Rattle.m51_expr.specs.Reading.{enough}
+use Rattle.m51_expr.proofs.reading.+reader.Given as goal
+
+abbrev pub decreases-more : goal.decreases-more
+decreases-more l = enough (length l.tokens.now - l.at) 8
+
+abbrev pub decreases-operand : goal.decreases-operand
+decreases-operand l = enough (length l.tokens.now - l.at) 9
+
+abbrev pub decreases-read : goal.decreases-read
+decreases-read l = enough (length l.tokens.now - l.at) l.rank

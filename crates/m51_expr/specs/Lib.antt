@@ -1,0 +1,11 @@
+pub mod Tree
+pub mod Words
+pub mod Symbol
+pub mod Ranks
+pub mod Reading
+pub mod Grammar
+pub mod Value
+pub mod Meanings
+pub mod Operators
+pub mod Bits
+pub mod Evaluation

@@ -1,0 +1,28 @@
+-- What names and the place of a statement stand for.
+use Rattle.std.specs.Prelude.{ℕ, Bool, true, false, not, if◌then◌else◌, List, Option, Ok}
+use Rattle.m51_cells.specs.declared.kind.Base.{Base}
+use Rattle.m51_cells.specs.declared.kind.Base.TheVariants as base
+use Rattle.m51_expr.specs.declared.value.Value.{Value}
+use Rattle.m51_expr.specs.Value.{Valued, fault, counted}
+
+-- what names stand for, the place of the statement, and which segments are absolute or bit-addressable
+pub record Meanings : Type 0 where
+  pub value : List ℕ → Option Value
+  pub here : Value
+  pub fixed : ℕ → Bool
+  pub bitaddressable : ℕ → Bool
+
+-- an absolute segment
+abbrev pub is_absolute : Meanings → Base → Bool
+is_absolute names (base.Segment s) = names.fixed s
+is_absolute names _ = false
+
+-- relocatable or external: the link places it
+abbrev pub is_unplaced : Meanings → Base → Bool
+is_unplaced names base.None = false
+is_unplaced names (base.Segment s) = not (names.fixed s)
+is_unplaced names (base.External n) = true
+
+-- what an operand counts as where no base may stand but an absolute one
+abbrev pub as_number : Meanings → Value → Valued ℕ
+as_number names v = if is_unplaced names v.base then fault 8 else Ok (counted v)

@@ -1,0 +1,91 @@
+-- The tree that symbols write, by the ranks of their operators.
+use Rattle.std.specs.Prelude.{ℕ, zero, suc, ◌+◌, ◌-◌, ◌*◌, ◌==◌, if◌then◌else◌, List, length, Option, Some, None, Result, Ok, Err, Bool, true, false}
+use Rattle.m51_cells.specs.Outcome.{Gives}
+use Rattle.m51_lex.specs.declared.token.Token.{Token}
+use Rattle.m51_expr.specs.declared.tree.Unary.{Unary}
+use Rattle.m51_expr.specs.declared.tree.Binary.{Binary}
+use Rattle.m51_expr.specs.declared.tree.Expr.{Expr}
+use Rattle.m51_expr.specs.declared.fault.ReadError.{ReadError}
+use Rattle.m51_expr.specs.declared.fault.ReadError.TheVariants.{Fault, Memory}
+use Rattle.m51_expr.specs.declared.symbol.Symbol.{Symbol}
+use Rattle.m51_expr.specs.Tree.{Tree, One, Two, tree_of}
+use Rattle.m51_expr.specs.Symbol.{symbol_at}
+use Rattle.m51_expr.specs.Ranks.{prefix_of, infix_of, is_open, is_close, leaf_of}
+
+-- the symbol at each place
+abbrev pub Line : Type 0
+Line = ℕ → Option Symbol
+
+-- a tree and the place after it, or none
+abbrev pub Reads : Type 0
+Reads = Option (Tree × ℕ)
+
+-- goes on with a tree and the place after it
+abbrev pub and_on : Reads → (Tree → ℕ → Reads) → Reads
+and_on None go = None
+and_on (Some (e, at)) go = go e at
+
+-- a closing parenthesis, and the place after it
+abbrev pub closed : Bool → Tree → ℕ → Reads
+closed true e at = Some (e, at + 1)
+closed false e at = None
+
+abbrev pub leaf_at : Option Tree → ℕ → Reads
+leaf_at None at = None
+leaf_at (Some e) at = Some (e, at + 1)
+
+-- an expression in parentheses, which `inner` reads, or else a number, a name or the place of the statement
+abbrev pub operand : Line → ℕ → Reads → Reads
+operand line at inner = if is_open (line at) then and_on inner (λ e next. closed (is_close (line next)) e next) else leaf_at (leaf_of (line at)) at
+
+-- an operator before its operand, which `inner` reads, or else what has no such operator
+abbrev pub prefixed : Option Unary → Reads → Reads → Reads
+prefixed (Some op) inner plain = and_on inner (λ e next. Some (One op e, next))
+prefixed None inner plain = plain
+
+-- operators behind an operand
+abbrev pub followed : Option Binary → Tree → ℕ → (Binary → Reads) → Reads
+followed None left at go = Some (left, at)
+followed (Some op) left at go = go op
+
+-- Reading takes a bound on its steps, which grows with the line: see `enough`.
+unfoldable mutual
+  -- The expression of this rank that begins at a place: an operator of the rank and an expression of the rank, or an
+  -- expression of the next rank and operators of this one behind it. An operand has rank 8.
+  pub read : ℕ → Line → ℕ → ℕ → Reads
+  read zero line rank at = None
+  read (suc n) line rank at =
+      if rank == 8 then operand line at (read n line 0 (at + 1))
+      else prefixed (prefix_of (line at) rank) (read n line rank (at + 1)) (and_on (read n line (rank + 1) at) (λ left next. more n line rank left next))
+
+  -- an expression of this rank goes on, from left to right, as long as operators of the rank come
+  pub more : ℕ → Line → ℕ → Tree → ℕ → Reads
+  more zero line rank left at = None
+  more (suc n) line rank left at =
+      followed (infix_of (line at) rank) left at (λ op. and_on (read n line (rank + 1) (at + 1)) (λ right next. more n line rank (Two op left right) next))
+
+-- how many steps are enough for an expression of this rank before the end of so many symbols
+abbrev pub enough : ℕ → ℕ → ℕ
+enough left rank = 10 * left + (9 - rank)
+
+-- the expression that begins at a place of the tokens, or none
+abbrev pub expression_at : List ℕ → List Token → ℕ → Reads
+expression_at line tokens at = read (enough (length tokens - at) 0) (symbol_at line tokens) 0 at
+
+-- the tree and the place that a function handed out
+abbrev pub tree_and_place : Expr × ℕ → Tree × ℕ
+tree_and_place r = (tree_of r.0, r.1)
+
+-- the number of a fault; want of memory has none
+abbrev pub fault_of : ReadError → Option ℕ
+fault_of (Fault k) = Some k
+fault_of Memory = None
+
+-- what is read, or fault 6 where there is none
+abbrev pub or_fault_6 : Reads → Result (Tree × ℕ) ℕ
+or_fault_6 (Some r) = Ok r
+or_fault_6 None = Err 6
+
+-- a function gave this tree and place, or fault 6 where there is none, unless memory ran out
+abbrev pub GivesTree : Result (Expr × ℕ) ReadError → Reads → Type 0
+GivesTree result reads = Gives tree_and_place fault_of result (or_fault_6 reads)

@@ -1,0 +1,100 @@
+-- What a token is in an expression (the assembler's rules of words, texts and signs).
+use Rattle.std.specs.Prelude.{ℕ, ◌+◌, ◌-◌, ◌*◌, ◌==◌, if◌then◌else◌, List, [], ◌∷◌, length, Option, Some, None, option_map, codes, slice_get, slice_range, max}
+use Rattle.std.specs.Str.{bytes_eq}
+use Rattle.m51_cells.specs.Name.{name_of}
+use Rattle.m51_lex.specs.Characters.{quote}
+use Rattle.m51_lex.specs.declared.token.What.{What}
+use Rattle.m51_lex.specs.declared.token.What.TheVariants as what
+use Rattle.m51_lex.specs.declared.token.Token.{Token}
+use Rattle.m51_expr.specs.declared.symbol.Symbol.{Symbol}
+use Rattle.m51_expr.specs.declared.symbol.Symbol.TheVariants.{Number, Name, Word, Text, Here, Open, Close, Plus, Minus, Prefix, Infix, Comma, Colon, Hash, At, Other}
+use Rattle.m51_expr.specs.declared.tree.Unary.TheVariants as unary
+use Rattle.m51_expr.specs.declared.tree.Binary.TheVariants as binary
+use Rattle.m51_expr.specs.Words.{is_language_word}
+
+-- The first character of what stands between quotes, and what follows it. Two quotes stand for one.
+abbrev pub next_character : List ℕ → Option (ℕ × List ℕ)
+next_character [] = None
+next_character (c ∷ []) = Some (c, [])
+next_character (c ∷ d ∷ more) = if c == quote then Some (c, more) else Some (c, d ∷ more)
+
+abbrev pub two_characters : ℕ → Option (ℕ × List ℕ) → Option ℕ
+two_characters first None = Some first
+two_characters first (Some (second, [])) = Some (256 * first + second)
+two_characters first (Some (second, c ∷ more)) = None
+
+abbrev pub one_or_two_characters : Option (ℕ × List ℕ) → Option ℕ
+one_or_two_characters None = None
+one_or_two_characters (Some (first, more)) = two_characters first (next_character more)
+
+-- the number that a text of one or two characters is, the first one high
+abbrev pub text_value : List ℕ → Option ℕ
+text_value text = one_or_two_characters (next_character text)
+
+-- what a sign is, by its character
+abbrev pub sign_symbol : ℕ → Symbol
+sign_symbol sign =
+    if sign == 0x24 then Here
+    else if sign == 0x28 then Open
+    else if sign == 0x29 then Close
+    else if sign == 0x2B then Plus
+    else if sign == 0x2D then Minus
+    else if sign == 0x2A then Infix binary.Mul
+    else if sign == 0x2F then Infix binary.Div
+    else if sign == 0x2E then Infix binary.Dot
+    else if sign == 0x2C then Comma
+    else if sign == 0x3A then Colon
+    else if sign == 0x23 then Hash
+    else if sign == 0x40 then At
+    else Other
+
+-- the operator that a word is
+unfoldable pub operator_of : List ℕ → Option Symbol
+operator_of word =
+    if bytes_eq word (codes "HIGH") then Some (Prefix unary.High)
+    else if bytes_eq word (codes "LOW") then Some (Prefix unary.Low)
+    else if bytes_eq word (codes "NOT") then Some (Prefix unary.Not)
+    else if bytes_eq word (codes "MOD") then Some (Infix binary.Rem)
+    else if bytes_eq word (codes "SHL") then Some (Infix binary.Shl)
+    else if bytes_eq word (codes "SHR") then Some (Infix binary.Shr)
+    else if bytes_eq word (codes "EQ") then Some (Infix binary.Eq)
+    else if bytes_eq word (codes "NE") then Some (Infix binary.Ne)
+    else if bytes_eq word (codes "LT") then Some (Infix binary.Lt)
+    else if bytes_eq word (codes "LE") then Some (Infix binary.Le)
+    else if bytes_eq word (codes "GT") then Some (Infix binary.Gt)
+    else if bytes_eq word (codes "GE") then Some (Infix binary.Ge)
+    else if bytes_eq word (codes "AND") then Some (Infix binary.And)
+    else if bytes_eq word (codes "OR") then Some (Infix binary.Or)
+    else if bytes_eq word (codes "XOR") then Some (Infix binary.Xor)
+    else None
+
+abbrev pub operator_or_word : List ℕ → Option Symbol → Symbol
+operator_or_word word (Some symbol) = symbol
+operator_or_word word None = if is_language_word word then Word word else Name word
+
+-- an operator, a word of the language or a name
+abbrev pub word_symbol : List ℕ → Symbol
+word_symbol word = operator_or_word word (operator_of word)
+
+abbrev pub number_or_text : Option ℕ → Symbol
+number_or_text (Some n) = Number n
+number_or_text None = Text
+
+abbrev pub word_or_other : Option (List ℕ) → Symbol
+word_or_other (Some word) = word_symbol word
+word_or_other None = Other
+
+-- what these bytes are, as a token of the kind
+abbrev pub symbol_by : What → List ℕ → Symbol
+symbol_by what.Name text = word_or_other (name_of text)
+symbol_by (what.Number n) text = Number n
+symbol_by what.Text text = number_or_text (text_value (slice_range text 1 (max (length text) 2 - 1)))
+symbol_by (what.Sign sign) text = sign_symbol sign
+
+-- what a token of the line is
+unfoldable pub symbol_of : List ℕ → Token → Symbol
+symbol_of line t = symbol_by t.what (slice_range line t.from t.to)
+
+-- what the token at a place is
+abbrev pub symbol_at : List ℕ → List Token → ℕ → Option Symbol
+symbol_at line tokens at = option_map (symbol_of line) (slice_get tokens at)

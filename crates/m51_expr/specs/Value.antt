@@ -1,0 +1,47 @@
+-- Values of expressions: what parts and bit addresses are (this project's rules of values).
+use Rattle.std.specs.Prelude.{ℕ, ◌+◌, ◌-◌, ◌*◌, ◌/◌, ◌%◌, ◌==◌, Bool, true, false, ◌&&◌, nat_lt, nat_le, if◌then◌else◌, Option, Some, None, Result, Ok, Err, unwrap_or}
+use Rattle.m51_cells.specs.declared.kind.Base.TheVariants as base
+use Rattle.m51_cells.specs.declared.kind.Kind.{Kind}
+use Rattle.m51_expr.specs.declared.value.Part.{Part}
+use Rattle.m51_expr.specs.declared.value.Part.TheVariants.{Whole, High, Low, Bit}
+use Rattle.m51_expr.specs.declared.value.Value.{Value}
+use Rattle.m51_expr.specs.declared.fault.ExprError.{ExprError}
+
+-- a value, or a fault
+abbrev pub Valued : Type 0 → Type 0
+Valued A = Result A ExprError
+
+-- goes on with a value
+abbrev pub and_then : {A B : Type 0} → Valued A → (A → Valued B) → Valued B
+and_then (Ok a) go = go a
+and_then (Err e) go = Err e
+
+abbrev pub fault : {A : Type 0} → ℕ → Valued A
+fault k = Err (record { number = k })
+
+-- a number without a base
+abbrev pub plain : ℕ → Kind → Value
+plain n class = record { number = n; class = class; base = base.None; part = Whole }
+
+abbrev pub is_whole : Part → Bool
+is_whole Whole = true
+is_whole part = false
+
+-- The bits 0 to 7 of the bytes 20H to 2FH, and of multiples of 8 from 80H to 0F8H, have addresses.
+abbrev pub bit_address : ℕ → ℕ → Option ℕ
+bit_address byte bit =
+    if nat_lt 7 bit then None
+    else if nat_le 0x20 byte && nat_le byte 0x2F then Some ((byte - 0x20) * 8 + bit)
+    else if (nat_le 0x80 byte && nat_le byte 0xF8) && byte % 8 == 0 then Some (byte + bit)
+    else None
+
+-- a number under HIGH, LOW or the dot
+abbrev pub part_of : ℕ → Part → ℕ
+part_of n Whole = n
+part_of n High = n / 256
+part_of n Low = n % 256
+part_of n (Bit b) = unwrap_or (bit_address n b) 0
+
+-- what a value with no base or an absolute one counts as in an operator
+abbrev pub counted : Value → ℕ
+counted v = part_of v.number v.part

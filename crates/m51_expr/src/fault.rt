@@ -1,0 +1,44 @@
+//! What may be wrong with an expression.
+ghost use Rattle.std.specs.Prelude.{◌≡◌};
+
+use std::alloc::{AllocError, AllocFailed};
+
+/// What is wrong with an expression that is read.
+///
+/// Source: own choice ("Faults of a line").
+#[derive(Clone, Copy, Debug, PartialEq, Eq)]
+pub enum ReadError {
+    /// The fault E`number`, which is 6: no expression stands there.
+    Fault { number: u8 },
+    /// Want of memory.
+    Memory,
+}
+
+impl From<AllocError> for ReadError {
+    ghost use Rattle.m51_expr.specs.declared.fault.ReadError.TheVariants.{Memory};
+
+    ghost from_gives = { λ _ e. e ≡ Memory };
+
+    fn from(_error: AllocError) -> ReadError {
+        ReadError::Memory
+    }
+}
+
+impl<T: Drop> From<AllocFailed<T>> for ReadError {
+    ghost use Rattle.m51_expr.specs.declared.fault.ReadError.TheVariants.{Memory};
+
+    ghost from_gives = { λ _ e. e ≡ Memory };
+
+    fn from(_error: AllocFailed<T>) -> ReadError {
+        ReadError::Memory
+    }
+}
+
+/// The fault E`number` of an expression that has no value: 7 for a name without a value, 8 for a base where none may
+/// stand, 9 for a division by 0, 10 for a bit number over 7 or a byte whose bits have no addresses.
+///
+/// Source: own choice ("Faults of a line").
+#[derive(Clone, Copy, Debug, PartialEq, Eq)]
+pub struct ExprError {
+    pub number: u8,
+}

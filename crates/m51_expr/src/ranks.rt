@@ -1,0 +1,119 @@
+//! The ranks of operators.
+ghost use Rattle.std.specs.Prelude.{◌≡◌, IsSome, option_map, true};
+ghost use Rattle.m51_expr.specs.Tree.{tree_of};
+ghost use Rattle.m51_expr.specs.Ranks.{prefix_operator, infix_operator, prefix_of, infix_of, is_open, is_close, leaf_of, prefix_rank, infix_rank};
+
+use crate::symbol::Symbol;
+use crate::tree::{Binary, Expr, Unary};
+
+/// The rank of operands, which is the tightest.
+pub(crate) const OPERAND: u8 = 8;
+
+fn prefix_rank(op: Unary) -> u8
+    ensures { result ≡ prefix_rank op }
+{
+    match op {
+        Unary::Not => 2,
+        Unary::Plus | Unary::Minus | Unary::High | Unary::Low => 6,
+    }
+}
+
+fn infix_rank(op: Binary) -> u8
+    ensures { result ≡ infix_rank op }
+{
+    match op {
+        Binary::Or | Binary::Xor => 0,
+        Binary::And => 1,
+        Binary::Eq | Binary::Ne | Binary::Lt | Binary::Le | Binary::Gt | Binary::Ge => 3,
+        Binary::Add | Binary::Sub => 4,
+        Binary::Mul | Binary::Div | Binary::Rem | Binary::Shl | Binary::Shr => 5,
+        Binary::Dot => 7,
+    }
+}
+
+// The operator that a symbol is before an operand.
+fn prefix_operator(symbol: &Option<Symbol>) -> Option<Unary>
+    ensures op { result ≡ prefix_operator symbol.now }
+    ensures some { IsSome result → IsSome symbol.now }
+{
+    match symbol {
+        Some(Symbol::Plus) => Some(Unary::Plus),
+        Some(Symbol::Minus) => Some(Unary::Minus),
+        Some(Symbol::Prefix(op)) => Some(*op),
+        _ => None,
+    }
+}
+
+// The operator that a symbol is between two operands.
+fn infix_operator(symbol: &Option<Symbol>) -> Option<Binary>
+    ensures op { result ≡ infix_operator symbol.now }
+    ensures some { IsSome result → IsSome symbol.now }
+{
+    match symbol {
+        Some(Symbol::Plus) => Some(Binary::Add),
+        Some(Symbol::Minus) => Some(Binary::Sub),
+        Some(Symbol::Infix(op)) => Some(*op),
+        _ => None,
+    }
+}
+
+/// The operator before an operand, where its rank is this one.
+pub(crate) fn prefix_of(symbol: &Option<Symbol>, rank: u8) -> Option<Unary>
+    ensures op { result ≡ prefix_of symbol.now rank }
+    ensures some { IsSome result → IsSome symbol.now }
+{
+    let op = prefix_operator(symbol)?;
+    if rank == prefix_rank(op) {
+        Some(op)
+    } else {
+        None
+    }
+}
+
+/// The operator between two operands, where its rank is this one.
+pub(crate) fn infix_of(symbol: &Option<Symbol>, rank: u8) -> Option<Binary>
+    ensures op { result ≡ infix_of symbol.now rank }
+    ensures some { IsSome result → IsSome symbol.now }
+{
+    let op = infix_operator(symbol)?;
+    if rank == infix_rank(op) {
+        Some(op)
+    } else {
+        None
+    }
+}
+
+/// Whether it is an opening parenthesis.
+pub(crate) fn is_open(symbol: &Option<Symbol>) -> bool
+    ensures open { result ≡ is_open symbol.now }
+    ensures some { result ≡ true → IsSome symbol.now }
+{
+    match symbol {
+        Some(Symbol::Open) => true,
+        _ => false,
+    }
+}
+
+/// Whether it is a closing parenthesis.
+pub(crate) fn is_close(symbol: &Option<Symbol>) -> bool
+    ensures close { result ≡ is_close symbol.now }
+    ensures some { result ≡ true → IsSome symbol.now }
+{
+    match symbol {
+        Some(Symbol::Close) => true,
+        _ => false,
+    }
+}
+
+/// The expression that a symbol is alone: a number, a name or the place of the statement.
+pub(crate) fn leaf_of(symbol: &Option<Symbol>) -> Option<Expr>
+    ensures leaf { option_map tree_of result ≡ leaf_of symbol.now }
+    ensures some { IsSome result → IsSome symbol.now }
+{
+    match symbol {
+        Some(Symbol::Number(n)) => Some(Expr::Number(*n)),
+        Some(Symbol::Name(name)) => Some(Expr::Name(*name)),
+        Some(Symbol::Here) => Some(Expr::Here),
+        _ => None,
+    }
+}

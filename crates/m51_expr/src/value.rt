@@ -1,0 +1,85 @@
+//! Values of expressions.
+ghost use Rattle.std.specs.Prelude.{◌≡◌};
+ghost use Rattle.m51_expr.specs.Value.{plain, is_whole, bit_address, counted};
+
+use m51_cells::{Base, Kind};
+
+/// The operator that stands over the number of a value with a base.
+///
+/// Source: own choice ("Values with a base").
+#[derive(Clone, Copy, Debug, PartialEq, Eq)]
+pub enum Part {
+    /// None.
+    Whole,
+    /// `HIGH`
+    High,
+    /// `LOW`
+    Low,
+    /// `.` and a bit number from 0 to 7.
+    Bit(u8),
+}
+
+/// The value of an expression.
+///
+/// Source: own choice ("Values with a base").
+#[derive(Clone, Copy, Debug, PartialEq, Eq)]
+pub struct Value {
+    /// The number, counted from the base; where a part is named, that of its operand.
+    pub number: u16,
+    /// What memory the value is of.
+    pub class: Kind,
+    pub base: Base,
+    pub part: Part,
+}
+
+/// A number without a base.
+pub(crate) fn plain(number: u16, class: Kind) -> Value
+    ensures { result ≡ plain number class }
+{
+    Value {
+        number,
+        class,
+        base: Base::None,
+        part: Part::Whole,
+    }
+}
+
+/// Whether neither `HIGH`, `LOW` nor `.` stands over the number.
+pub(crate) fn is_whole(part: Part) -> bool
+    ensures { result ≡ is_whole part }
+{
+    match part {
+        Part::Whole => true,
+        Part::High | Part::Low | Part::Bit(_) => false,
+    }
+}
+
+/// The bit address of a bit of a byte, if it has one.
+pub(crate) fn bit_address(byte: u16, bit: u16) -> Option<u16>
+    ensures { result ≡ bit_address byte bit }
+{
+    if bit > 7 {
+        None
+    } else if 0x20 <= byte && byte <= 0x2F {
+        Some((byte - 0x20) * 8 + bit)
+    } else if 0x80 <= byte && byte <= 0xF8 && byte % 8 == 0 {
+        Some(byte + bit)
+    } else {
+        None
+    }
+}
+
+/// What a value with no base or an absolute one counts as in an operator.
+pub(crate) fn counted(value: Value) -> u16
+    ensures { result ≡ counted value }
+{
+    match value.part {
+        Part::Whole => value.number,
+        Part::High => value.number / 256,
+        Part::Low => value.number % 256,
+        Part::Bit(bit) => match bit_address(value.number, u16::from(bit)) {
+            Some(address) => address,
+            None => 0,
+        },
+    }
+}

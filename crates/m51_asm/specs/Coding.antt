@@ -1,5 +1,5 @@
 -- Instructions of the table, with the labels that they use.
-use Rattle.std.specs.Prelude.{ℕ, List, [], ◌∷◌, find, Option, Some, None, option_map}
+use Rattle.std.specs.Prelude.{ℕ, List, [], ◌∷◌, position, slice_get, Option, Some, None, option_map, option_and_then}
 use Rattle.std.specs.Str.{bytes_eq}
 use Rattle.m51_isa.specs.declared.instr.Instr.{Instr}
 use Rattle.m51_isa.specs.declared.instr.Instr.TheVariants.{MovAData, MovDirectData, MovADirect, MovDirectA, SjmpRel}
@@ -10,9 +10,13 @@ use Rattle.m51_asm.specs.declared.instruction.Direct.{Direct}
 use Rattle.m51_asm.specs.declared.instruction.Instruction.{Instruction}
 use Rattle.m51_asm.specs.declared.instruction.Instruction.TheVariants.{DataToAcc, DataTo, AccTo, ToAcc, JumpHere}
 
+-- where the label of that name stands, counted from 0
+abbrev pub label_at : List Label → List ℕ → Option ℕ
+label_at labels name = position (λ label. bytes_eq label.name name) labels
+
 -- the label of that name
 abbrev pub label_of : List Label → List ℕ → Option Label
-label_of labels name = find (λ label. bytes_eq label.name name) labels
+label_of labels name = option_and_then (slice_get labels) (label_at labels name)
 
 abbrev pub address_from : Option ℕ → Option Label → Option Address
 address_from predefined (Some label) = Some (record { byte = 0; label = Some label })

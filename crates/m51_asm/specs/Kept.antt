@@ -52,7 +52,7 @@ pub record IsUse (segments bytes : ℕ) (f : Fixup) : Type 0 where
 
 -- nothing is coded before CSEG, and at the end there is a byte
 abbrev pub IsPhase : Phase → Coded → Type 0
-IsPhase Declaring c = length c.fixups ≡ 0
+IsPhase Declaring c = c.count ≡ 0
 IsPhase Coding c = c.count ≤ length c.bytes
 IsPhase Ended c = 0 < length c.bytes
 

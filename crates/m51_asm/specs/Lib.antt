@@ -3,7 +3,7 @@ pub mod Numbers
 pub mod Naming
 pub mod Instruction
 pub mod Statement
-pub mod Declared
+pub mod Declarations
 pub mod Coding
 pub mod Code
 pub mod Work

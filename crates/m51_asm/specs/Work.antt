@@ -12,7 +12,7 @@ use Rattle.m51_asm.specs.declared.work.Phase.{Phase}
 use Rattle.m51_asm.specs.declared.work.Phase.TheVariants.{Declaring, Coding as InCode, Ended}
 use Rattle.m51_asm.specs.declared.work.Work.{Work}
 use Rattle.m51_asm.specs.Statement.{statement_of}
-use Rattle.m51_asm.specs.Declared.{nothing_declared, place_of, declared_by, IsFew}
+use Rattle.m51_asm.specs.Declarations.{nothing_declared, place_of, declared_by, IsFew}
 use Rattle.m51_asm.specs.Coding.{coding_of}
 use Rattle.m51_asm.specs.Code.{nothing_coded, coded_with}
 
@@ -36,7 +36,7 @@ passed w phase = record w { phase = phase; rows = w.rows ++ row_at (line_of w) N
 abbrev pub declared_line : Work → Declaration → Option Work
 declared_line w declaration =
     option_map (λ declared. record w { declared = declared; rows = w.rows ++ row_at (line_of w) (place_of w.declared declaration) [] false ∷ [] })
-      (declared_by w.declared declaration)
+    (declared_by w.declared declaration)
 
 -- an instruction: its bytes stand behind those of the others, in the segment after those of data
 abbrev pub with_code : Work → Coding → Work

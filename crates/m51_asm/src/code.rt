@@ -7,7 +7,7 @@ use crate::address::Coding;
 use crate::declared::Label;
 use crate::items::Items;
 use m51_cells::{Base, Bytes, NoMemory};
-use m51_isa::{Code, Instr, encode};
+use m51_isa::{Instr, encode, fronts_agree};
 use m51_module::{Fixup, Form};
 use std::alloc::Global;
 
@@ -27,11 +27,10 @@ pub(crate) struct Coded {
 fn push_instr(code: &mut Bytes, instr: &Instr) -> Result<(), NoMemory>
     ensures { OnOk result (code.new ≡ code.old ++ encoded instr.now) }
 {
+    fronts_agree();
     let encoding = encode(instr);
-    code.push(encoding.bytes[0])?;
-    code.push(encoding.bytes[1])?;
-    if encoding.len == 3 {
-        code.push(encoding.bytes[2])?;
+    for byte in &encoding.bytes[..usize::from(encoding.len)] {
+        code.push(*byte)?;
     }
     Ok(())
 }

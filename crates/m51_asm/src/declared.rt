@@ -1,6 +1,6 @@
 //! What is declared before the code.
 ghost use Rattle.std.specs.Prelude.{◌≡◌, ◌≤◌, IfOk, IfSome, length};
-ghost use Rattle.m51_asm.specs.Declared.{nothing_declared, data_segment, is_free, segment_at, open_size, place_of, IsFew, grown, labelled, with_segment, with_open, with_label, declared_by};
+ghost use Rattle.m51_asm.specs.Declarations.{nothing_declared, data_segment, names_segment, names_label, larger, is_free, segment_at, open_size, place_of, IsFew, grown, labelled, with_segment, with_open, with_label, declared_by};
 
 use crate::items::Items;
 use crate::statement::Declaration;
@@ -31,7 +31,7 @@ pub(crate) struct Declared {
     pub segments: Items<Segment>,
     pub labels: Items<Label>,
     /// The place in `segments`, counted from 0, of the segment that RSEG opened.
-    pub open: Option<u8>,
+    pub opened: Option<u8>,
 }
 
 // A segment of data before its first byte.
@@ -58,6 +58,37 @@ fn segment_at(segments: &[Segment], name: &Name) -> Option<usize>
         .position(|segment| segment.name.bytes() == name.bytes())
 }
 
+// Whether a segment has the name.
+fn names_segment(segments: &[Segment], name: &Name) -> bool
+    ensures { result ≡ names_segment segments.now name.now }
+{
+    segments
+        .iter()
+        .any(|segment| segment.name.bytes() == name.bytes())
+}
+
+// Whether a label has the name.
+fn names_label(labels: &[Label], name: &Name) -> bool
+    ensures { result ≡ names_label labels.now name.now }
+{
+    labels
+        .iter()
+        .any(|label| label.name.bytes() == name.bytes())
+}
+
+// The segment with so many bytes more, which are at most 128 in all.
+fn larger(segment: Segment, count: u16) -> Option<Segment>
+    ensures { result ≡ larger count segment }
+{
+    let size = u32::from(segment.size) + u32::from(count);
+    if size > u32::from(LARGEST_SEGMENT) {
+        return None;
+    }
+    let mut segment = segment;
+    segment.size = size as u16;
+    Some(segment)
+}
+
 impl Declared {
     /// Nothing is declared.
     pub fn new(alloc: Global) -> Declared
@@ -66,7 +97,7 @@ impl Declared {
         Declared {
             segments: Items::new(alloc),
             labels: Items::new(alloc),
-            open: None,
+            opened: None,
         }
     }
 
@@ -75,23 +106,15 @@ impl Declared {
         ensures { result ≡ is_free self.now name.now }
     {
         !is_reserved(name.bytes())
-            && !self
-                .segments
-                .as_slice()
-                .iter()
-                .any(|segment| segment.name.bytes() == name.bytes())
-            && !self
-                .labels
-                .as_slice()
-                .iter()
-                .any(|label| label.name.bytes() == name.bytes())
+            && !names_segment(self.segments.as_slice(), name)
+            && !names_label(self.labels.as_slice(), name)
     }
 
     /// The size of the segment that RSEG opened.
     pub fn open_size(&self) -> Option<u16>
         ensures { result ≡ open_size self.now }
     {
-        let at = self.open?;
+        let at = self.opened?;
         let segment = self.segments.as_slice().get(usize::from(at))?;
         Some(segment.size)
     }
@@ -124,7 +147,7 @@ impl Declared {
     {
         let at = segment_at(self.segments.as_slice(), name)?;
         let mut next = self;
-        next.open = Some(at as u8);
+        next.opened = Some(at as u8);
         Some(next)
     }
 
@@ -132,13 +155,9 @@ impl Declared {
     fn grown(self, count: u16) -> Option<Declared>
         ensures { result ≡ grown count self }
     {
-        let at = usize::from(self.open?);
-        let mut segment = *self.segments.as_slice().get(at)?;
-        let size = u32::from(segment.size) + u32::from(count);
-        if size > u32::from(LARGEST_SEGMENT) {
-            return None;
-        }
-        segment.size = size as u16;
+        let at = usize::from(self.opened?);
+        let segment = *self.segments.as_slice().get(at)?;
+        let segment = larger(segment, count)?;
         let mut next = self;
         next.segments.set(at, segment);
         Some(next)
@@ -149,7 +168,7 @@ impl Declared {
         requires { IsFew self }
         ensures { IfOk result (λ next. next ≡ labelled self name.now) }
     {
-        let Some(at) = self.open else {
+        let Some(at) = self.opened else {
             return Ok(None);
         };
         let Some(place) = self.open_size() else {

@@ -58,7 +58,8 @@ fn a_port_line_has_no_fixup(rt: HostRuntime) -> Result<(), Fail> {
 
 #[test]
 fn each_use_of_a_label_is_a_fixup(rt: HostRuntime) -> Result<(), Fail> {
-    let text = b"A1 SEGMENT DATA\nb1 SEGMENT DATA\nRSEG A1\nX: DS 1\nRSEG B1\nDS 2\ny: DS 1\nCSEG AT 0\nMOV X,#5H\nMOV Y,#6H\nMOV A,X\nMOV P1,A\nSJMP $\nEND\n";
+    let text =
+        b"A1 SEGMENT DATA\nb1 SEGMENT DATA\nRSEG A1\nX: DS 1\nRSEG B1\nDS 2\ny: DS 1\nCSEG AT 0\nMOV X,#5H\nMOV Y,#6H\nMOV A,X\nMOV P1,A\nSJMP $\nEND\n";
     let content = [
         0x75, 0x00, 0x05, 0x75, 0x00, 0x06, 0xE5, 0x00, 0xF5, 0x90, 0x80, 0xFE,
     ];
@@ -72,7 +73,10 @@ fn each_use_of_a_label_is_a_fixup(rt: HostRuntime) -> Result<(), Fail> {
                 let addend = fixup.addend;
                 write!(found, "{offset} {target:?} {addend}; ")?;
             }
-            assert_eq!(rt; found.as_str(), "1 Segment(1) 0; 4 Segment(2) 2; 7 Segment(1) 0; ");
+            assert_eq!(rt;
+                found.as_str(),
+                "1 Segment(1) 0; 4 Segment(2) 2; 7 Segment(1) 0; "
+            );
             let mut places = String::new(rt.alloc());
             for row in rows.as_slice() {
                 let place = row.place;
@@ -80,7 +84,10 @@ fn each_use_of_a_label_is_a_fixup(rt: HostRuntime) -> Result<(), Fail> {
                 let marked = row.marked;
                 write!(places, "{place:?} {count} {marked}; ")?;
             }
-            assert_eq!(rt; places.as_str(), "None 0 false; None 0 false; None 0 false; Some(0) 0 false; None 0 false; Some(0) 0 false; Some(2) 0 false; None 0 false; Some(0) 3 true; Some(3) 3 true; Some(6) 2 true; Some(8) 2 false; Some(10) 2 false; None 0 false; ");
+            assert_eq!(rt;
+                places.as_str(),
+                "None 0 false; None 0 false; None 0 false; Some(0) 0 false; None 0 false; Some(0) 0 false; Some(2) 0 false; None 0 false; Some(0) 3 true; Some(3) 3 true; Some(6) 2 true; Some(8) 2 false; Some(10) 2 false; None 0 false; "
+            );
         }
         Assembled::Faults(_) => assert!(rt; false),
     }

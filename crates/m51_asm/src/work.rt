@@ -1,5 +1,5 @@
 //! What the lines of a source give, line by line.
-ghost use Rattle.std.specs.Prelude.{◌≡◌, ◌<◌, IfOk, Bool, Option, List, ℕ};
+ghost use Rattle.std.specs.Prelude.{◌≡◌, ◌+◌, false, [], length, Some, IfOk};
 ghost use Rattle.m51_isa.specs.Table.{encoded};
 ghost use Rattle.m51_asm.specs.Work.{nothing_yet, row_at, passed, declared_line, coded_line, taken, next_of, IsWithin};
 
@@ -18,7 +18,7 @@ use std::alloc::Global;
 pub(crate) const MOST_LINES: usize = 65535;
 
 /// What may come next.
-#[derive(Clone, Copy, Debug, PartialEq, Eq)]
+#[derive(Clone, Copy)]
 pub(crate) enum Phase {
     /// Declarations, or `CSEG AT 0`.
     Declaring,
@@ -57,12 +57,13 @@ fn code_row(line: u32, place: u16, instr: &Instr, marked: bool) -> Row
     ensures { result ≡ row_at line (Some place) (encoded instr.now) marked }
 {
     let code = encode(instr);
+    let bytes = code.bytes;
     Row {
         file: 0,
         line,
         place: Some(place),
         count: code.len,
-        bytes: code.bytes,
+        bytes,
         marked,
     }
 }

@@ -1,0 +1,9 @@
+pub mod Breaks
+pub mod Options
+pub mod Written
+pub mod Named
+pub mod Declaring
+pub mod Codings
+pub mod Keeping
+pub mod Valid
+pub mod Ending

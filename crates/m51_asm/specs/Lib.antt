@@ -1,0 +1,12 @@
+pub mod Lines
+pub mod Numbers
+pub mod Naming
+pub mod Instruction
+pub mod Statement
+pub mod Declarations
+pub mod Coding
+pub mod Code
+pub mod Work
+pub mod Module
+pub mod Assembled
+pub mod Kept

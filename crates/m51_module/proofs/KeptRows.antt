@@ -90,6 +90,13 @@ segment_found rows unit count segments row h there is found = let within : Conta
   ];
 }
 
+-- the row of a segment is its owners
+pub owners_of_row : (l : LayoutParts) (owner_rows local_rows : List (List ℕ)) (segment : ℕ) (row : List ℕ) → IsKept l owner_rows local_rows → segment < length l.placed
+    → row ≡ slice_index_or owner_rows segment row → row ≡ owners_of l.owners segment
+owners_of_row l owner_rows local_rows segment row kept below is =
+    let there : segment < length owner_rows = omega (arith, kept.owners.len, below) in
+    sym (row_is owner_rows segment row there is) ∙ kept.owners.each segment below
+
 -- the row of a unit is its locals
 pub locals_of_row : (l : LayoutParts) (owner_rows local_rows : List (List ℕ)) (unit : ℕ) (row : List ℕ) → IsKept l owner_rows local_rows → unit < length l.units
     → row ≡ slice_index_or local_rows unit row → AreLocals l unit row

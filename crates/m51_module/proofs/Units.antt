@@ -1,5 +1,5 @@
 -- Units of a sound layout: each is a segment of program memory, and no two are at one address or at one vector.
-use Rattle.std.proofs.Common.{◌≡◌, ◌≢◌, ◌⊎◌, inl, inr, ℕ, zero, suc, ◌<◌, Some, length, refl, sym, ap, subst, ◌∙◌, arith}
+use Rattle.std.proofs.Common.{◌≡◌, ◌≢◌, ◌⊎◌, inl, inr, ℕ, zero, suc, ◌<◌, Some, [], length, refl, sym, ap, subst, ◌∙◌, arith}
 use Rattle.std.specs.Prelude.{slice_index, slice_index_or}
 use Rattle.std.specs.List.{Contains}
 use Rattle.std.proofs.lemmas.Option.{slice_get_within, slice_get-get_or}
@@ -12,8 +12,9 @@ use Rattle.m51_module.specs.declared.placed.Placed.{Placed}
 use Rattle.m51_module.specs.Cells.{extent_at, code_cell}
 use Rattle.m51_module.specs.Roots.{vectors}
 use Rattle.m51_module.specs.Conflict.{FirstPlain}
-use Rattle.m51_module.specs.Plan.{IsPlaced, IsUnit, IsOverlaid, IsUnitAt, IsRootAt}
+use Rattle.m51_module.specs.Plan.{IsPlaced, IsUnit, IsOverlaid, IsUnitAt, IsRootAt, owners_of}
 use Rattle.m51_module.specs.Sound.{IsSound}
+use Rattle.m51_module.proofs.Owning.{empty_of_none}
 
 -- two numbers are equal or not
 pub same_or_not : (s t : ℕ) → (s ≡ t) ⊎ (s ≢ t)
@@ -105,3 +106,7 @@ pub parts_from_root : (l : LayoutParts) (vector unit : ℕ) (p : Placed) → IsU
 parts_from_root l vector unit p h r =
     let e : r.is ≡ p = same_unit l unit r.is p r.unit_is h in
     record { vector_is = r.vector_is; absolute = sym (ap (λ (q : Placed). q.mark) e) ∙ r.absolute; base = sym (ap (λ (q : Placed). q.base) e) ∙ r.base }
+
+-- what is not overlaid has no owners
+pub plain_has_none : (l : LayoutParts) (segment : ℕ) → IsSound l → (IsOverlaid l segment → ⊥) → owners_of l.owners segment ≡ []
+plain_has_none l segment sound plain = empty_of_none (owners_of l.owners segment) (λ unit owns. plain (sound.owned unit segment owns).1)

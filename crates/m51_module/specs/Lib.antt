@@ -5,6 +5,7 @@ pub mod Kept
 pub mod Plan
 pub mod Rising
 pub mod Roots
+pub mod Sample
 pub mod Sound
 pub mod Validity
 pub mod Walks

@@ -1,9 +1,9 @@
 //! Sound layouts.
-ghost use Rattle.std.specs.Prelude.{◌≡◌, ◌<◌, ◌≤◌, ◌↔◌, ℕ, IsTrue, IfOk, IfSome, Some, length};
+ghost use Rattle.std.specs.Prelude.{◌≡◌, ◌<◌, ◌≤◌, ◌↔◌, ℕ, IsTrue, IfOk, IfSome, Some, [], length};
 ghost use Rattle.std.specs.List.{Contains};
 ghost use Rattle.m51_module.specs.Roots.{vectors};
 ghost use Rattle.m51_module.specs.Walks.{HasEdge};
-ghost use Rattle.m51_module.specs.Plan.{owners_of, AreLocals, IsUnit, IsRootAt, IsUnitAt};
+ghost use Rattle.m51_module.specs.Plan.{owners_of, AreLocals, IsOverlaid, IsUnit, IsRootAt, IsUnitAt};
 ghost use Rattle.m51_module.specs.Sound.{IsSound};
 
 use crate::rows::{local_rows, owner_rows};
@@ -155,7 +155,8 @@ impl Layout {
     /// Source: own choice ("Owners").
     pub fn owners(&self, segment: u16) -> &[u16]
         requires { segment < length self.now.placed }
-        ensures { result.now ≡ owners_of self.now.owners segment }
+        ensures list { result.now ≡ owners_of self.now.owners segment }
+        ensures plain { (IsOverlaid self.now segment → ⊥) → result.now ≡ [] }
     {
         self.owner_rows[usize::from(segment)].as_slice()
     }

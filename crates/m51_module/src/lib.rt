@@ -9,6 +9,7 @@ mod module;
 mod parts;
 mod placed;
 mod rows;
+mod sample;
 mod segment;
 mod source;
 mod symbol;
@@ -23,3 +24,6 @@ pub use placed::{Mark, Pairs, Placed, PlacedList, Units};
 pub use segment::{Segment, Segments};
 pub use source::{Row, Rows, SourceFile};
 pub use symbol::{External, ExternalList, Public, Publics};
+
+#[cfg(test)]
+mod tests;

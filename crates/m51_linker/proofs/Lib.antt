@@ -1,2 +1,6 @@
+pub mod FillingLemmas
 pub mod Lists
+pub mod PatchingLemmas
+pub mod PlacingLemmas
+pub mod RunLemmas
 pub mod TargetLemmas

@@ -1,5 +1,5 @@
 -- Which modules the first linker takes.
-use Rattle.std.specs.Prelude.{◌≡◌, ℕ, Bool, true, false, [], length}
+use Rattle.std.specs.Prelude.{◌≡◌, ℕ, Bool, true, false, List, [], length}
 use Rattle.std.specs.List.{All, filter}
 use Rattle.m51_cells.specs.declared.kind.Base.{Base}
 use Rattle.m51_cells.specs.declared.kind.Base.TheVariants.{Segment as InSegment}
@@ -47,11 +47,18 @@ pub record IsTakenFixup (f : Fixup) : Type 0 where
   pub form : f.form ≡ Byte
   pub target : IsSegmentBase f.target
 
--- A module is of the first shape: it uses no external and no bank but bank 0, and of its segments, all of which are
--- taken, one is absolute.
-pub record IsFirstShape (m : ModuleParts) : Type 0 where
+-- the module uses no external, and no bank but bank 0
+pub record IsAlone (m : ModuleParts) : Type 0 where
   pub externals : m.externals ≡ []
   pub banks : m.banks ≡ 1
-  pub segments : All IsTakenSegment m.segments
-  pub one_start : length (filter is_absolute m.segments) ≡ 1
+
+-- all of the segments are taken, and one of them is absolute
+pub record AreTakenSegments (segments : List Segment) : Type 0 where
+  pub each : All IsTakenSegment segments
+  pub one_start : length (filter is_absolute segments) ≡ 1
+
+-- A module is of the first shape: it is alone, and its segments and fixups are taken.
+pub record IsFirstShape (m : ModuleParts) : Type 0 where
+  pub alone : IsAlone m
+  pub segments : AreTakenSegments m.segments
   pub fixups : All IsTakenFixup m.fixups

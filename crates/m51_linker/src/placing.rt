@@ -1,5 +1,5 @@
 //! Where the segments of a module stand.
-ghost use Rattle.std.specs.Prelude.{◌≡◌, [], ◌∷◌, ◌++◌, All, IfOk, IfErr, OnOk, codes};
+ghost use Rattle.std.specs.Prelude.{◌≡◌, [], ◌∷◌, ◌++◌, All, IfOk, OnOk, codes};
 ghost use Rattle.m51_linker.specs.Placement.{bank_0, absolute_at, plain_at, absolutes_of, fixed_of, relocatable_of, PlacesNext, Places};
 ghost use Rattle.m51_linker.specs.Shape.{IsData};
 
@@ -106,15 +106,12 @@ fn next(earlier: &[Placed], segment: &Segment) -> Result<Placed, Refusal>
     }
 }
 
-// Adds an extent; want of memory is the one refusal.
-fn add(placed: &mut Vec<Placed>, extent: Placed) -> Result<(), Refusal>
-    ensures ok { OnOk result (placed.new.items ≡ placed.old.items ++ extent ∷ []) }
-    ensures err { IfErr result (λ refusal. refusal ≡ Refusal.Memory) }
+// Adds an extent.
+fn add(placed: &mut Vec<Placed>, extent: Placed) -> Result<(), NoMemory>
+    ensures { OnOk result (placed.new.items ≡ placed.old.items ++ extent ∷ []) }
 {
-    match placed.push(extent) {
-        Ok(()) => Ok(()),
-        Err(_) => Err(Refusal::Memory),
-    }
+    placed.push(extent)?;
+    Ok(())
 }
 
 /// Places segments of DATA in this order behind the earlier extents: each at the least base that is free. L12 names the

@@ -1,7 +1,7 @@
 //! The shape of the modules that the first linker takes.
 ghost use Rattle.std.specs.Prelude.{◌≡◌, ◌↔◌, IsTrue, All, length};
 ghost use Rattle.std.specs.List.{filter};
-ghost use Rattle.m51_linker.specs.Shape.{is_absolute, IsStart, IsData, IsTakenSegment, IsSegmentBase, IsTakenFixup, IsFirstShape};
+ghost use Rattle.m51_linker.specs.Shape.{is_absolute, IsStart, IsData, IsTakenSegment, IsSegmentBase, AreTakenSegments, IsTakenFixup, IsAlone, IsFirstShape};
 
 use m51_cells::{Base, Kind, Reloc};
 use m51_module::{Fixup, Form, Module, Segment};
@@ -36,10 +36,24 @@ fn is_taken(segment: &Segment) -> bool
     is_start(segment) || is_data(segment)
 }
 
-fn are_taken(segments: &[Segment]) -> bool
+fn are_each_taken(segments: &[Segment]) -> bool
     ensures { IsTrue result ↔ All IsTakenSegment segments.now }
 {
     segments.iter().all(is_taken)
+}
+
+// How many segments are absolute.
+fn absolute_count(segments: &[Segment]) -> usize
+    ensures { result ≡ length (filter is_absolute segments.now) }
+{
+    segments.iter().filter(|segment| is_absolute(segment)).count()
+}
+
+// Whether all segments are taken, and one is absolute.
+fn are_taken(segments: &[Segment]) -> bool
+    ensures { IsTrue result ↔ AreTakenSegments segments.now }
+{
+    are_each_taken(segments) && absolute_count(segments) == 1
 }
 
 // Whether the base is a segment.
@@ -65,11 +79,12 @@ fn are_taken_fixups(fixups: &[Fixup]) -> bool
     fixups.iter().all(is_taken_fixup)
 }
 
-// How many segments are absolute.
-fn absolute_count(segments: &[Segment]) -> usize
-    ensures { result ≡ length (filter is_absolute segments.now) }
+// Whether the module uses no external, and no bank but bank 0.
+#[tactic(auto, using(crate::proofs::Lists::empty_list))]
+fn is_alone(module: &Module) -> bool
+    ensures { IsTrue result ↔ IsAlone «module».now }
 {
-    segments.iter().filter(|segment| is_absolute(segment)).count()
+    module.externals().is_empty() && module.banks() == 1
 }
 
 /// Whether the module is of the first shape: one absolute segment, of program memory and at 0000H, the others DATA of
@@ -77,9 +92,8 @@ fn absolute_count(segments: &[Segment]) -> usize
 pub fn is_first_shape(module: &Module) -> bool
     ensures { IsTrue result ↔ IsFirstShape «module».now }
 {
-    module.externals().is_empty()
-        && module.banks() == 1
-        && are_taken(module.segments())
-        && absolute_count(module.segments()) == 1
-        && are_taken_fixups(module.fixups())
+    if !is_alone(module) || !are_taken(module.segments()) {
+        return false;
+    }
+    are_taken_fixups(module.fixups())
 }

@@ -1,3 +1,4 @@
+pub mod CoverLemmas
 pub mod FillingLemmas
 pub mod Lists
 pub mod PatchingLemmas

@@ -34,9 +34,9 @@ module _ (segments : List Segment) (placed : List Placed) where
   elsewhere fixups count d old address byte below other (Unpatched none same) = Unpatched (All-more (λ f. f.offset ≢ address) fixups count d below none other) same
 
   pub patches_more : (fixups : List Fixup) (count target value : ℕ) (d : Fixup) (old mid : List ℕ) → count < length fixups → Patches segments placed (take count fixups) old mid
-      → IsTargetOf segments placed (get_or fixups count d) target → value ≡ target % 256 → (get_or fixups count d).offset < length old
+      → IsTargetOf segments placed (get_or fixups count d) target → value ≡ target % 256
       → Patches segments placed (take (count + 1) fixups) old (set mid (get_or fixups count d).offset value)
-  patches_more fixups count target value d old mid below h is value_is inside = let f = get_or fixups count d in record {
+  patches_more fixups count target value d old mid below h is value_is = let f = get_or fixups count d in record {
     len = length-set mid f.offset value ∙ h.len;
     each = λ address less. elim (same_or_not f.offset address) as (λ _. IsPatchedFrom segments placed (take (count + 1) fixups) old address (slice_index (set mid f.offset value) address)) [
       | inl same ↦ Patched (record {
@@ -45,7 +45,7 @@ module _ (segments : List Segment) (placed : List Placed) where
           address_is = sym same;
           target = target;
           target_is = is;
-          value_is = ap (λ a. slice_index (set mid f.offset value) a) (sym same) ∙ get_or-set_same mid f.offset value 0 (omega (arith, inside, h.len)) ∙ value_is;
+          value_is = ap (λ a. slice_index (set mid f.offset value) a) (sym same) ∙ get_or-set_same mid f.offset value 0 (omega (arith, same, less, h.len)) ∙ value_is;
         })
       | inr other ↦ subst (λ b. IsPatchedFrom segments placed (take (count + 1) fixups) old address b)
           (sym (get_or-set_other mid f.offset address value 0 (λ e. other (sym e)))) (elsewhere fixups count d old address (slice_index mid address) below other (h.each address less))

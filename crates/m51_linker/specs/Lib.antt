@@ -3,6 +3,7 @@ pub mod Filling
 pub mod Image
 pub mod Link
 pub mod Placement
+pub mod Ready
 pub mod Runs
 pub mod Shape
 pub mod Targets

@@ -1,7 +1,7 @@
 //! Where the segments of a module stand.
 ghost use Rattle.std.specs.Prelude.{◌≡◌, [], ◌∷◌, ◌++◌, All, IfOk, OnOk, codes};
 ghost use Rattle.m51_linker.specs.Placement.{bank_0, absolute_at, plain_at, absolutes_of, fixed_of, relocatable_of, PlacesNext, Places};
-ghost use Rattle.m51_linker.specs.Shape.{IsData};
+ghost use Rattle.m51_linker.specs.Shape.{IsData, IsTakenSegment};
 
 use crate::bases::least_base;
 use crate::shape::is_absolute;
@@ -83,14 +83,15 @@ fn fixed(alloc: Global, segments: &[Segment]) -> Result<Vec<Placed>, NoMemory>
 }
 
 // The relocatable segments.
-fn relocatables(alloc: Global, segments: &[Segment]) -> Result<Vec<Segment>, AllocError>
+fn relocatables(alloc: Global, segments: &[Segment]) -> Result<Vec<Segment>, NoMemory>
     ensures { IfOk result (λ order. order.items ≡ relocatable_of segments.now) }
 {
-    segments
+    let order = segments
         .iter()
         .filter(|segment| !is_absolute(segment))
         .copied()
-        .collect(alloc)
+        .collect(alloc)?;
+    Ok(order)
 }
 
 // The segment at the least base that is free, or the refusal where there is none.
@@ -114,10 +115,8 @@ fn add(placed: &mut Vec<Placed>, extent: Placed) -> Result<(), NoMemory>
     Ok(())
 }
 
-/// Places segments of DATA in this order behind the earlier extents: each at the least base that is free. L12 names the
-/// first for which there is none.
-///
-/// Source: RL51 guide.
+// Places segments of DATA in this order behind the earlier extents: each at the least base that is free. L12 names the
+// first for which there is none.
 fn place_in_order(earlier: Vec<Placed>, order: &[Segment]) -> Result<PlacedList, Refusal>
     requires { All IsData order.now }
     ensures { Places earlier.items order.now result }
@@ -128,4 +127,15 @@ fn place_in_order(earlier: Vec<Placed>, order: &[Segment]) -> Result<PlacedList,
         add(&mut placed, extent)?;
     }
     Ok(ListOf::of(placed))
+}
+
+/// Places the segments of a module: bank 0 and the absolute segments at their own bases, and then the others, which are
+/// DATA, in the module's order at the least base that is free. L12 names the first for which there is none.
+pub fn place(alloc: Global, segments: &[Segment]) -> Result<PlacedList, Refusal>
+    requires { All IsTakenSegment segments.now }
+    ensures { Places (fixed_of segments.now) (relocatable_of segments.now) result }
+{
+    let fixed = fixed(alloc, segments)?;
+    let order = relocatables(alloc, segments)?;
+    place_in_order(fixed, &order)
 }

@@ -1,6 +1,7 @@
 pub mod CoverLemmas
 pub mod FillingLemmas
 pub mod ImageLemmas
+pub mod LinkLemmas
 pub mod Lists
 pub mod OrderLemmas
 pub mod PatchingLemmas

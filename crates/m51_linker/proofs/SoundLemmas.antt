@@ -3,6 +3,7 @@ use Rattle.std.proofs.Common.{◌≡◌, ◌≢◌, ◌⊎◌, inl, inr, ℕ, ze
 use Rattle.std.specs.List.{All, AllPairs, Contains, filter, slice_get}
 use Rattle.std.proofs.lemmas.List.{append-nil}
 use Rattle.std.proofs.lemmas.List.Elements.{All-nil, All-cons, All-head, All-tail, All-filter, filter_passes}
+use Rattle.std.proofs.lemmas.List.Filters.{length-filter_both}
 use Rattle.std.proofs.lemmas.List.Quantifiers.{all_pairs_push}
 use Rattle.std.proofs.lemmas.Option.{slice_get_within, get_or_from_slice_get}
 use Rattle.m51_cells.specs.declared.kind.Kind.TheVariants.{Code, Direct}
@@ -227,10 +228,10 @@ sound m placed valid shape placed_as =
     let fixed : fixed_of m.segments ≡ bank_0 ∷ code ∷ [] = ap (λ (l : List Segment). bank_0 ∷ map absolute_at l) one.are in
     let order = relocatable_of m.segments in
     let h : ArePlaced (bank_0 ∷ code ∷ []) order placed = subst (λ earlier. ArePlaced earlier order placed) fixed placed_as in
-    let behind = are_behind order (bank_0 ∷ code ∷ []) placed (relocatable_data m.segments shape.segments.each) (fixed_apart code start) h in
+    let behind : AreBehind (bank_0 ∷ code ∷ []) placed = are_behind order (bank_0 ∷ code ∷ []) placed (relocatable_data m.segments shape.segments.each) (fixed_apart code start) h in
     let count : length placed ≡ 2 + length order = as_many order (bank_0 ∷ code ∷ []) placed h in
-    let fewer : length order ≤ length m.segments = length-filter-le (λ s. not (is_absolute s)) m.segments in
+    let fewer : length order ≤ length m.segments = (let both = length-filter_both is_absolute (λ s. not (is_absolute s)) (λ s. refl) m.segments in omega arith) in
     let few : length m.segments ≤ 254 = valid.few_segments in
-    let split : length placed ≡ 2 + length behind.data_placed = ap length behind.are in
+    let split : length placed ≡ suc (suc (length behind.data_placed)) = ap length behind.are in
     subst (λ ps. IsSound (layout_of ps)) (sym behind.are)
     (sound_of code behind.data_placed start behind.each (omega arith) (subst (λ ps. AllPairs ArePart ps) behind.are behind.apart))

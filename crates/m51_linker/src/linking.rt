@@ -113,7 +113,7 @@ pub fn link_plain(alloc: Global, module: &Module) -> Result<Linked, Refusal>
     if !is_first_shape(module) {
         return Err(Refusal::L0);
     }
-    let placed = place(alloc, module.segments())?;
+    let placed = place(alloc, module)?;
     check(module, placed.as_slice())?;
     Ok(linked(alloc, module, placed)?)
 }

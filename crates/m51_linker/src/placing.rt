@@ -1,12 +1,13 @@
 //! Where the segments of a module stand.
 ghost use Rattle.std.specs.Prelude.{◌≡◌, [], ◌∷◌, ◌++◌, All, IfOk, OnOk, codes};
 ghost use Rattle.m51_linker.specs.Placement.{bank_0, absolute_at, plain_at, absolutes_of, fixed_of, relocatable_of, PlacesNext, Places};
-ghost use Rattle.m51_linker.specs.Shape.{IsData, IsTakenSegment};
+ghost use Rattle.m51_linker.specs.Ready.{PlacesModule};
+ghost use Rattle.m51_linker.specs.Shape.{IsData, IsTakenSegment, IsFirstShape};
 
 use crate::bases::least_base;
 use crate::shape::is_absolute;
 use m51_cells::{Kind, ListOf, Name, NoMemory, Reloc};
-use m51_module::{Mark, Placed, PlacedList, Refusal, Segment};
+use m51_module::{Mark, Module, Placed, PlacedList, Refusal, Segment};
 use std::alloc::{AllocError, Global};
 
 // The title of register bank 0.
@@ -129,13 +130,22 @@ fn place_in_order(earlier: Vec<Placed>, order: &[Segment]) -> Result<PlacedList,
     Ok(ListOf::of(placed))
 }
 
-/// Places the segments of a module: bank 0 and the absolute segments at their own bases, and then the others, which are
-/// DATA, in the module's order at the least base that is free. L12 names the first for which there is none.
-pub fn place(alloc: Global, segments: &[Segment]) -> Result<PlacedList, Refusal>
+// Places bank 0 and the absolute segments at their own bases, and then the others.
+fn place_segments(alloc: Global, segments: &[Segment]) -> Result<PlacedList, Refusal>
     requires { All IsTakenSegment segments.now }
     ensures { Places (fixed_of segments.now) (relocatable_of segments.now) result }
 {
     let fixed = fixed(alloc, segments)?;
     let order = relocatables(alloc, segments)?;
     place_in_order(fixed, &order)
+}
+
+/// Places the segments of a module of the first shape: bank 0 and the absolute segment at their own bases, and then the
+/// others, which are DATA, in the module's order at the least base that is free. L12 names the first for which there is
+/// none.
+pub fn place(alloc: Global, module: &Module) -> Result<PlacedList, Refusal>
+    requires { IsFirstShape «module».now }
+    ensures { PlacesModule «module».now result }
+{
+    place_segments(alloc, module.segments())
 }

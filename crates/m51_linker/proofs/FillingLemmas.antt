@@ -33,26 +33,31 @@ written_fills p old new h = record {
   each = λ address below. elim (below_or_not address p.offset) as (λ _. IsFilledFrom (p ∷ []) old address (slice_index new address)) [
     | inl before ↦ Kept (λ value k. let w = within_piece p address value k in absurd (omega (arith, before, w.0))) (h.before address before)
     | inr from ↦ elim (below_or_not address (p.offset + length p.bytes)) as (λ _. IsFilledFrom (p ∷ []) old address (slice_index new address)) [
-        | inr behind ↦ Kept (λ value k. let w = within_piece p address value k in absurd (omega (arith, behind, w.1))) (h.behind address behind)
-        | inl inside ↦
-            let place = address - p.offset in
-            let e : p.offset + place ≡ address = omega (arith, from) in
-            Put (record {
-              piece = p;
-              is = Contains-push [] p;
-              place = place;
-              inside = omega (arith, from, inside);
-              address_is = sym e;
-              byte_is = ap (λ a. slice_index new a) (sym e) ∙ h.written place (omega (arith, from, inside));
-            })
-      ]
+      | inr behind ↦ Kept (λ value k. let w = within_piece p address value k in absurd (omega (arith, behind, w.1))) (h.behind address behind)
+      | inl inside ↦
+          let place = address - p.offset in
+          let e : p.offset + place ≡ address = omega (arith, from) in
+          Put (record {
+            piece = p;
+            is = Contains-push [] p;
+            place = place;
+            inside = omega (arith, from, inside);
+            address_is = sym e;
+            byte_is = ap (λ a. slice_index new a) (sym e) ∙ h.written place (omega (arith, from, inside));
+          })
+    ]
   ];
 }
 
 -- a byte of pieces that are among others
 carried : (ps qs : List Piece) (address value : ℕ) (h : HasByte ps address value) → Contains qs h.piece → HasByte qs address value
 carried ps qs address value h is = record {
-  piece = h.piece; is = is; place = h.place; inside = h.inside; address_is = h.address_is; byte_is = h.byte_is;
+  piece = h.piece;
+  is = is;
+  place = h.place;
+  inside = h.inside;
+  address_is = h.address_is;
+  byte_is = h.byte_is;
 }
 
 more_left : (ps qs : List Piece) (address value : ℕ) → HasByte ps address value → HasByte (ps ++ qs) address value

@@ -71,8 +71,8 @@ module _ (m : ModuleParts) (placed : List Placed) (valid : IsValid m) (shape : I
   image_is blank filled image erased fills patches = record {
     len = patches.len ∙ fills.len ∙ erased.len;
     each = λ address below.
-      let inside : address < length blank = omega (arith, below, erased.len) in
-      byte_at blank filled address (slice_index image address) (erased.each address below) (fills.each address inside) (patches.each address (omega (arith, inside, fills.len)));
+        let inside : address < length blank = omega (arith, below, erased.len) in
+        byte_at blank filled address (slice_index image address) (erased.each address below) (fills.each address inside) (patches.each address (omega (arith, inside, fills.len)));
   }
 
   -- the covered addresses are those that content fills
@@ -80,10 +80,17 @@ module _ (m : ModuleParts) (placed : List Placed) (valid : IsValid m) (shape : I
   filled address h =
       let place = address - h.0.offset in
       let from : h.0.offset ≤ address = h.2 in
-      let below : address < h.0.offset + length h.0.bytes = h.3 in
-      (slice_index h.0.bytes place, content address (slice_index h.0.bytes place) (record {
-        piece = h.0; is = h.1; place = place; inside = omega arith; address_is = omega arith; byte_is = refl;
-      }))
+      let below : address < h.0.offset + length h.0.bytes = h.3 in (
+        slice_index h.0.bytes place,
+        content address (slice_index h.0.bytes place) (record {
+          piece = h.0;
+          is = h.1;
+          place = place;
+          inside = omega arith;
+          address_is = omega arith;
+          byte_is = refl;
+        }),
+      )
 
   covered : (address : ℕ) → IsFilled m placed address → IsCovered m.pieces address
   covered address h =

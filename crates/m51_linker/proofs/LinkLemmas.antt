@@ -29,6 +29,13 @@ pub linked_is : (m : ModuleParts) (placed : List Placed) (layout : LayoutParts) 
     → IsLinked m (record { layout = layout; image = image; written = written; roots = roots })
 linked_is m placed layout image written roots layout_is ready rules image_is written_are roots_are =
     subst (λ l. IsLinked m (record { layout = l; image = image; written = written; roots = roots })) (sym layout_is) (record {
-      shape = ready.shape; placed = ready.placed_as; units = refl; edges = refl; owners = refl;
-      rules = rules; image = image_is; written = written_are; roots = roots_are;
+      shape = ready.shape;
+      placed = ready.placed_as;
+      units = refl;
+      edges = refl;
+      owners = refl;
+      rules = rules;
+      image = image_is;
+      written = written_are;
+      roots = roots_are;
     })

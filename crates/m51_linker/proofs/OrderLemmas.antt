@@ -19,7 +19,7 @@ use Rattle.m51_linker.proofs.StartLemmas.{IsStartOf, at_number, piece_start}
 fewer : {X : Type 0} (test : X → Bool) (xs : List X) (n : ℕ) → length (filter test (take n xs)) ≤ length (filter test xs)
 fewer test xs n =
     let e : length (filter test (take n xs)) + length (filter test (drop n xs)) ≡ length (filter test xs) =
-        sym (length-append (filter test (take n xs)) (filter test (drop n xs))) ∙ ap length (sym (filter-append test (take n xs) (drop n xs))) ∙ ap (λ l. length (filter test l)) (take-append-drop n xs) in
+    sym (length-append (filter test (take n xs)) (filter test (drop n xs))) ∙ ap length (sym (filter-append test (take n xs) (drop n xs))) ∙ ap (λ l. length (filter test l)) (take-append-drop n xs) in
     omega arith
 
 fewer_front : {X : Type 0} (test : X → Bool) (xs : List X) (n k : ℕ) → n ≤ k → length (filter test (take n xs)) ≤ length (filter test (take k xs))
@@ -30,9 +30,9 @@ two_pass : {X : Type 0} (test : X → Bool) (xs : List X) (i j : ℕ) (d : X) �
     → 2 ≤ length (filter test xs)
 two_pass test xs i j d less below first second =
     let one : length (filter test (take (i + 1) xs)) ≡ length (filter test (take i xs)) + 1 =
-        length-filter_more test xs i d (omega arith) ∙ ap (λ b. length (filter test (take i xs)) + cond b 1 0) first in
+    length-filter_more test xs i d (omega arith) ∙ ap (λ b. length (filter test (take i xs)) + cond b 1 0) first in
     let two : length (filter test (take (j + 1) xs)) ≡ length (filter test (take j xs)) + 1 =
-        length-filter_more test xs j d below ∙ ap (λ b. length (filter test (take j xs)) + cond b 1 0) second in
+    length-filter_more test xs j d below ∙ ap (λ b. length (filter test (take j xs)) + cond b 1 0) second in
     let between : length (filter test (take (i + 1) xs)) ≤ length (filter test (take j xs)) = fewer_front test xs (i + 1) j (omega arith) in
     let whole : length (filter test (take (j + 1) xs)) ≤ length (filter test xs) = fewer test xs (j + 1) in
     omega arith
@@ -45,9 +45,11 @@ absolute_place segments number h d = place_of segments number h.segment h.is (ap
       → (0 < number) × (number - 1 < length segments) × (is_absolute (get_or segments (number - 1) d) ≡ true)
   place_of segments zero s is absolute d = absurd (cc is)
   place_of segments (suc before) s is absolute d =
-      let e : suc before - 1 ≡ before = omega arith in
-      (omega arith, omega (arith, slice_get_within segments before s is),
-       ap (λ k. is_absolute (get_or segments k d)) e ∙ ap is_absolute (get_or_from_slice_get segments before s d is) ∙ absolute)
+      let e : suc before - 1 ≡ before = omega arith in (
+        omega arith,
+        omega (arith, slice_get_within segments before s is),
+        ap (λ k. is_absolute (get_or segments k d)) e ∙ ap is_absolute (get_or_from_slice_get segments before s d is) ∙ absolute,
+      )
 
 -- so both are one
 one_number : (segments : List Segment) (i j : ℕ) → length (filter is_absolute segments) ≡ 1 → IsStartOf segments i → IsStartOf segments j → i < j → ⊥
@@ -80,5 +82,5 @@ pieces_in_order m valid shape = record {
   some = λ k d below. (valid.pieces k d below).some;
   inside = λ k d below. piece_ends m valid k d below;
   ascending = λ i j d less below.
-    before_it m valid shape (get_or m.pieces i d) (get_or m.pieces j d) (Contains-get_or m.pieces i d (omega arith)) (Contains-get_or m.pieces j d below) (valid.piece_order i j d less below);
+      before_it m valid shape (get_or m.pieces i d) (get_or m.pieces j d) (Contains-get_or m.pieces i d (omega arith)) (Contains-get_or m.pieces j d below) (valid.piece_order i j d less below);
 }

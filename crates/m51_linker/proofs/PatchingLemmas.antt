@@ -28,8 +28,12 @@ module _ (segments : List Segment) (placed : List Placed) where
   elsewhere : (fixups : List Fixup) (count : ℕ) (d : Fixup) (old : List ℕ) (address byte : ℕ) → count < length fixups → (get_or fixups count d).offset ≢ address
       → IsPatchedFrom segments placed (take count fixups) old address byte → IsPatchedFrom segments placed (take (count + 1) fixups) old address byte
   elsewhere fixups count d old address byte below other (Patched h) = Patched (record {
-    fixup = h.fixup; is = among_more fixups count d h.fixup below h.is; address_is = h.address_is;
-    target = h.target; target_is = h.target_is; value_is = h.value_is;
+    fixup = h.fixup;
+    is = among_more fixups count d h.fixup below h.is;
+    address_is = h.address_is;
+    target = h.target;
+    target_is = h.target_is;
+    value_is = h.value_is;
   })
   elsewhere fixups count d old address byte below other (Unpatched none same) = Unpatched (All-more (λ f. f.offset ≢ address) fixups count d below none other) same
 
@@ -40,13 +44,13 @@ module _ (segments : List Segment) (placed : List Placed) where
     len = length-set mid f.offset value ∙ h.len;
     each = λ address less. elim (same_or_not f.offset address) as (λ _. IsPatchedFrom segments placed (take (count + 1) fixups) old address (slice_index (set mid f.offset value) address)) [
       | inl same ↦ Patched (record {
-          fixup = f;
-          is = last_among fixups count d below;
-          address_is = sym same;
-          target = target;
-          target_is = is;
-          value_is = ap (λ a. slice_index (set mid f.offset value) a) (sym same) ∙ get_or-set_same mid f.offset value 0 (omega (arith, same, less, h.len)) ∙ value_is;
-        })
+        fixup = f;
+        is = last_among fixups count d below;
+        address_is = sym same;
+        target = target;
+        target_is = is;
+        value_is = ap (λ a. slice_index (set mid f.offset value) a) (sym same) ∙ get_or-set_same mid f.offset value 0 (omega (arith, same, less, h.len)) ∙ value_is;
+      })
       | inr other ↦ subst (λ b. IsPatchedFrom segments placed (take (count + 1) fixups) old address b)
           (sym (get_or-set_other mid f.offset address value 0 (λ e. other (sym e)))) (elsewhere fixups count d old address (slice_index mid address) below other (h.each address less))
     ];

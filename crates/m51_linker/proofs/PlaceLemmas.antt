@@ -22,9 +22,9 @@ use Rattle.m51_linker.proofs.StartLemmas.{at_number}
 pub first_or_rest : {X : Type 0} (x : X) (xs : List X) (y : X) → Contains (x ∷ xs) y → (x ≡ y) ⊎ Contains xs y
 first_or_rest x xs y h = elim (Contains-append_cases (x ∷ []) xs y h) as (λ _. (x ≡ y) ⊎ Contains xs y) [
   | inl first ↦ elim (Contains-push_cases [] x y first) as (λ _. (x ≡ y) ⊎ Contains xs y) [
-      | inl none ↦ absurd (omega (arith, none.1))
-      | inr is ↦ inl is
-    ]
+    | inl none ↦ absurd (omega (arith, none.1))
+    | inr is ↦ inl is
+  ]
   | inr rest ↦ inr rest
 ]
 
@@ -54,10 +54,13 @@ named_next earlier s p h = subst (λ q. IsNamedSo s q) (sym h.is) (record { mark
 pub has_place : (order : List Segment) (earlier placed : List Placed) (s : Segment) → ArePlaced earlier order placed → Contains order s → (p : Placed) × IsPlaceOf placed s p
 has_place [] earlier placed s h is = absurd (omega (arith, is.1))
 has_place (t ∷ more) earlier placed s h is = elim (first_or_rest t more s is) as (λ _. (p : Placed) × IsPlaceOf placed s p) [
-  | inl same ↦ (h.0, record {
+  | inl same ↦ (
+    h.0,
+    record {
       is = still_there more (earlier ++ h.0 ∷ []) placed h.0 h.2 (Contains-push earlier h.0);
       named = subst (λ r. IsNamedSo r h.0) same (named_next earlier t h.0 h.1);
-    })
+    },
+  )
   | inr rest ↦ has_place more (earlier ++ h.0 ∷ []) placed s h.2 rest
 ]
 
@@ -100,11 +103,13 @@ has_targets m placed valid shape placed_as = λ k d below.
     let there : IsTarget m.segments m.externals (InSegment taken.target.number) = subst (λ b. IsTarget m.segments m.externals b) taken.target.is v.target in
     let s = there.0 in
     let base = has_base m.segments (fixed_of m.segments) placed s placed_as (number_among m.segments taken.target.number s there.1)
-        (at_number IsTakenSegment m.segments taken.target.number s shape.segments.each there.1) in
-    ((base.0 + f.addend) % 65536, record {
-      number = taken.target.number;
-      number_is = taken.target.is;
-      base = base.0;
-      stands = record { segment = s; is = there.1; at = base.1 };
-      is = refl;
-    })
+    (at_number IsTakenSegment m.segments taken.target.number s shape.segments.each there.1) in (
+      (base.0 + f.addend) % 65536,
+      record {
+        number = taken.target.number;
+        number_is = taken.target.is;
+        base = base.0;
+        stands = record { segment = s; is = there.1; at = base.1 };
+        is = refl;
+      },
+    )

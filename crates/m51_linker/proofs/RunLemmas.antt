@@ -77,7 +77,7 @@ module _ (Old New : ℕ → Type 0) (first len : ℕ) (g : Grows Old New first l
       | inr new ↦ (record { first = first; len = len }, Contains-push runs (record { first = first; len = len }), record { from = new.0; below = new.1 })
     ];
     ascending = all_pairs_push EndsBefore runs (record { first = first; len = len }) h.ascending
-      (λ k d below. let ends : (get_or runs k d).first + (get_or runs k d).len ≤ first = run_end (get_or runs k d) (h.whole k d below) in
+        (λ k d below. let ends : (get_or runs k d).first + (get_or runs k d).len ≤ first = run_end (get_or runs k d) (h.whole k d below) in
         let other : (get_or runs k d).first + (get_or runs k d).len ≢ first = others k d below in omega arith);
   }
 
@@ -115,14 +115,18 @@ module _ (Old New : ℕ → Type 0) (first len : ℕ) (g : Grows Old New first l
       let some : 0 < run.len = last.some in
       record {
         whole = All-push (IsWholeRun New) front (longer run len)
-          (λ k d below. let before : (get_or front k d).first + (get_or front k d).len < run.first = apart k d below in kept (get_or front k d) (whole k d below) (λ e. absurd (omega arith)))
-          (longer_run run last ends);
+            (λ k d below. let before : (get_or front k d).first + (get_or front k d).len < run.first = apart k d below in kept (get_or front k d) (whole k d below) (λ e. absurd (omega arith)))
+            (longer_run run last ends);
         all = λ address filled. elim (g.either address filled) as (λ _. (k : Run) × Contains (front ++ longer run len ∷ []) k × IsInRun k address) [
           | inl old ↦ (let k = h.all address old in in_longer front run k.0 address k.1 k.2)
-          | inr new ↦ (longer run len, Contains-push front (longer run len), record {
+          | inr new ↦ (
+            longer run len,
+            Contains-push front (longer run len),
+            record {
               from = let from : first ≤ address = new.0 in omega arith;
               below = let below : address < first + len = new.1 in omega arith;
-            })
+            },
+          )
         ];
         ascending = all_pairs_push EndsBefore front (longer run len) (pairs_front EndsBefore front run h.ascending) (λ k d below. apart k d below);
       }

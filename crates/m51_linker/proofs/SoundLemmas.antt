@@ -64,12 +64,15 @@ pub record AreBehind (earlier placed : List Placed) : Type 0 where
 
 pub are_behind : (order : List Segment) (earlier placed : List Placed) → All IsData order → AllPairs ArePart earlier → ArePlaced earlier order placed → AreBehind earlier placed
 are_behind [] earlier placed each apart h = record {
-  data_placed = []; are = h ∙ sym (append-nil earlier); each = All-nil IsDataPlaced; apart = subst (λ ps. AllPairs ArePart ps) (sym h) apart;
+  data_placed = [];
+  are = h ∙ sym (append-nil earlier);
+  each = All-nil IsDataPlaced;
+  apart = subst (λ ps. AllPairs ArePart ps) (sym h) apart;
 }
 are_behind (s ∷ more) earlier placed each apart h =
     let p = h.0 in
     let rest : AreBehind (earlier ++ p ∷ []) placed =
-        are_behind more (earlier ++ p ∷ []) placed (All-tail IsData s more each) (all_pairs_push ArePart earlier p apart (next_is_apart earlier s p h.1)) h.2 in
+    are_behind more (earlier ++ p ∷ []) placed (All-tail IsData s more each) (all_pairs_push ArePart earlier p apart (next_is_apart earlier s p h.1)) h.2 in
     record {
       data_placed = p ∷ rest.data_placed;
       are = rest.are ∙ append_assoc earlier (p ∷ []) rest.data_placed;
@@ -158,7 +161,7 @@ module _ (code : Placed) (data_placed : List Placed) (start : IsStartPlaced code
   sound_of few apart = let placed = bank_0 ∷ code ∷ data_placed in record {
     fit = λ s p is. one_fit s p (which code data_placed s p each is);
     is_code = λ u s is. let one = one_unit u s is in
-      (code, subst (λ n. slice_get placed n ≡ Some code) (sym one.1) refl, record { kind = start.kind; segment = subst (λ mark. IsSegment mark) (sym start.mark) tt });
+        (code, subst (λ n. slice_get placed n ≡ Some code) (sym one.1) refl, record { kind = start.kind; segment = subst (λ mark. IsSegment mark) (sym start.mark) tt });
     is_unit = λ s p is c. (0, omega arith, sym (only_code s p (which code data_placed s p each is) c));
     once = λ u v s first second. (one_unit u s first).0 ∙ sym (one_unit v s second).0;
     few_units = omega arith;

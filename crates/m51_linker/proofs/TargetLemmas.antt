@@ -25,9 +25,13 @@ pub first_broken : (m : ModuleParts) (placed : List Placed) (fixup : Fixup) → 
     → IsFirstBroken m placed (title_at 0) fixup.offset
 first_broken m placed fixup valid shape first =
     let among : Contains m.fixups fixup =
-        (first.place, slice_get_within m.fixups first.place fixup first.is, get_or_from_slice_get m.fixups first.place fixup fixup first.is) in
+    (first.place, slice_get_within m.fixups first.place fixup first.is, get_or_from_slice_get m.fixups first.place fixup fixup first.is) in
     let h = fixup_start m valid shape fixup among in
     record {
-      fixup = fixup; first = first; segment = h.segment; segment_is = h.is;
-      title_is = OfBase h.start.reloc (ap title_at (sym h.start.base)); offset_is = refl;
+      fixup = fixup;
+      first = first;
+      segment = h.segment;
+      segment_is = h.is;
+      title_is = OfBase h.start.reloc (ap title_at (sym h.start.base));
+      offset_is = refl;
     }

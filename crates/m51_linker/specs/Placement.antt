@@ -51,9 +51,9 @@ ArePlaced earlier (s ∷ more) placed = (p : Placed) × IsNext earlier s p × Ar
 -- There is no base for the segment of this name, and there is one for each that comes before it in this order.
 pub data FindsNoBase (name : List ℕ) : List Placed → List Segment → Type 0 where
   Here : {earlier : List Placed} {s : Segment} {more : List Segment} → HasNoBase earlier s.kind s.reloc s.size → name ≡ s.name
-    → FindsNoBase name earlier (s ∷ more)
+      → FindsNoBase name earlier (s ∷ more)
   Later : {earlier : List Placed} {s : Segment} {more : List Segment} {p : Placed} → IsNext earlier s p
-    → FindsNoBase name (earlier ++ p ∷ []) more → FindsNoBase name earlier (s ∷ more)
+      → FindsNoBase name (earlier ++ p ∷ []) more → FindsNoBase name earlier (s ∷ more)
 
 -- what placing one segment answers
 abbrev pub PlacesNext : List Placed → Segment → Result Placed Refusal → Type 0

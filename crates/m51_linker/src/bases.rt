@@ -44,11 +44,9 @@ fn is_free(earlier: &[Placed], size: u16, base: u16) -> bool
 /// The least base at which a DATA segment of this size fits and shares no cell with an earlier extent; `None` where
 /// there is none.
 pub fn least_base(earlier: &[Placed], size: u16) -> Option<u16>
-    ensures {
-        MatchOption result
-            (HasNoBase earlier.now Kind.Direct Reloc.Unit size)
-            (λ base. IsLeastBase earlier.now Kind.Direct Reloc.Unit size base)
-    }
+    ensures { MatchOption result
+        (HasNoBase earlier.now Kind.Direct Reloc.Unit size)
+        (λ base. IsLeastBase earlier.now Kind.Direct Reloc.Unit size base) }
 {
     for base in 0..=DATA_END {
         if is_free(earlier, size, base) {

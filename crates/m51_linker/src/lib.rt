@@ -12,3 +12,6 @@ mod targets;
 
 pub use linked::Linked;
 pub use linking::link_plain;
+
+#[cfg(test)]
+mod tests;

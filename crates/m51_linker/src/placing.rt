@@ -102,9 +102,7 @@ fn next(earlier: &[Placed], segment: &Segment) -> Result<Placed, Refusal>
 {
     match least_base(earlier, segment.size) {
         Some(base) => Ok(plain_at(segment, base)),
-        None => Err(Refusal::L12 {
-            name: segment.name,
-        }),
+        None => Err(Refusal::L12 { name: segment.name }),
     }
 }
 

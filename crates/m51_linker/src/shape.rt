@@ -46,7 +46,10 @@ fn are_each_taken(segments: &[Segment]) -> bool
 fn absolute_count(segments: &[Segment]) -> usize
     ensures { result ≡ length (filter is_absolute segments.now) }
 {
-    segments.iter().filter(|segment| is_absolute(segment)).count()
+    segments
+        .iter()
+        .filter(|segment| is_absolute(segment))
+        .count()
 }
 
 // Whether all segments are taken, and one is absolute.

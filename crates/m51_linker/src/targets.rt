@@ -70,17 +70,11 @@ fn is_byte_address(target: u16) -> bool
 }
 
 /// The first fixup that breaks its rule, if one does.
-pub fn first_breaking(
-    segments: &[Segment],
-    placed: &[Placed],
-    fixups: &[Fixup],
-) -> Option<Fixup>
+pub fn first_breaking(segments: &[Segment], placed: &[Placed], fixups: &[Fixup]) -> Option<Fixup>
     requires { All (HasTarget segments.now placed.now) fixups.now }
-    ensures {
-        MatchOption result
-            (All (MeetsRule segments.now placed.now) fixups.now)
-            (λ fixup. IsFirstBreaking segments.now placed.now fixups.now fixup)
-    }
+    ensures { MatchOption result
+        (All (MeetsRule segments.now placed.now) fixups.now)
+        (λ fixup. IsFirstBreaking segments.now placed.now fixups.now fixup) }
 {
     for fixup in fixups {
         if !is_byte_address(target_of(segments, placed, fixup)) {

@@ -17,8 +17,8 @@ pub returns-in-Some : goal.returns-in-Some
 returns-in-Some c =
     let m = c.args.module.now in
     let first : IsFirstBreaking m.segments c.args.placed.now m.fixups c.in-Some.fixup =
-        subst (λ fixups. IsFirstBreaking m.segments c.args.placed.now fixups c.in-Some.fixup) c.fixups.ensures.list
-        (subst (λ segments. IsFirstBreaking segments c.args.placed.now c.fixups.result.now c.in-Some.fixup) c.segments.ensures.list c.in-Some.ensures) in
+    subst (λ fixups. IsFirstBreaking m.segments c.args.placed.now fixups c.in-Some.fixup) c.fixups.ensures.list
+    (subst (λ segments. IsFirstBreaking segments c.args.placed.now c.fixups.result.now c.in-Some.fixup) c.segments.ensures.list c.in-Some.ensures) in
     subst (λ title. IsBroken m title c.in-Some.fixup.offset) (sym c.at.ensures) (record {
       shape = c.requires.shape;
       placed = c.args.placed.now;

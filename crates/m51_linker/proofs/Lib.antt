@@ -1,0 +1,13 @@
+pub mod CoverLemmas
+pub mod FillingLemmas
+pub mod ImageLemmas
+pub mod LinkLemmas
+pub mod Lists
+pub mod OrderLemmas
+pub mod PatchingLemmas
+pub mod PlaceLemmas
+pub mod PlacingLemmas
+pub mod RunLemmas
+pub mod SoundLemmas
+pub mod StartLemmas
+pub mod TargetLemmas

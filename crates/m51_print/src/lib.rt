@@ -2,6 +2,9 @@
 #![tactic(auto)]
 
 mod lines;
+mod pushing;
 mod putting;
+mod refusals;
 
 pub use lines::{end_line, trace_line};
+pub use refusals::refusal_text;

@@ -12,3 +12,6 @@ mod titles;
 pub use lines::{end_line, trace_line};
 pub use map::map_text;
 pub use refusals::refusal_text;
+
+#[cfg(test)]
+mod tests;

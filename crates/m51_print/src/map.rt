@@ -53,8 +53,8 @@ fn push_segment(text: &mut Vec<u8>, placed: &Placed) -> Result<(), NoMemory>
     push_text(text, b"\n")
 }
 
-// Appends the lines of the placed extents.
-fn push_segments(text: &mut Vec<u8>, placed: &[Placed]) -> Result<(), NoMemory>
+/// Appends the lines of the placed extents.
+pub fn push_segments(text: &mut Vec<u8>, placed: &[Placed]) -> Result<(), NoMemory>
     ensures { OnOk result (text.new.items ≡ text.old.items ++ flat_map segment_line placed.now) }
 {
     for extent in placed {
@@ -63,9 +63,9 @@ fn push_segments(text: &mut Vec<u8>, placed: &[Placed]) -> Result<(), NoMemory>
     Ok(())
 }
 
-// Appends the line of a unit.
+/// Appends the line of a unit.
 #[tactic(auto, unfolding(crate::specs::Map::unit_line))]
-fn push_unit_line(
+pub fn push_unit_line(
     text: &mut Vec<u8>,
     alloc: Global,
     title: &Name,
@@ -122,9 +122,9 @@ fn push_units(
     Ok(())
 }
 
-// Appends the line of a chain.
+/// Appends the line of a chain.
 #[tactic(auto, unfolding(crate::specs::Map::chain_line))]
-fn push_chain_line(
+pub fn push_chain_line(
     text: &mut Vec<u8>,
     root: &Name,
     bytes: u32,

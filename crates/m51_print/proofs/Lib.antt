@@ -1,1 +1,4 @@
-pub mod Titles
+pub mod EdgeTests
+pub mod PlacedTitles
+pub mod Ranges
+pub mod Steps

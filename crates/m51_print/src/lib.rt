@@ -2,6 +2,16 @@
 #![tactic(auto)]
 
 mod lines;
+mod map;
+mod overlaid;
+mod pushing;
 mod putting;
+mod refusals;
+mod titles;
 
 pub use lines::{end_line, trace_line};
+pub use map::map_text;
+pub use refusals::refusal_text;
+
+#[cfg(test)]
+mod tests;

@@ -78,7 +78,7 @@ fn put_cell(into: &mut [u8; 128], at: usize, cell: Cell) -> usize
 }
 
 // The title of a placed extent.
-#[tactic(auto, using(crate::proofs::Titles::title_at))]
+#[tactic(auto, using(crate::proofs::PlacedTitles::title_at))]
 fn title_of(placed: &[Placed], segment: u16) -> &[u8]
     requires { segment < length placed.now }
     ensures title { result.now ≡ title_of (titles_of placed.now) segment }

@@ -1,0 +1,45 @@
+-- The lines of refusals.
+use Rattle.std.specs.Prelude.{ℕ, List, [], ◌∷◌, ◌++◌, codes, flat_map}
+use Rattle.std.specs.Fmt.{decimal}
+use Rattle.m51_cells.specs.Hex.{hex4}
+use Rattle.m51_module.specs.declared.linked.Quantity.{Quantity}
+use Rattle.m51_module.specs.declared.linked.Quantity.TheVariants.{Files, Bytes, ControlLines, ScriptLines, Modules, Segments, Units}
+use Rattle.m51_module.specs.declared.linked.Refusal.{Refusal}
+use Rattle.m51_module.specs.declared.linked.Refusal.TheVariants.{L0, L1, L2, L3, L4, L5, L6, L7, L8, L9, L10, L11, L12, L13, Limit, Memory}
+
+-- a name after a blank
+abbrev pub after_blank : List ℕ → List ℕ
+after_blank name = codes " " ++ name
+
+-- what a limit is of, and its number
+abbrev pub limit_text : Quantity → List ℕ
+limit_text Files = codes "FILES 64"
+limit_text Bytes = codes "BYTES 1048576"
+limit_text ControlLines = codes "CONTROLLINES 1000"
+limit_text ScriptLines = codes "SCRIPTLINES 65536"
+limit_text Modules = codes "MODULES 255"
+limit_text Segments = codes "SEGMENTS 2000"
+limit_text Units = codes "UNITS 1000"
+
+-- a refusal: its number and the names, each after a blank; want of memory has no text
+abbrev pub refusal_words : Refusal → List ℕ
+refusal_words L0 = codes "LINK L0"
+refusal_words (L1 name) = codes "LINK L1" ++ after_blank name
+refusal_words (L2 name) = codes "LINK L2" ++ after_blank name
+refusal_words (L3 name) = codes "LINK L3" ++ after_blank name
+refusal_words (L4 name) = codes "LINK L4" ++ after_blank name
+refusal_words (L5 name) = codes "LINK L5" ++ after_blank name
+refusal_words (L6 name) = codes "LINK L6" ++ after_blank name
+refusal_words (L7 line) = codes "LINK L7 LINE " ++ decimal line
+refusal_words L8 = codes "LINK L8"
+refusal_words (L9 one two) = codes "LINK L9" ++ after_blank one ++ after_blank two
+refusal_words (L10 units) = codes "LINK L10" ++ flat_map after_blank units
+refusal_words (L11 unit one two) = codes "LINK L11" ++ after_blank unit ++ after_blank one ++ after_blank two
+refusal_words (L12 name) = codes "LINK L12" ++ after_blank name
+refusal_words (L13 name offset) = codes "LINK L13" ++ after_blank name ++ codes " " ++ hex4 offset
+refusal_words (Limit what) = codes "LIMIT " ++ limit_text what
+refusal_words Memory = []
+
+-- the line of a refusal
+abbrev pub refusal_text : Refusal → List ℕ
+refusal_text refusal = refusal_words refusal ++ codes "\n"

@@ -1,0 +1,138 @@
+//! The lines of refusals.
+ghost use Rattle.std.specs.Prelude.{◌≡◌, ◌≢◌, ◌++◌, OnOk, IfOk, flat_map};
+ghost use Rattle.m51_print.specs.Refusals.{after_blank, limit_text, refusal_words, refusal_text};
+
+use crate::pushing::{push_decimal, push_hex4, push_text};
+use m51_cells::{Name, NoMemory};
+use m51_module::{Quantity, Refusal};
+use std::alloc::Global;
+
+// Appends a name after a blank.
+fn push_name(text: &mut Vec<u8>, name: &Name) -> Result<(), NoMemory>
+    ensures { OnOk result (text.new.items ≡ text.old.items ++ after_blank name.now) }
+{
+    push_text(text, b" ")?;
+    push_text(text, name.bytes())
+}
+
+// Appends each name after a blank.
+fn push_names(text: &mut Vec<u8>, names: &[Name]) -> Result<(), NoMemory>
+    ensures { OnOk result (text.new.items ≡ text.old.items ++ flat_map after_blank names.now) }
+{
+    for name in names {
+        push_name(text, name)?;
+    }
+    Ok(())
+}
+
+// What a limit is of, and its number.
+fn limit_text(what: Quantity) -> &'static [u8]
+    ensures { result.now ≡ limit_text what }
+{
+    match what {
+        Quantity::Files => b"FILES 64",
+        Quantity::Bytes => b"BYTES 1048576",
+        Quantity::ControlLines => b"CONTROLLINES 1000",
+        Quantity::ScriptLines => b"SCRIPTLINES 65536",
+        Quantity::Modules => b"MODULES 255",
+        Quantity::Segments => b"SEGMENTS 2000",
+        Quantity::Units => b"UNITS 1000",
+    }
+}
+
+// Appends a rule of linking and a name.
+fn push_named(text: &mut Vec<u8>, rule: &[u8], name: &Name) -> Result<(), NoMemory>
+    ensures { OnOk result (text.new.items ≡ text.old.items ++ rule.now ++ after_blank name.now) }
+{
+    push_text(text, rule)?;
+    push_name(text, name)
+}
+
+// Appends the control line that does not fit.
+fn push_control_line(text: &mut Vec<u8>, line: u32) -> Result<(), NoMemory>
+    ensures { OnOk result (text.new.items ≡ text.old.items ++ refusal_words (Refusal.L7 line)) }
+{
+    push_text(text, b"LINK L7 LINE ")?;
+    push_decimal(text, u64::from(line))
+}
+
+// Appends the two extents that meet.
+fn push_meeting(text: &mut Vec<u8>, one: &Name, two: &Name) -> Result<(), NoMemory>
+    ensures { OnOk result (text.new.items ≡ text.old.items ++ refusal_words (Refusal.L9 one.now two.now)) }
+{
+    push_named(text, b"LINK L9", one)?;
+    push_name(text, two)
+}
+
+// Appends the units that reach themselves.
+fn push_cycle(text: &mut Vec<u8>, units: &[Name]) -> Result<(), NoMemory>
+    ensures { OnOk result (text.new.items ≡ text.old.items ++ refusal_words (Refusal.L10 units.now)) }
+{
+    push_text(text, b"LINK L10")?;
+    push_names(text, units)
+}
+
+// Appends the unit that lies under two roots, and them.
+fn push_shared(text: &mut Vec<u8>, unit: &Name, one: &Name, two: &Name) -> Result<(), NoMemory>
+    ensures { OnOk result (text.new.items ≡ text.old.items ++ refusal_words (Refusal.L11 unit.now one.now two.now)) }
+{
+    push_named(text, b"LINK L11", unit)?;
+    push_name(text, one)?;
+    push_name(text, two)
+}
+
+// Appends the segment of the field whose fixup fails, and the field's place in it.
+fn push_field(text: &mut Vec<u8>, name: &Name, offset: u16) -> Result<(), NoMemory>
+    ensures { OnOk result (text.new.items ≡ text.old.items ++ refusal_words (Refusal.L13 name.now offset)) }
+{
+    push_named(text, b"LINK L13", name)?;
+    push_text(text, b" ")?;
+    push_hex4(text, offset)
+}
+
+// Appends a limit.
+fn push_limit(text: &mut Vec<u8>, what: Quantity) -> Result<(), NoMemory>
+    ensures { OnOk result (text.new.items ≡ text.old.items ++ refusal_words (Refusal.Limit what)) }
+{
+    push_text(text, b"LIMIT ")?;
+    push_text(text, limit_text(what))
+}
+
+// Appends the words of a refusal.
+fn push_refusal(text: &mut Vec<u8>, refusal: &Refusal) -> Result<(), NoMemory>
+    requires { refusal.now ≢ Refusal.Memory }
+    ensures { OnOk result (text.new.items ≡ text.old.items ++ refusal_words refusal.now) }
+{
+    match refusal {
+        Refusal::L0 => push_text(text, b"LINK L0"),
+        Refusal::L1 { name } => push_named(text, b"LINK L1", name),
+        Refusal::L2 { name } => push_named(text, b"LINK L2", name),
+        Refusal::L3 { name } => push_named(text, b"LINK L3", name),
+        Refusal::L4 { name } => push_named(text, b"LINK L4", name),
+        Refusal::L5 { name } => push_named(text, b"LINK L5", name),
+        Refusal::L6 { name } => push_named(text, b"LINK L6", name),
+        Refusal::L7 { line } => push_control_line(text, *line),
+        Refusal::L8 => push_text(text, b"LINK L8"),
+        Refusal::L9 { one, two } => push_meeting(text, one, two),
+        Refusal::L10 { units } => push_cycle(text, units.as_slice()),
+        Refusal::L11 { unit, one, two } => push_shared(text, unit, one, two),
+        Refusal::L12 { name } => push_named(text, b"LINK L12", name),
+        Refusal::L13 { name, offset } => push_field(text, name, *offset),
+        Refusal::Limit { what } => push_limit(text, *what),
+        Refusal::Memory => unreachable!(),
+    }
+}
+
+/// The line of a refusal, line feed included: for a rule of linking its number and the names, and for a limit what it is of
+/// and its number. Want of memory is no such refusal.
+///
+/// Source: own choice ("Texts").
+pub fn refusal_text(alloc: Global, refusal: &Refusal) -> Result<Vec<u8>, NoMemory>
+    requires { refusal.now ≢ Refusal.Memory }
+    ensures { IfOk result (λ text. text.items ≡ refusal_text refusal.now) }
+{
+    let mut text = Vec::new(alloc);
+    push_refusal(&mut text, refusal)?;
+    push_text(&mut text, b"\n")?;
+    Ok(text)
+}

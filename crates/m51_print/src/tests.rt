@@ -1,0 +1,240 @@
+//! What no clause says: that the definitions give the texts that the formats ask for.
+ghost use Rattle.std.specs.Prelude.{◌≡◌, ◌≢◌, length, option_copied};
+ghost use Rattle.std.specs.Option.{ForSome};
+ghost use Rattle.m51_print.specs.Lines.{HasText};
+
+use crate::map::{push_chain_line, push_segments, push_unit_line};
+use crate::overlaid::overlaid_below;
+use crate::{end_line, refusal_text, trace_line};
+use m51_cells::{Cell, Entry, Event, Kind, ListOf, Name, NoMemory, Reloc, Space, Why};
+use m51_module::{Mark, Placed, Quantity, Refusal};
+use std::alloc::Global;
+use std::test::Fail;
+
+fn is_line(entry: &Entry, expected: &[u8]) -> bool {
+    let mut line = [0; 128];
+    let len = trace_line(entry, &mut line);
+    &line[..len] == expected
+}
+
+#[test]
+fn an_entry_is_a_line(rt: HostRuntime) {
+    let port = Entry::Port {
+        cycle: 278,
+        port: 1,
+        value: 0xFE,
+    };
+    assert!(rt; is_line(&port, b"278 P1 FE\n"));
+    let sent = Entry::Sent {
+        cycle: 976,
+        byte: 0x41,
+        ninth: None,
+    };
+    assert!(rt; is_line(&sent, b"976 TX 41\n"));
+    let with_ninth = Entry::Sent {
+        cycle: 976,
+        byte: 0x0A,
+        ninth: Some(true),
+    };
+    assert!(rt; is_line(&with_ninth, b"976 TX 0A 1\n"));
+}
+
+fn ends(event: Option<&Event>, placed: &[Placed], expected: &[u8]) -> bool
+    requires { ForSome (option_copied event) (HasText (length placed.now)) }
+{
+    let mut line = [0; 128];
+    let len = end_line(event, placed, 10, 18, &mut line);
+    &line[..len] == expected
+}
+
+#[test]
+fn the_last_line_tells_the_event(rt: HostRuntime) -> Result<(), Fail> {
+    let local = extent(b"?DT?F", Kind::Direct, Mark::Overlaid, 8, 1).ok_or("a name")?;
+    let placed = [local];
+    let cell = Cell {
+        space: Space::Ram,
+        at: 0x40,
+    };
+    let byte = Cell {
+        space: Space::Xram,
+        at: 0x1F00,
+    };
+    let busy = Event::Transfer {
+        why: Why::RootBusy,
+        from: 0x0F,
+        to: 0x0B,
+    };
+    let outside = Event::Outside { cell, at: 1 };
+    let beyond = Event::Outside { cell: byte, at: 1 };
+    let unwritten = Event::Unwritten {
+        cell,
+        segment: 0,
+        at: 0x12,
+    };
+    assert!(rt; ends(None, &placed, b"END 10 STEPS 18 CYCLES\n"));
+    assert!(rt;
+        ends(
+            Some(&busy),
+            &placed,
+            b"EVENT V1 ROOTBUSY FROM 000F TO 000B AFTER 10 STEPS 18 CYCLES\n"
+        )
+    );
+    assert!(rt;
+        ends(
+            Some(&outside),
+            &placed,
+            b"EVENT V2 D:08.0 AT 0001 AFTER 10 STEPS 18 CYCLES\n"
+        )
+    );
+    assert!(rt;
+        ends(
+            Some(&beyond),
+            &placed,
+            b"EVENT V2 X:1F00 AT 0001 AFTER 10 STEPS 18 CYCLES\n"
+        )
+    );
+    assert!(rt;
+        ends(
+            Some(&unwritten),
+            &placed,
+            b"EVENT V3 D:08.0 IN ?DT?F AT 0012 AFTER 10 STEPS 18 CYCLES\n"
+        )
+    );
+    assert!(rt;
+        ends(
+            Some(&Event::Reserved { at: 0 }),
+            &placed,
+            b"EVENT V4 AT 0000 AFTER 10 STEPS 18 CYCLES\n"
+        )
+    );
+    assert!(rt;
+        ends(
+            Some(&Event::PowerDown { at: 0 }),
+            &placed,
+            b"EVENT V5 AT 0000 AFTER 10 STEPS 18 CYCLES\n"
+        )
+    );
+    Ok(())
+}
+
+fn extent(title: &[u8], kind: Kind, mark: Mark, base: u16, size: u16) -> Option<Placed> {
+    let title = Name::of(title)?;
+    Some(Placed {
+        title,
+        kind,
+        reloc: Reloc::Unit,
+        mark,
+        base,
+        size,
+    })
+}
+
+fn reads(alloc: Global, refusal: &Refusal, expected: &[u8]) -> Result<bool, NoMemory>
+    requires { refusal.now ≢ Refusal.Memory }
+{
+    let text = refusal_text(alloc, refusal)?;
+    Ok(text.as_slice() == expected)
+}
+
+#[test]
+fn a_refusal_tells_its_names(rt: HostRuntime) -> Result<(), Fail> {
+    let alloc = rt.alloc();
+    let name = Name::of(b"BUF").ok_or("a name")?;
+    let one = Name::at(0);
+    let two = Name::at(0x0B);
+    let units = vec![in alloc; one, name]?;
+    assert!(rt; reads(alloc, &Refusal::L0, b"LINK L0\n")?);
+    assert!(rt; reads(alloc, &Refusal::L1 { name }, b"LINK L1 BUF\n")?);
+    assert!(rt; reads(alloc, &Refusal::L2 { name }, b"LINK L2 BUF\n")?);
+    assert!(rt; reads(alloc, &Refusal::L3 { name }, b"LINK L3 BUF\n")?);
+    assert!(rt; reads(alloc, &Refusal::L4 { name }, b"LINK L4 BUF\n")?);
+    assert!(rt; reads(alloc, &Refusal::L5 { name }, b"LINK L5 BUF\n")?);
+    assert!(rt; reads(alloc, &Refusal::L6 { name }, b"LINK L6 BUF\n")?);
+    assert!(rt; reads(alloc, &Refusal::L7 { line: 12 }, b"LINK L7 LINE 12\n")?);
+    assert!(rt; reads(alloc, &Refusal::L8, b"LINK L8\n")?);
+    assert!(rt; reads(alloc, &Refusal::L9 { one, two }, b"LINK L9 @0000 @000B\n")?);
+    let cycle = Refusal::L10 {
+        units: ListOf::of(units),
+    };
+    assert!(rt; reads(alloc, &cycle, b"LINK L10 @0000 BUF\n")?);
+    let shared = Refusal::L11 {
+        unit: name,
+        one,
+        two,
+    };
+    assert!(rt; reads(alloc, &shared, b"LINK L11 BUF @0000 @000B\n")?);
+    assert!(rt; reads(alloc, &Refusal::L12 { name }, b"LINK L12 BUF\n")?);
+    assert!(rt;
+        reads(
+            alloc,
+            &Refusal::L13 {
+                name: one,
+                offset: 0x1A
+            },
+            b"LINK L13 @0000 001A\n"
+        )?
+    );
+    Ok(())
+}
+
+#[test]
+fn a_limit_tells_its_number(rt: HostRuntime) -> Result<(), Fail> {
+    let alloc = rt.alloc();
+    assert!(rt; reads(alloc, &limit(Quantity::Files), b"LIMIT FILES 64\n")?);
+    assert!(rt; reads(alloc, &limit(Quantity::Bytes), b"LIMIT BYTES 1048576\n")?);
+    assert!(rt;
+        reads(
+            alloc,
+            &limit(Quantity::ControlLines),
+            b"LIMIT CONTROLLINES 1000\n"
+        )?
+    );
+    assert!(rt;
+        reads(
+            alloc,
+            &limit(Quantity::ScriptLines),
+            b"LIMIT SCRIPTLINES 65536\n"
+        )?
+    );
+    assert!(rt; reads(alloc, &limit(Quantity::Modules), b"LIMIT MODULES 255\n")?);
+    assert!(rt; reads(alloc, &limit(Quantity::Segments), b"LIMIT SEGMENTS 2000\n")?);
+    assert!(rt; reads(alloc, &limit(Quantity::Units), b"LIMIT UNITS 1000\n")?);
+    Ok(())
+}
+
+fn limit(what: Quantity) -> Refusal
+    ensures { result ≡ Refusal.Limit what }
+{
+    Refusal::Limit { what }
+}
+
+#[test]
+fn an_echo_has_its_lines_of_the_map(rt: HostRuntime) -> Result<(), Fail> {
+    let alloc = rt.alloc();
+    let conv = extent(b"?DT?CONV", Kind::Direct, Mark::Overlaid, 8, 1).ok_or("a name")?;
+    let send = extent(b"?DT?SEND", Kind::Direct, Mark::Overlaid, 8, 1).ok_or("a name")?;
+    let tick = extent(b"?DT?TICK", Kind::Direct, Mark::Overlaid, 9, 1).ok_or("a name")?;
+    let stack = extent(b"?STACK", Kind::Idata, Mark::Plain, 0x0A, 0x20).ok_or("a name")?;
+    let main = extent(b"?PR?MAIN", Kind::Code, Mark::Plain, 0x0E, 0x28).ok_or("a name")?;
+    let placed = [conv, send, tick, stack, main];
+    let mut text = Vec::new(alloc);
+    push_segments(&mut text, &placed)?;
+    let callees = [
+        Name::of(b"?PR?CONV").ok_or("a name")?,
+        Name::of(b"?PR?SEND").ok_or("a name")?,
+    ];
+    push_unit_line(&mut text, alloc, &main.title, 1, &callees)?;
+    push_unit_line(&mut text, alloc, &Name::at(0x30), 5, &[])?;
+    push_chain_line(&mut text, &Name::at(0x0B), 1, &[Name::at(0x0B), main.title])?;
+    let expected = b"DATA  0008 0001 O ?DT?CONV\n\
+        DATA  0008 0001 O ?DT?SEND\n\
+        DATA  0009 0001 O ?DT?TICK\n\
+        IDATA 000A 0020 P ?STACK\n\
+        CODE  000E 0028 P ?PR?MAIN\n\
+        ?PR?MAIN FROM @0000 TO ?PR?CONV,?PR?SEND\n\
+        @0030 FROM @0000,@000B TO -\n\
+        CHAIN @000B 1 @000B,?PR?MAIN\n";
+    assert_eq!(rt; text.as_slice(), expected.as_slice());
+    assert_eq!(rt; overlaid_below(&placed, 256), 2);
+    Ok(())
+}

@@ -1,10 +1,10 @@
 -- One step of reading a list of names, of items or of EXTRN.
-use Rattle.std.proofs.Common.{◌≡◌, ℕ, suc, ◌+◌, ◌<◌, Bool, true, List, [], ◌∷◌, ◌++◌, length, Result, Ok, Err, refl, sym, ap, ◌∙◌, arith}
+use Rattle.std.proofs.Common.{◌≡◌, ℕ, suc, ◌+◌, ◌<◌, true, List, [], ◌∷◌, ◌++◌, length, Result, Ok, ap, ◌∙◌, arith}
 use Rattle.m51_cells.specs.declared.kind.Kind.{Kind}
 use Rattle.m51_lex.specs.declared.token.Token.{Token}
 use Rattle.m51_stmt.specs.declared.externs.AfterName.{AfterName}
 use Rattle.m51_stmt.specs.Answer.{and_then}
-use Rattle.m51_stmt.specs.Lists.{more_of, name_or_12, name_and_place, comma_at, more_names}
+use Rattle.m51_stmt.specs.Lists.{name_or_12, name_and_place, comma_at, more_names}
 use Rattle.m51_stmt.specs.Externs.{after_name, go_on, more_externs}
 use Rattle.m51_stmt.proofs.Passing.{more_goes}
 

@@ -1,14 +1,13 @@
 -- One step of the passes over the tokens of a line.
-use Rattle.std.proofs.Common.{◌≡◌, ℕ, zero, suc, ◌+◌, ◌-◌, ◌<◌, ◌≤◌, cond, Bool, true, false, nat_le, List, [], ◌∷◌, ◌++◌, length, Result, Ok, Err, refl, sym, ap, ◌∙◌, arith, subst}
+use Rattle.std.proofs.Common.{◌≡◌, ℕ, zero, suc, ◌+◌, ◌<◌, ◌≤◌, cond, Bool, true, false, nat_le, List, [], ◌∷◌, ◌++◌, length, Result, Ok, Err, refl, sym, ap, ◌∙◌, arith, subst}
 use Rattle.std.proofs.lemmas.Grind.{common_steps}
 use Rattle.m51_cells.specs.Outcome.{Gives, RefusesWith}
-use Rattle.m51_cells.specs.declared.kind.Kind.{Kind}
 use Rattle.m51_lex.specs.declared.token.Token.{Token}
 use Rattle.m51_stmt.specs.declared.fault.StmtError.{StmtError}
 use Rattle.m51_stmt.specs.declared.fault.StmtError.TheVariants.{Fault, Memory}
 use Rattle.m51_stmt.specs.declared.lack.Want.{Want}
 use Rattle.m51_stmt.specs.Answer.{and_then, fault_of}
-use Rattle.m51_stmt.specs.Lack.{same, step_at, all_met, parenthesis_at, all_closed}
+use Rattle.m51_stmt.specs.Lack.{step_at, all_met, parenthesis_at, all_closed}
 use Rattle.m51_stmt.specs.Lists.{more_of}
 
 past : (a b : ℕ) → a ≤ b → nat_le a b ≡ true

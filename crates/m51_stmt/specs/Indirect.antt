@@ -1,5 +1,5 @@
 -- What stands behind an @.
-use Rattle.std.specs.Prelude.{ℕ, ◌+◌, if◌then◌else◌, List, codes, Option, Some, None}
+use Rattle.std.specs.Prelude.{ℕ, if◌then◌else◌, List, codes, Option, Some, None}
 use Rattle.std.specs.Str.{bytes_eq}
 use Rattle.m51_lex.specs.declared.token.Token.{Token}
 use Rattle.m51_expr.specs.declared.symbol.Symbol.{Symbol}

@@ -14,7 +14,7 @@ use Rattle.m51_stmt.specs.declared.lack.Want.{Want}
 use Rattle.m51_stmt.specs.declared.lack.Want.TheVariants as want
 use Rattle.m51_stmt.specs.declared.lack.Step.{Step}
 use Rattle.m51_stmt.specs.declared.lack.Step.TheVariants as step_is
-use Rattle.m51_stmt.specs.Answer.{and_then, or_fault}
+use Rattle.m51_stmt.specs.Answer.{and_then}
 use Rattle.m51_stmt.specs.Words.{begins_expression, begins_operand, is_text, is_operator}
 use Rattle.m51_stmt.specs.Indirect.{behind_at}
 

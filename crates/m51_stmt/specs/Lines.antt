@@ -1,5 +1,5 @@
 -- The grammar of lines: the statement that a line writes, or its fault.
-use Rattle.std.specs.Prelude.{ℕ, ◌+◌, ◌-◌, ◌==◌, Bool, true, false, nat_le, nat_lt, if◌then◌else◌, List, length, drop, Option, Some, None, Result, Ok, Err, slice_index}
+use Rattle.std.specs.Prelude.{ℕ, ◌+◌, ◌==◌, Bool, true, false, nat_le, nat_lt, if◌then◌else◌, List, length, drop, Option, Some, None, Result, Ok, Err, slice_index}
 use Rattle.m51_lex.specs.declared.token.Token.{Token}
 use Rattle.m51_lex.specs.Tokens.{tokens_at}
 use Rattle.m51_expr.specs.Words.{is_reserved}

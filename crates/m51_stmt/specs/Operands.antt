@@ -1,5 +1,5 @@
 -- The operands of an instruction (the assembler's rules of operands).
-use Rattle.std.specs.Prelude.{ℕ, ◌+◌, nat_le, if◌then◌else◌, List, [], ◌∷◌, length, map, codes, Option, Some, None, Result, Ok, Err, option_map, option_and_then}
+use Rattle.std.specs.Prelude.{ℕ, ◌+◌, nat_le, if◌then◌else◌, List, [], ◌∷◌, length, map, codes, Option, Some, Result, Ok, Err, option_map, option_and_then}
 use Rattle.std.specs.Str.{bytes_eq}
 use Rattle.m51_lex.specs.declared.token.Token.{Token}
 use Rattle.m51_expr.specs.declared.tree.Binary.TheVariants as binary

@@ -1,8 +1,7 @@
 -- Statements without where their expressions lie in memory.
-use Rattle.std.specs.Prelude.{ℕ, Bool, List, Option, Some, None, option_map, map}
+use Rattle.std.specs.Prelude.{ℕ, Bool, List, Option, option_map, map}
 use Rattle.m51_cells.specs.declared.kind.Kind.{Kind}
 use Rattle.m51_cells.specs.declared.kind.Reloc.{Reloc}
-use Rattle.m51_expr.specs.declared.tree.Expr.{Expr}
 use Rattle.m51_expr.specs.Tree.{Tree, tree_of}
 use Rattle.m51_stmt.specs.declared.statement.Operand.{Operand}
 use Rattle.m51_stmt.specs.declared.statement.Operand.TheVariants as operand

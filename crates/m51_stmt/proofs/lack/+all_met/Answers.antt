@@ -1,4 +1,4 @@
-use Rattle.std.proofs.Common.{ℕ, ◌-◌, length, arith, ap, ◌∙◌}
+use Rattle.std.proofs.Common.{◌-◌, arith, ap, ◌∙◌}
 use Rattle.m51_stmt.specs.Answer.{and_then}
 use Rattle.m51_stmt.specs.Lack.{same, all_met}
 use Rattle.m51_stmt.proofs.Passing.{fails, gives_same, all_met_ends, all_met_goes}

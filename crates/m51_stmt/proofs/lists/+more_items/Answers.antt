@@ -1,4 +1,4 @@
-use Rattle.std.proofs.Common.{◌+◌, ◌-◌, ◌∷◌, [], ◌++◌, length, map, arith, sym, ap, ◌∙◌, Ok}
+use Rattle.std.proofs.Common.{◌-◌, ◌∷◌, [], ◌++◌, length, map, arith, sym, ap, ◌∙◌, Ok}
 use Rattle.std.proofs.lemmas.List.{map-append}
 use Rattle.m51_expr.specs.Symbol.{symbol_at}
 use Rattle.m51_stmt.specs.Answer.{and_then}

@@ -2,7 +2,7 @@ use Rattle.std.proofs.Common.{◌+◌, ◌-◌, length, arith, sym, ap, ◌∙�
 use Rattle.m51_stmt.specs.Words.{is_comma}
 use Rattle.m51_stmt.specs.Lack.{same}
 use Rattle.m51_stmt.specs.Lists.{name_and_place, comma_at, more_names}
-use Rattle.m51_stmt.proofs.Passing.{fails, gives_same, more_ends, more_goes, more_breaks, and_fails}
+use Rattle.m51_stmt.proofs.Passing.{gives_same, more_ends, more_goes, more_breaks, and_fails}
 use Rattle.m51_stmt.proofs.Listing.{names_goes}
 use Rattle.m51_stmt.proofs.lists.+more_names.Goals as goal
 

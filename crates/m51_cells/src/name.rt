@@ -1,5 +1,6 @@
 //! Names of segments, units, publics, externals and modules.
 ghost use Rattle.std.specs.Prelude.{◌≡◌, ◌<◌, ◌≤◌, true, [], length};
+ghost use Rattle.std.specs.Char.{to_ascii_uppercase};
 ghost use Rattle.std.specs.Fmt.{digit_glyph};
 ghost use Rattle.std.specs.List.{list_all};
 ghost use Rattle.m51_cells.specs.Name.{is_name_byte, is_name, name_of, title_at, IsUpper};
@@ -58,6 +59,13 @@ fn is_name(text: &[u8]) -> bool
     }
 }
 
+// The byte, a small letter in upper case.
+fn in_upper_case(byte: u8) -> u8
+    ensures { result ≡ to_ascii_uppercase byte }
+{
+    byte.to_ascii_uppercase()
+}
+
 // The hexadecimal digit of a number below 16, in upper case.
 fn hex_digit(number: u16) -> u8
     requires { number < 16 }
@@ -83,7 +91,7 @@ impl Name {
         }
         let mut bytes = [0u8; LONGEST];
         for (place, byte) in text.iter().enumerate() {
-            bytes[place] = byte.to_ascii_uppercase();
+            bytes[place] = in_upper_case(*byte);
         }
         Some(Name {
             bytes,

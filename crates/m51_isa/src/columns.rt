@@ -1,41 +1,103 @@
 //! Length, cycles and flow of an instruction.
-ghost use Rattle.std.specs.Prelude.{◌≡◌};
+ghost use Rattle.std.specs.Prelude.{◌≡◌, ◌≤◌};
 ghost use Rattle.m51_isa.specs.Table.{length_of, cycles_of, flow_of};
 
+use crate::encoding::encode;
 use crate::instr::{Flow, Instr};
 
 /// How many bytes an instruction has, 1 to 3.
 ///
-/// Source: family manual, instruction set.
+/// Source: family manual.
 pub fn length(instr: &Instr) -> u8
     ensures { result ≡ length_of instr.now }
 {
-    match instr {
-        Instr::MovDirectData(_, _) => 3,
-        Instr::MovAData(_) | Instr::SjmpRel(_) | Instr::MovDirectA(_) => 2,
-    }
+    encode(instr).len
 }
 
-/// How many machine cycles an instruction takes, 1 to 4.
+/// How many machine cycles an instruction takes: 1, 2 or 4.
 ///
-/// Source: family manual, instruction set.
+/// Source: family manual.
 pub fn cycles(instr: &Instr) -> u8
     ensures { result ≡ cycles_of instr.now }
 {
     match instr {
-        Instr::MovDirectData(_, _) | Instr::SjmpRel(_) => 2,
-        Instr::MovAData(_) | Instr::MovDirectA(_) => 1,
+        Instr::DivAb | Instr::MulAb => 4,
+        Instr::JbcBitRel(..)
+        | Instr::JbBitRel(..)
+        | Instr::JnbBitRel(..)
+        | Instr::JcRel(..)
+        | Instr::JncRel(..)
+        | Instr::JzRel(..)
+        | Instr::JnzRel(..)
+        | Instr::SjmpRel(..)
+        | Instr::MovDptrData16(..)
+        | Instr::OrlCNotBit(..)
+        | Instr::AnlCNotBit(..)
+        | Instr::PushDirect(..)
+        | Instr::PopDirect(..)
+        | Instr::MovxAAtDptr
+        | Instr::MovxAtDptrA
+        | Instr::AjmpAddr11(..)
+        | Instr::AcallAddr11(..)
+        | Instr::LjmpAddr16(..)
+        | Instr::LcallAddr16(..)
+        | Instr::Ret
+        | Instr::Reti
+        | Instr::OrlCBit(..)
+        | Instr::AnlCBit(..)
+        | Instr::MovBitC(..)
+        | Instr::MovxAAtRi(..)
+        | Instr::MovxAtRiA(..)
+        | Instr::OrlDirectData(..)
+        | Instr::AnlDirectData(..)
+        | Instr::XrlDirectData(..)
+        | Instr::JmpAtADptr
+        | Instr::MovcAAtAPc
+        | Instr::MovcAAtADptr
+        | Instr::IncDptr
+        | Instr::CjneADataRel(..)
+        | Instr::MovDirectData(..)
+        | Instr::MovDirectDirect(..)
+        | Instr::CjneADirectRel(..)
+        | Instr::DjnzDirectRel(..)
+        | Instr::MovDirectAtRi(..)
+        | Instr::MovAtRiDirect(..)
+        | Instr::CjneAtRiDataRel(..)
+        | Instr::MovDirectRn(..)
+        | Instr::MovRnDirect(..)
+        | Instr::CjneRnDataRel(..)
+        | Instr::DjnzRnRel(..) => 2,
+        _ => 1,
     }
 }
 
 /// Where control goes after an instruction.
 ///
-/// Source: family manual, instruction set.
+/// Source: family manual.
 pub fn kind_of(instr: &Instr) -> Flow
     ensures { result ≡ flow_of instr.now }
 {
     match instr {
-        Instr::SjmpRel(_) => Flow::Branch,
-        Instr::MovAData(_) | Instr::MovDirectData(_, _) | Instr::MovDirectA(_) => Flow::Next,
+        Instr::SjmpRel(..)
+        | Instr::JbcBitRel(..)
+        | Instr::JbBitRel(..)
+        | Instr::JnbBitRel(..)
+        | Instr::JcRel(..)
+        | Instr::JncRel(..)
+        | Instr::JzRel(..)
+        | Instr::JnzRel(..)
+        | Instr::AjmpAddr11(..)
+        | Instr::LjmpAddr16(..)
+        | Instr::JmpAtADptr
+        | Instr::CjneADataRel(..)
+        | Instr::CjneADirectRel(..)
+        | Instr::DjnzDirectRel(..)
+        | Instr::CjneAtRiDataRel(..)
+        | Instr::CjneRnDataRel(..)
+        | Instr::DjnzRnRel(..) => Flow::Branch,
+        Instr::AcallAddr11(..) | Instr::LcallAddr16(..) => Flow::Call,
+        Instr::Ret => Flow::Ret,
+        Instr::Reti => Flow::Reti,
+        _ => Flow::Next,
     }
 }

@@ -1,7 +1,11 @@
+pub mod Cells
 pub mod Conflict
+pub mod Image
+pub mod Kept
 pub mod Plan
 pub mod Rising
 pub mod Roots
+pub mod Sample
 pub mod Sound
 pub mod Validity
 pub mod Walks

@@ -1,28 +1,16 @@
 -- What the parts of a layout say: its units, roots, owners and locals.
 use Rattle.std.specs.Prelude.{◌≡◌, ℕ, ◌==◌, List, map, slice_get, Some, ◌↔◌}
 use Rattle.std.specs.List.{Contains, filter}
-use Rattle.m51_cells.specs.declared.cell.Cell.{Cell}
-use Rattle.m51_cells.specs.declared.cell.Space.{Space}
-use Rattle.m51_cells.specs.declared.cell.Space.TheVariants.{Code as CodeSpace}
-use Rattle.m51_cells.specs.declared.extent.Extent.{Extent}
 use Rattle.m51_cells.specs.declared.kind.Kind.TheVariants.{Code}
-use Rattle.m51_cells.specs.Extent.{extent_of, Covers}
+use Rattle.m51_cells.specs.Extent.{Covers}
+use Rattle.m51_module.specs.Cells.{extent_at, code_cell}
 use Rattle.m51_module.specs.declared.parts.LayoutParts.{LayoutParts}
 use Rattle.m51_module.specs.declared.placed.Mark.{Mark}
 use Rattle.m51_module.specs.declared.placed.Mark.TheVariants.{Bank, Reserve, Absolute, Plain, Overlaid}
 use Rattle.m51_module.specs.declared.placed.Placed.{Placed}
-use Rattle.m51_module.specs.Walks.{Reaches}
 use Rattle.m51_module.specs.Roots.{vectors, LiesUnder}
 use Rattle.m51_module.specs.Conflict.{AreRelated, InConflict}
 use Rattle.m51_module.specs.Rising.{Rises}
-
--- the cells that a placed extent covers
-abbrev pub extent_at : Placed → Extent
-extent_at p = extent_of p.kind p.base p.size
-
--- the cell of a byte of program memory
-abbrev pub code_cell : ℕ → Cell
-code_cell address = record { space = CodeSpace; at = address }
 
 -- the extent is a segment, and no bank or reserve
 abbrev pub IsSegment : Mark → Type 0

@@ -10,9 +10,10 @@ use Rattle.m51_cells.specs.Extent.{Covers, Meet}
 use Rattle.m51_module.specs.declared.parts.LayoutParts.{LayoutParts}
 use Rattle.m51_module.specs.declared.placed.Mark.TheVariants.{Absolute, Overlaid}
 use Rattle.m51_module.specs.declared.placed.Placed.{Placed}
+use Rattle.m51_module.specs.Cells.{extent_at}
 use Rattle.m51_module.specs.Walks.{HasEdge, Reaches}
 use Rattle.m51_module.specs.Rising.{Rises}
-use Rattle.m51_module.specs.Plan.{extent_at, IsCodeSegment, IsPlaced, IsUnit, IsOverlaid, owners_of, Owns, UnitLiesUnder, ExtentsConflict}
+use Rattle.m51_module.specs.Plan.{IsCodeSegment, IsPlaced, IsOverlaid, owners_of, Owns, UnitLiesUnder, ExtentsConflict}
 
 -- how many cells a memory has
 abbrev pub cells_in : Space → ℕ

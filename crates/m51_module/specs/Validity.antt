@@ -4,13 +4,13 @@ use Rattle.std.specs.List.{All, AllPairs, Contains}
 use Rattle.m51_cells.specs.declared.kind.Base.{Base}
 use Rattle.m51_cells.specs.declared.kind.Base.TheVariants.{None as NoBase, Segment as InSegment, External as OfExternal}
 use Rattle.m51_cells.specs.declared.kind.Kind.{Kind}
-use Rattle.m51_cells.specs.declared.kind.Kind.TheVariants.{Code, Xdata, Direct, Idata, Bits, Number}
+use Rattle.m51_cells.specs.declared.kind.Kind.TheVariants.{Code, Direct, Idata, Bits, Number}
 use Rattle.m51_cells.specs.declared.kind.Reloc.TheVariants.{Abs}
 use Rattle.m51_cells.specs.Fits.{allows, Fits}
 use Rattle.m51_cells.specs.Name.{IsWritten}
 use Rattle.m51_module.specs.declared.content.Fixup.{Fixup}
 use Rattle.m51_module.specs.declared.content.Form.{Form}
-use Rattle.m51_module.specs.declared.content.Form.TheVariants.{Low, Byte, Relative, High, Word, Inblock, Bit, Conv}
+use Rattle.m51_module.specs.declared.content.Form.TheVariants.{Word, Inblock, Conv}
 use Rattle.m51_module.specs.declared.content.Piece.{Piece}
 use Rattle.m51_module.specs.declared.parts.ModuleParts.{ModuleParts}
 use Rattle.m51_module.specs.declared.segment.Segment.{Segment}

@@ -2,17 +2,28 @@
 #![tactic(auto)]
 
 mod content;
+mod image;
+mod layout;
 mod linked;
+mod module;
 mod parts;
 mod placed;
+mod rows;
+mod sample;
 mod segment;
 mod source;
 mod symbol;
 
 pub use content::{Fixup, Fixups, Form, Piece, Pieces};
+pub use image::{IMAGE_LEN, Image};
+pub use layout::Layout;
 pub use linked::{Chain, Quantity, Refusal, Run, Runs};
+pub use module::Module;
 pub use parts::{LayoutParts, ModuleParts};
 pub use placed::{Mark, Pairs, Placed, PlacedList, Units};
 pub use segment::{Segment, Segments};
 pub use source::{Row, Rows, SourceFile};
 pub use symbol::{External, ExternalList, Public, Publics};
+
+#[cfg(test)]
+mod tests;

@@ -1,6 +1,6 @@
 //! What a link answers beside a layout and an image: runs, chains and refusals.
 use crate::Units;
-use m51_cells::{ListOf, Name, Names};
+use m51_cells::{ListOf, Name, Names, NoMemory};
 
 /// Bytes of the image in a row that content fills.
 ///
@@ -82,4 +82,15 @@ pub enum Refusal {
     Limit { what: Quantity },
     /// Memory is wanted.
     Memory,
+}
+
+impl From<NoMemory> for Refusal {
+    ghost use Rattle.std.specs.Prelude.{◌≡◌};
+    ghost use Rattle.m51_module.specs.declared.linked.Refusal.TheVariants.{Memory};
+
+    ghost from_gives = { λ _ refusal. refusal ≡ Memory };
+
+    fn from(_error: NoMemory) -> Refusal {
+        Refusal::Memory
+    }
 }

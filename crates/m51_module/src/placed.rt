@@ -1,5 +1,9 @@
 //! Placed extents.
-use m51_cells::{Kind, ListOf, Name, Reloc};
+ghost use Rattle.std.specs.Prelude.{◌≡◌, ◌≢◌, ◌↔◌, IsTrue};
+ghost use Rattle.m51_cells.specs.Extent.{Covers};
+ghost use Rattle.m51_module.specs.Cells.{extent_at, code_cell};
+
+use m51_cells::{Extent, Kind, ListOf, Name, Reloc, cells_of};
 
 /// What a placed extent is.
 ///
@@ -32,6 +36,28 @@ pub struct Placed {
     pub base: u16,
     /// In bytes, for BIT in bits.
     pub size: u16,
+}
+
+impl Placed {
+    /// The cells that it covers.
+    ///
+    /// Source: own choice ("A cell of RAM is a bit").
+    pub fn cells(&self) -> Extent
+        requires { self.now.kind ≢ Kind.Number }
+        ensures { result ≡ extent_at self.now }
+    {
+        cells_of(self.kind, u32::from(self.base), u32::from(self.size))
+    }
+
+    /// Whether a segment of program memory covers the address.
+    ///
+    /// Source: own choice ("Units").
+    pub fn covers(&self, address: u16) -> bool
+        requires { self.now.kind ≡ Kind.Code }
+        ensures { IsTrue result ↔ Covers (extent_at self.now) (code_cell address) }
+    {
+        self.base <= address && u32::from(address) < u32::from(self.base) + u32::from(self.size)
+    }
 }
 
 /// The placed extents of a layout, counted from 0.

@@ -8,8 +8,8 @@ loop-place-preserved c =
     let h = c.loop-place.invariant in
     record {
       short = h.short;
-      bytes = one_more c.args.text.now i c.to_ascii_uppercase.result c.loop-place.bytes
-          (search (rules, c.loop-place-test.true)) h.short (search (rules, c.to_ascii_uppercase.ensures.value)) h.bytes;
+      bytes = one_more c.args.text.now i c.in_upper_case.result c.loop-place.bytes
+          (search (rules, c.loop-place-test.true)) h.short (search (rules, c.in_upper_case.ensures)) h.bytes;
     }
 
 pub invariant_of-result : goal.invariant_of-result

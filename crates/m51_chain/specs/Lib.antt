@@ -1,0 +1,9 @@
+pub mod Shelf
+pub mod Stored
+pub mod Memory
+pub mod Outside
+pub mod Reading
+pub mod Words
+pub mod Source
+pub mod Answer
+pub mod Cause

@@ -1,0 +1,82 @@
+//! The texts of refusals, each made whole before its first byte is written.
+ghost use Rattle.std.specs.Prelude.{◌≡◌, ◌≤◌, IfOk, string_bytes};
+ghost use Rattle.m51_chain.specs.Answer.{usage_answer, limit_answer, unread_answer, fault_answer};
+ghost use Rattle.m51_chain.specs.Cause.{IsWritten};
+
+use crate::status::{Failure, Status};
+use m51_cells::NoMemory;
+use m51_sim::{Sink, write_whole};
+use std::alloc::Global;
+
+// Writes a text, and ends with the status.
+#[tactic(auto, unfolding(crate::specs::Cause::IsWritten))]
+fn refuse<S: Sink>(out: &mut S, status: Status, text: &[u8]) -> Result<Status, Failure>
+    ensures written { IsWritten (record { status = status; text = text.now }) (record { text = S.text out.old; faults = S.faults out.old }) (record { text = S.text out.new; faults = S.faults out.new }) result }
+    ensures later { S.faults out.old ≤ S.faults out.new }
+{
+    write_whole(out, text)?;
+    Ok(status)
+}
+
+/// Refuses the words.
+pub fn refuse_words<S: Sink>(out: &mut S) -> Result<Status, Failure>
+    ensures written { IsWritten usage_answer (record { text = S.text out.old; faults = S.faults out.old }) (record { text = S.text out.new; faults = S.faults out.new }) result }
+    ensures later { S.faults out.old ≤ S.faults out.new }
+{
+    refuse(
+        out,
+        Status::Usage,
+        b"usage: m51 build [--control F] [--script F] [--hex F] --steps N FILE..\n",
+    )
+}
+
+/// Refuses a file with more bytes than the most.
+pub fn refuse_long_file<S: Sink>(out: &mut S) -> Result<Status, Failure>
+    ensures written { IsWritten limit_answer (record { text = S.text out.old; faults = S.faults out.old }) (record { text = S.text out.new; faults = S.faults out.new }) result }
+    ensures later { S.faults out.old ≤ S.faults out.new }
+{
+    refuse(out, Status::Limit, b"LIMIT BYTES 1048576\n")
+}
+
+// The text of a file that could not be read.
+fn unread_text(alloc: Global, file: &str) -> Result<String, NoMemory>
+    ensures { IfOk result (λ text. string_bytes text ≡ (unread_answer file.now).text) }
+{
+    Ok(format!(in alloc; "READ FAULT {file}\n")?)
+}
+
+/// Says that a file could not be read.
+#[tactic(auto, unfolding(crate::specs::Cause::IsWritten))]
+pub fn refuse_unread_file<S: Sink>(
+    alloc: Global,
+    file: &str,
+    out: &mut S,
+) -> Result<Status, Failure>
+    ensures written { IsWritten (unread_answer file.now) (record { text = S.text out.old; faults = S.faults out.old }) (record { text = S.text out.new; faults = S.faults out.new }) result }
+    ensures later { S.faults out.old ≤ S.faults out.new }
+{
+    let text = unread_text(alloc, file)?;
+    refuse(out, Status::ReadFault, text.as_bytes())
+}
+
+// The text of a line that is out of the form.
+fn fault_text(alloc: Global, file: &str, line: u32) -> Result<String, NoMemory>
+    ensures { IfOk result (λ text. string_bytes text ≡ (fault_answer file.now line).text) }
+{
+    Ok(format!(in alloc; "{file}({line}): E0\n")?)
+}
+
+/// Refuses a source at a line that is out of the form.
+#[tactic(auto, unfolding(crate::specs::Cause::IsWritten))]
+pub fn refuse_line<S: Sink>(
+    alloc: Global,
+    file: &str,
+    line: u32,
+    out: &mut S,
+) -> Result<Status, Failure>
+    ensures written { IsWritten (fault_answer file.now line) (record { text = S.text out.old; faults = S.faults out.old }) (record { text = S.text out.new; faults = S.faults out.new }) result }
+    ensures later { S.faults out.old ≤ S.faults out.new }
+{
+    let text = fault_text(alloc, file, line)?;
+    refuse(out, Status::Source, text.as_bytes())
+}

@@ -1,0 +1,122 @@
+//! The top call.
+ghost use Rattle.std.specs.Prelude.{◌≡◌, ◌⊎◌, ◌≤◌, IfOk, None, Some, string_bytes};
+ghost use Rattle.m51_sim.specs.Machine.{record_of, start};
+ghost use Rattle.m51_sim.specs.FirstForm.{IsFirstForm};
+ghost use Rattle.m51_chain.specs.Shelf.{Files};
+ghost use Rattle.m51_chain.specs.Words.{job_of, texts};
+ghost use Rattle.m51_chain.specs.Source.{first_of};
+ghost use Rattle.m51_chain.specs.Answer.{answer_of, run_answer, source_answer, file_read};
+ghost use Rattle.m51_chain.specs.Cause.{IsWritten, IsWork, IsTold, IsCaused};
+
+use crate::reading::{Contents, ReadError, read_file};
+use crate::refusals::{refuse_line, refuse_long_file, refuse_unread_file, refuse_words};
+use crate::shelf::Shelf;
+use crate::source::{First, read_first};
+use crate::status::{Failure, Status};
+use crate::words::job_of;
+use m51_cells::NoMemory;
+use m51_sim::{Board, RunEnd, Sink, write_whole};
+use std::alloc::Global;
+
+// Runs a board from its start, and writes its record.
+#[tactic(auto, unfolding(crate::specs::Cause::IsWritten))]
+fn run<S: Sink>(mut board: Board, steps: u32, out: &mut S) -> Result<Status, Failure>
+    requires bounds { (1 ≤ steps) × (steps ≤ 10000000) }
+    ensures written { IsWritten (run_answer (record_of board.code steps board.state)) (record { text = S.text out.old; faults = S.faults out.old }) (record { text = S.text out.new; faults = S.faults out.new }) result }
+    ensures later { S.faults out.old ≤ S.faults out.new }
+{
+    write_whole(out, b"RUN\n")?;
+    match board.run(steps, out) {
+        RunEnd::Finished => Ok(Status::Ran),
+        RunEnd::Stopped(_) => Ok(Status::Event),
+        RunEnd::WriteFault => Err(Failure::Write),
+    }
+}
+
+// Runs a source, or says which line of it is refused.
+#[tactic(auto, unfolding(crate::specs::Cause::IsWritten))]
+fn build<S: Sink>(
+    alloc: Global,
+    steps: u32,
+    file: &str,
+    source: &[u8],
+    out: &mut S,
+) -> Result<Status, Failure>
+    requires bounds { (1 ≤ steps) × (steps ≤ 10000000) }
+    ensures written { IsWritten (source_answer (record { steps = steps; file = file.now }) (first_of source.now)) (record { text = S.text out.old; faults = S.faults out.old }) (record { text = S.text out.new; faults = S.faults out.new }) result }
+    ensures later { S.faults out.old ≤ S.faults out.new }
+{
+    match read_first(alloc, source)? {
+        First::Fault { line } => refuse_line(alloc, file, line, out),
+        First::Code(code) => run(Board::first(alloc, code)?, steps, out),
+    }
+}
+
+// The same text once more.
+fn copy(text: &String) -> Result<String, NoMemory>
+    ensures { IfOk result (λ copy. string_bytes copy ≡ string_bytes text.now) }
+{
+    Ok(text.clone()?)
+}
+
+// Does what the words ask for, up to the first failed write or want of memory.
+#[tactic(auto, unfolding(crate::specs::Cause::IsWork))]
+fn work<F: Shelf, S: Sink>(
+    alloc: Global,
+    words: &[String],
+    files: &mut F,
+    out: &mut S,
+) -> Result<Status, Failure>
+    ensures work { IsWork (texts words.now) (F.holds files.old) (record { named = F.named files.old; ready = F.ready files.old; taken = F.taken files.old; faults = F.read_faults files.old }) (record { named = F.named files.new; ready = F.ready files.new; taken = F.taken files.new; faults = F.read_faults files.new }) (record { text = S.text out.old; faults = S.faults out.old }) (record { text = S.text out.new; faults = S.faults out.new }) result }
+    ensures usage { job_of (texts words.now) ≡ None → files.new ≡ files.old }
+    ensures reads { (files.new ≡ files.old) ⊎ ((file_read (texts words.now) ≡ Some (F.named files.new)) × (F.taken files.new ≤ 1048577)) }
+    ensures later { (F.read_faults files.old ≤ F.read_faults files.new) × (S.faults out.old ≤ S.faults out.new) }
+{
+    let Some(job) = job_of(words) else {
+        return refuse_words(out);
+    };
+    let file = copy(job.file)?;
+    match read_file(alloc, file, files) {
+        Ok(Contents::Whole(source)) => build(
+            alloc,
+            job.steps,
+            job.file.as_str(),
+            source.as_slice(),
+            out,
+        ),
+        Ok(Contents::TooLong) => refuse_long_file(out),
+        Err(ReadError::Failed) => refuse_unread_file(alloc, job.file.as_str(), out),
+        Err(ReadError::Memory) => Err(Failure::Memory),
+    }
+}
+
+/// Does what the words ask for, with the files of the shelf, and writes to the sink. The words are those after the
+/// program's name.
+///
+/// Source: own choice ("The top call").
+#[tactic(auto, unfolding(crate::specs::Cause::IsWork))]
+pub fn chain<F: Shelf, S: Sink>(
+    alloc: Global,
+    words: &[String],
+    files: &mut F,
+    out: &mut S,
+) -> Status
+    // Where the shelf tells its files, status and text are those of the answer, unless a call failed or memory is wanted.
+    ensures told { (held : Files) → F.holds files.old ≡ Some held → IsTold (answer_of (texts words.now) held) (record { named = F.named files.old; ready = F.ready files.old; taken = F.taken files.old; faults = F.read_faults files.old }) (record { named = F.named files.new; ready = F.ready files.new; taken = F.taken files.new; faults = F.read_faults files.new }) (record { text = S.text out.old; faults = S.faults out.old }) (record { text = S.text out.new; faults = S.faults out.new }) result }
+
+    // What lies behind each status, told or not.
+    ensures cause { IsCaused (texts words.now) (record { named = F.named files.old; ready = F.ready files.old; taken = F.taken files.old; faults = F.read_faults files.old }) (record { named = F.named files.new; ready = F.ready files.new; taken = F.taken files.new; faults = F.read_faults files.new }) (record { text = S.text out.old; faults = S.faults out.old }) (record { text = S.text out.new; faults = S.faults out.new }) result }
+
+    // Faulty words are refused before a file is touched.
+    ensures usage { job_of (texts words.now) ≡ None → files.new ≡ files.old }
+
+    // No other file than that of the words is read, and of it at most one byte past the limit.
+    ensures reads { (files.new ≡ files.old) ⊎ ((file_read (texts words.now) ≡ Some (F.named files.new)) × (F.taken files.new ≤ 1048577)) }
+    ensures later { (F.read_faults files.old ≤ F.read_faults files.new) × (S.faults out.old ≤ S.faults out.new) }
+{
+    match work(alloc, words, files, out) {
+        Ok(status) => status,
+        Err(Failure::Write) => Status::WriteFault,
+        Err(Failure::Memory) => Status::Memory,
+    }
+}

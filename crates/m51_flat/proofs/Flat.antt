@@ -1,0 +1,33 @@
+-- The cells of memory that holds a value in each of them.
+use Rattle.std.proofs.Common.{◌≡◌, ℕ, ◌/◌, ◌%◌, ◌<◌, Bool, true, false, cond, refl, ap, arith, nat_lt}
+use Rattle.std.specs.Prelude.{slice_index, None}
+use Rattle.std.specs.Int.{bit_at}
+use Rattle.std.proofs.lemmas.Bool.{ltb-true}
+use Rattle.m51_flat.specs.declared.state.Put.{Put}
+use Rattle.m51_flat.specs.declared.state.Put.TheVariants.{Nothing, Byte, Bit, Xbyte}
+use Rattle.m51_flat.specs.States.{CellState, Holds, Absent, States, shut_of}
+use Rattle.m51_flat.specs.Flat.{FlatBytes, filled_cells, flat_cells}
+
+-- cells that hold the same are the same
+pub same_states : (s t : States) → ((n : ℕ) → s.ram n ≡ t.ram n) → ((n : ℕ) → s.xram n ≡ t.xram n) → s ≡ t
+same_states s t p q i = record { ram = λ n. p n i; xram = λ n. q n i }
+
+same_inside : (inside : Bool) (c d : CellState) → (inside ≡ true → c ≡ d) → cond inside c Absent ≡ cond inside d Absent
+same_inside true c d h = h refl
+same_inside false c d h = refl
+
+-- bytes that are all the fill make the cells that are filled
+pub cells_filled : (m : FlatBytes) (fill : ℕ) → ((n : ℕ) → n < 256 → slice_index m.ram n ≡ fill) → ((n : ℕ) → n < 65536 → slice_index m.xram n ≡ fill) → flat_cells m ≡ filled_cells fill
+cells_filled m fill ram xram =
+    same_states (flat_cells m) (filled_cells fill)
+    (λ n. same_inside (nat_lt n 2048) (Holds (bit_at (slice_index m.ram (n / 8)) (n % 8))) (Holds (bit_at fill (n % 8)))
+    (λ e. let inside : n / 8 < 256 = omega (arith, ltb-true n 2048 e) in ap (λ b. Holds (bit_at b (n % 8))) (ram (n / 8) inside)))
+    (λ n. same_inside (nat_lt n 65536) (Holds (slice_index m.xram n)) (Holds fill) (λ e. ap Holds (xram n (ltb-true n 65536 e))))
+
+-- no put is shut where no cell is barred
+pub none_shut : (put : Put) → None ≡ shut_of (λ cell. false) put
+unfolding shut_of
+none_shut Nothing = refl
+none_shut (Byte address value) = refl
+none_shut (Bit address value) = refl
+none_shut (Xbyte address value) = refl

@@ -1,0 +1,9 @@
+pub mod Readings
+pub mod Bytes
+pub mod Flat
+pub mod Parity
+pub mod Outcomes
+pub mod Flows
+pub mod BitLaws
+pub mod Causes
+pub mod Whole

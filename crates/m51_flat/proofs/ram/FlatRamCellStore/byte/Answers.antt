@@ -1,0 +1,17 @@
+use Rattle.std.proofs.Common.{◌≡◌, ◌<◌, rules, sym, ap, subst, ◌∙◌, arith}
+use Rattle.std.specs.Prelude.{slice_index}
+use Rattle.std.proofs.lemmas.Grind.{common_steps}
+use Rattle.m51_flat.specs.declared.state.Seen.TheVariants.{Value}
+use Rattle.m51_flat.specs.States.{byte_seen}
+use Rattle.m51_flat.specs.Flat.{FlatBytes, flat_cells}
+use Rattle.m51_flat.proofs.Bytes.{flat_byte}
+use Rattle.m51_flat.proofs.ram.FlatRamCellStore.byte.Goals as goal
+
+pub returns : goal.returns
+returns c =
+    let m : FlatBytes = record { ram = c.self.inside.ram.items; xram = c.self.inside.xram.items } in
+    let e : c.index.result.now ≡ slice_index m.ram c.args.address = grind (arith, common_steps) in
+    let inside : c.args.address < 256 = search rules in
+    let fits : slice_index m.ram c.args.address < 256 = search rules in
+    subst (λ m. Value c.index.result.now ≡ byte_seen (flat_cells m) c.args.address) c.self.view_is
+    (ap Value e ∙ sym (flat_byte m c.args.address inside fits))

@@ -1,0 +1,17 @@
+pub mod States
+pub mod Reads
+pub mod Sfr
+pub mod Operands
+pub mod Parts
+pub mod Actions
+pub mod Arithmetic
+pub mod Moves
+pub mod Bits
+pub mod Transfers
+pub mod Meaning
+pub mod Flat
+pub mod FlatLaws
+pub mod Reset
+pub mod Causes
+pub mod Laws
+pub mod BitLaws

@@ -1,0 +1,59 @@
+//! Conditional branches.
+ghost use Rattle.std.specs.Prelude.{◌≡◌, IfErr};
+ghost use Rattle.m51_flat.specs.Causes.{IsMissing};
+ghost use Rattle.m51_flat.specs.Reads.{answer};
+ghost use Rattle.m51_flat.specs.Transfers.{compared, counted_down, is_met};
+
+use crate::actions::{ByteOperand, Condition, Place};
+use crate::operands::{locate, read_latch_at, read_operand, write_location};
+use crate::sfr::{ACC, read_latch};
+use crate::state::{Cpu, Effect, Missing, Pins};
+use crate::store::CellStore;
+use crate::writing::{branch_if, read_carry, write_carry};
+
+/// The condition of JC, JNC, JZ and JNZ.
+#[tactic(auto, unfolding(crate::specs::Transfers::is_met))]
+pub(crate) fn meets(condition: Condition, cpu: &Cpu) -> bool
+    ensures { result ≡ is_met condition cpu.now }
+{
+    match condition {
+        Condition::IfCarry => read_carry(cpu),
+        Condition::IfNoCarry => !read_carry(cpu),
+        Condition::IfZero => read_latch(cpu, ACC) == 0,
+        Condition::IfNotZero => read_latch(cpu, ACC) != 0,
+    }
+}
+
+/// CJNE: CY says that the first operand is less, and the branch is taken where they differ.
+#[tactic(auto, using(crate::proofs::Readings::answer_then), unfolding(crate::specs::Transfers::compared))]
+pub(crate) fn compare<M: CellStore>(
+    store: &M,
+    ext: &Pins,
+    effect: Effect,
+    first: ByteOperand,
+    second: ByteOperand,
+    rel: u8,
+) -> Result<Effect, Missing>
+    ensures value { result ≡ answer (M.cells store.now) (compared ext.now effect first second rel) }
+    ensures missing { IfErr result (IsMissing (M.cells store.now)) }
+{
+    let a = read_operand(store, &effect.cpu, ext, first)?;
+    let b = read_operand(store, &effect.cpu, ext, second)?;
+    Ok(branch_if(write_carry(effect, a < b), a != b, rel))
+}
+
+/// DJNZ: an operand, of a port its latch, is counted down, and the branch is taken where it is not 0.
+#[tactic(auto, using(crate::proofs::Readings::answer_then), unfolding(crate::specs::Transfers::counted_down))]
+pub(crate) fn count_down<M: CellStore>(
+    store: &M,
+    effect: Effect,
+    place: Place,
+    rel: u8,
+) -> Result<Effect, Missing>
+    ensures value { result ≡ answer (M.cells store.now) (counted_down effect place rel) }
+    ensures missing { IfErr result (IsMissing (M.cells store.now)) }
+{
+    let location = locate(store, &effect.cpu, place)?;
+    let value = read_latch_at(store, &effect.cpu, location)?.wrapping_sub(1);
+    Ok(branch_if(write_location(effect, location, value), value != 0, rel))
+}

@@ -1,0 +1,141 @@
+//! A reset, and one instruction.
+ghost use Rattle.std.specs.Prelude.{◌≡◌, length, IfSome};
+ghost use Rattle.m51_isa.specs.Table.{flow_of};
+ghost use Rattle.m51_flat.specs.Causes.{IsBarred, IsCause, IsWhole, unless_down};
+ghost use Rattle.m51_flat.specs.Laws.{Follows, HasParity, IfDone, next_address};
+ghost use Rattle.m51_flat.specs.Meaning.{allowed, outcome_of, outcome_over, plan_of, started};
+ghost use Rattle.m51_flat.specs.Reads.{Agrees, CellMap, result_over};
+ghost use Rattle.m51_flat.specs.Reset.{reset_cpu, reset_values};
+ghost use Rattle.m51_flat.specs.Sfr.{latch, sp};
+ghost use Rattle.m51_flat.specs.States.{shut_of};
+
+use crate::action_table::action_for;
+use crate::performing::perform;
+use crate::sfr::{P0, P1, P2, P3, PCON, SP, read_flag};
+use crate::state::{Cpu, Effect, Missing, Outcome, Pins, Put, Transfer};
+use crate::store::CellStore;
+use m51_cells::Cell;
+use m51_isa::{Instr, cycles, length};
+
+/// The power-down bit of PCON.
+const POWER_DOWN: u8 = 1;
+
+/// The registers after a reset: SP is 07H, the latches of the ports are FFH, and all else is 0.
+fn reset_registers() -> [u8; 128]
+    ensures { result ≡ reset_values 128 0x80 }
+{
+    let mut regs = [0; 128];
+    regs[usize::from(SP - 0x80)] = 0x07;
+    regs[usize::from(P0 - 0x80)] = 0xFF;
+    regs[usize::from(P1 - 0x80)] = 0xFF;
+    regs[usize::from(P2 - 0x80)] = 0xFF;
+    regs[usize::from(P3 - 0x80)] = 0xFF;
+    regs
+}
+
+/// The processor after a reset: PC is 0, SP is 07H, the latches of the ports are FFH, and all else is 0.
+///
+/// Source: family manual.
+pub fn reset() -> Cpu
+    ensures value { result ≡ reset_cpu }
+    ensures parity { HasParity result }
+{
+    Cpu {
+        pc: 0,
+        regs: reset_registers(),
+        low: false,
+        high: false,
+        held: false,
+    }
+}
+
+/// The effect of an instruction that only goes on to the next.
+fn start(cpu: &Cpu, instr: &Instr) -> Effect
+    ensures { result ≡ started cpu.now instr.now }
+{
+    let mut next = *cpu;
+    next.pc = cpu.pc.wrapping_add(u16::from(length(instr)));
+    next.held = false;
+    Effect {
+        cpu: next,
+        first: Put::Nothing,
+        second: Put::Nothing,
+        transfer: Transfer::Next,
+        port: None,
+        sbuf: None,
+        cycles: cycles(instr),
+    }
+}
+
+/// The lowest cell of a put that may not be written.
+#[tactic(auto, using(crate::proofs::Causes::shut_barred))]
+fn shut_cell<M: CellStore>(store: &M, put: Put) -> Option<Cell>
+    ensures value { result ≡ shut_of (M.barred store.now) put }
+    ensures barred { IfSome result (IsBarred (M.barred store.now)) }
+{
+    store.shut(&put)
+}
+
+/// The effect, where its puts may be written and it does not power down.
+fn allow<M: CellStore>(store: &M, effect: Effect) -> Outcome
+    ensures value { result ≡ allowed (M.barred store.now) effect }
+    ensures cause { IsCause (M.cells store.now) (M.barred store.now) result }
+{
+    if let Some(cell) = shut_cell(store, effect.first) {
+        return Outcome::Outside(cell);
+    }
+    if let Some(cell) = shut_cell(store, effect.second) {
+        return Outcome::Outside(cell);
+    }
+    if read_flag(&effect.cpu, PCON, POWER_DOWN) {
+        Outcome::PowerDown
+    } else {
+        Outcome::Done(effect)
+    }
+}
+
+#[tactic(auto, unfolding(crate::specs::Meaning::outcome_of))]
+fn run<M: CellStore>(cpu: &Cpu, store: &M, instr: &Instr, image: &[u8], ext: &Pins) -> Outcome
+    requires { length image.now ≡ 65536 }
+    ensures value { result ≡ outcome_of cpu.now (M.cells store.now) (M.barred store.now) instr.now image.now ext.now }
+    ensures cause { IsCause (M.cells store.now) (M.barred store.now) result }
+{
+    match perform(store, image, ext, start(cpu, instr), action_for(instr)) {
+        Ok(effect) => allow(store, effect),
+        Err(Missing::Outside(cell)) => Outcome::Outside(cell),
+        Err(Missing::Unset(cell)) => Outcome::Unset(cell),
+    }
+}
+
+/// What an instruction comes to over a store. It changes nothing: the caller puts `first` and then `second`.
+///
+/// - `Outside` and `Unset`: the first read that the store does not answer, in the order of the operands.
+/// - `Outside`, else: the lowest cell of the first put, then of the second, that may not be written.
+/// - `PowerDown`, else: PCON bit 1 would be set.
+/// - `Done`, else, with the whole effect.
+///
+/// Source: family manual; own choice ("Effects").
+pub fn exec<M: CellStore>(cpu: &Cpu, store: &M, instr: &Instr, image: &[u8], ext: &Pins) -> Outcome
+    requires { length image.now ≡ 65536 }
+    ensures outcome { result ≡ outcome_of cpu.now (M.cells store.now) (M.barred store.now) instr.now image.now ext.now }
+
+    // Over any map that agrees with the store: its reads up to the first that fails, or else its effect.
+    ensures over_map { (m : CellMap) → Agrees (M.cells store.now) m
+        → result ≡ outcome_over m cpu.now (M.cells store.now) (M.barred store.now) instr.now image.now ext.now }
+
+    // A cell that it names exists, and is outside or barred, or was never written.
+    ensures missing { IsCause (M.cells store.now) (M.barred store.now) result }
+
+    // Over a store that holds a map, and of which no cell is barred: the effect over the map, or power-down.
+    ensures whole { (m : CellMap) → IsWhole (M.cells store.now) (M.barred store.now) m
+        → result ≡ unless_down (result_over m (plan_of cpu.now instr.now image.now ext.now)) }
+
+    // PSW bit 0 stays the parity of ACC.
+    ensures parity { HasParity cpu.now → IfDone result (λ e. HasParity e.cpu) }
+
+    // Control goes on by the flow of the instruction: PC of the next, a call's two bytes, SP after a call or a return.
+    ensures control { IfDone result (λ e.
+        Follows (flow_of instr.now) (next_address cpu.now instr.now) (latch cpu.now sp) e) }
+{
+    run(cpu, store, instr, image, ext)
+}

@@ -1,0 +1,139 @@
+//! The processor's state, what an instruction changes, and what it comes to.
+use m51_cells::Cell;
+
+/// A write to memory.
+///
+/// Source: own choice ("Effects").
+#[derive(Clone, Copy, Debug, PartialEq, Eq)]
+pub enum Put {
+    /// No write.
+    Nothing,
+    /// A byte of internal RAM: its eight cells.
+    Byte { address: u8, value: u8 },
+    /// A bit of internal RAM by its bit address, 00H to 7FH: one cell.
+    Bit { address: u8, value: bool },
+    /// A byte of external data memory: one cell.
+    Xbyte { address: u16, value: u8 },
+}
+
+/// What a read of a store answers.
+///
+/// Source: own choice ("Stores of cells").
+#[derive(Clone, Copy, Debug, PartialEq, Eq)]
+pub enum Seen {
+    /// The value; that of a bit is 0 or 1.
+    Value(u8),
+    /// The lowest cell of the read without a value is outside the store.
+    Outside(Cell),
+    /// The lowest cell of the read without a value was never written.
+    Unset(Cell),
+}
+
+/// Why a read has no value.
+#[derive(Clone, Copy, Debug, PartialEq, Eq)]
+pub(crate) enum Missing {
+    /// This cell is outside the store.
+    Outside(Cell),
+    /// This cell was never written.
+    Unset(Cell),
+}
+
+/// The levels that the outside gives the pins of ports 0 to 3, a bit for each pin.
+///
+/// Source: family manual.
+#[derive(Clone, Copy, Debug, PartialEq, Eq)]
+pub struct Pins {
+    /// The eight levels of each port, by its number.
+    pub p: [u8; 4],
+}
+
+/// The program counter, the special function registers, and what the interrupt system keeps.
+///
+/// Source: family manual.
+#[derive(Clone, Copy, Debug, PartialEq, Eq)]
+pub struct Cpu {
+    /// The address of the next instruction.
+    pub pc: u16,
+    /// The register at 80H and above by its address less 80H: of a port its latch, of SBUF the received byte.
+    pub regs: [u8; 128],
+    /// An interrupt of the low level is in progress.
+    pub low: bool,
+    /// An interrupt of the high level is in progress.
+    pub high: bool,
+    /// The step before was RETI or wrote IE or IP, so no interrupt is taken.
+    pub held: bool,
+}
+
+/// A source of interrupts, in their order.
+///
+/// Source: family manual.
+#[derive(Clone, Copy, Debug, PartialEq, Eq)]
+pub enum Source {
+    /// External interrupt 0, at 0003H.
+    Ie0,
+    /// Overflow of timer 0, at 000BH.
+    Tf0,
+    /// External interrupt 1, at 0013H.
+    Ie1,
+    /// Overflow of timer 1, at 001BH.
+    Tf1,
+    /// The serial port, at 0023H.
+    Serial,
+    /// Timer 2, at 002BH.
+    Timer2,
+}
+
+/// How control goes on.
+///
+/// Source: own choice ("Effects").
+#[derive(Clone, Copy, Debug, PartialEq, Eq)]
+pub enum Transfer {
+    /// To the next instruction.
+    Next,
+    /// To the target of a jump or of a taken branch.
+    Jump,
+    /// To the target of a call.
+    Call,
+    /// To the address that RET took from the stack.
+    Ret,
+    /// To the address that RETI took from the stack.
+    Reti,
+    /// To the vector of an interrupt.
+    Vector(Source),
+}
+
+/// All that a step changes.
+///
+/// Source: own choice ("Effects").
+#[derive(Clone, Copy, Debug, PartialEq, Eq)]
+pub struct Effect {
+    /// The processor afterwards.
+    pub cpu: Cpu,
+    /// The write that comes first.
+    pub first: Put,
+    /// The write that comes second.
+    pub second: Put,
+    /// How control goes on.
+    pub transfer: Transfer,
+    /// The number of the port whose latch was written, 0 to 3.
+    pub port: Option<u8>,
+    /// The byte that was written to SBUF.
+    pub sbuf: Option<u8>,
+    /// Machine cycles, 1 to 4.
+    pub cycles: u8,
+}
+
+/// What an instruction comes to.
+///
+/// Source: own choice ("Effects").
+#[derive(Clone, Copy, Debug, PartialEq, Eq)]
+pub enum Outcome {
+    /// Its effect.
+    Done(Effect),
+    /// It would read or write this cell, which is outside the store.
+    Outside(Cell),
+    /// It would read this cell, which was never written.
+    Unset(Cell),
+    /// It would set the power-down bit of PCON.
+    PowerDown,
+}

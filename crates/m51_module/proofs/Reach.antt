@@ -1,0 +1,46 @@
+-- Walks that go on.
+use Rattle.std.proofs.Common.{◌≡◌, ◌⊎◌, inl, inr, ℕ, List, [], ◌∷◌, ◌++◌, refl, sym, subst}
+use Rattle.m51_module.specs.Walks.{Edges, HasEdge, IsWalk, last_of, Reaches}
+use Rattle.m51_module.specs.Roots.{LiesUnder}
+
+walk_on : (edges : Edges) (u : ℕ) (vs : List ℕ) (w : ℕ) → IsWalk edges u vs → HasEdge edges (last_of u vs) w → IsWalk edges u (vs ++ w ∷ [])
+walk_on edges u [] w p h = (h, tt)
+walk_on edges u (v ∷ vs) w p h = (p.0, walk_on edges v vs w p.1 h)
+
+last_on : (u : ℕ) (vs : List ℕ) (w : ℕ) → last_of u (vs ++ w ∷ []) ≡ w
+last_on u [] w = refl
+last_on u (v ∷ vs) w = last_on v vs w
+
+-- an edge is a walk
+pub reach_edge : (edges : Edges) (u v : ℕ) → HasEdge edges u v → Reaches edges u v
+reach_edge edges u v h = record { next = v; more = []; walk = (h, tt); ends = refl }
+
+-- a walk and then an edge
+pub reach_on : (edges : Edges) (u v w : ℕ) → Reaches edges u v → HasEdge edges v w → Reaches edges u w
+reach_on edges u v w r h = record {
+  next = r.next;
+  more = r.more ++ w ∷ [];
+  walk = (r.walk.0, walk_on edges r.next r.more w r.walk.1 (subst (λ x. HasEdge edges x w) (sym r.ends) h));
+  ends = last_on r.next r.more w;
+}
+
+-- an edge and then a walk
+pub reach_from : (edges : Edges) (u v w : ℕ) → HasEdge edges u v → Reaches edges v w → Reaches edges u w
+reach_from edges u v w h r = record { next = v; more = r.next ∷ r.more; walk = (h, r.walk); ends = r.ends }
+
+-- the unit, or one that reaches it, and then an edge
+pub lead_on : (edges : Edges) (u v w : ℕ) → (u ≡ v) ⊎ Reaches edges u v → HasEdge edges v w → Reaches edges u w
+lead_on edges u v w (inl s) h = subst (λ x. Reaches edges x w) (sym s) (reach_edge edges v w h)
+lead_on edges u v w (inr r) h = reach_on edges u v w r h
+
+-- what lies under a root, and then an edge
+pub under_on : (edges : Edges) (IsRoot : ℕ → ℕ → Type 0) (x u v : ℕ) → LiesUnder edges IsRoot x u → HasEdge edges u v → LiesUnder edges IsRoot x v
+under_on edges IsRoot x u v h e = record { root = h.root; is_root = h.is_root; leads = inr (lead_on edges h.root u v h.leads e) }
+
+-- a root lies under itself
+pub under_root : (edges : Edges) (IsRoot : ℕ → ℕ → Type 0) (x u : ℕ) → IsRoot x u → LiesUnder edges IsRoot x u
+under_root edges IsRoot x u h = record { root = u; is_root = h; leads = inl refl }
+
+-- roots of another kind, which are roots of this one
+pub under_roots : (edges : Edges) (Some All : ℕ → ℕ → Type 0) → ((x u : ℕ) → Some x u → All x u) → (x u : ℕ) → LiesUnder edges Some x u → LiesUnder edges All x u
+under_roots edges Some All are x u h = record { root = h.root; is_root = are x h.root h.is_root; leads = h.leads }

@@ -1,0 +1,173 @@
+//! Sound layouts.
+ghost use Rattle.std.specs.Prelude.{◌≡◌, ◌<◌, ◌≤◌, ◌↔◌, ℕ, IsTrue, IfOk, IfSome, Some, [], length};
+ghost use Rattle.std.specs.List.{Contains};
+ghost use Rattle.m51_module.specs.Roots.{vectors};
+ghost use Rattle.m51_module.specs.Walks.{HasEdge};
+ghost use Rattle.m51_module.specs.Plan.{owners_of, AreLocals, IsOverlaid, IsUnit, IsRootAt, IsUnitAt};
+ghost use Rattle.m51_module.specs.Sound.{IsSound};
+
+use crate::rows::{local_rows, owner_rows};
+use crate::{LayoutParts, Mark, Placed, Units};
+use m51_cells::{Kind, NoMemory};
+use std::alloc::Global;
+use std::marker::Model;
+
+/// A sound layout, which contracts see as its parts.
+///
+/// Source: own choice ("Layouts").
+#[derive(Drop)]
+pub struct Layout {
+    parts: LayoutParts,
+    owner_rows: Vec<Units>,
+    local_rows: Vec<Units>,
+}
+
+impl Model for Layout {
+    ghost use Rattle.m51_module.specs.declared.parts.LayoutParts.{LayoutParts};
+    ghost use Rattle.m51_module.specs.Kept.{IsKept};
+
+    ghost Value = { LayoutParts };
+
+    ghost view = { λ l. l.parts };
+
+    ghost invariant = { λ l. IsKept l.parts l.owner_rows.items l.local_rows.items };
+}
+
+// Whether the reset or an interrupt begins at this address.
+fn is_vector(address: u16) -> bool
+    ensures { IsTrue result ↔ Contains vectors address }
+{
+    [0x00, 0x03, 0x0B, 0x13, 0x1B, 0x23, 0x2B].contains(&address)
+}
+
+impl Layout {
+    /// The layout of these parts. Want of memory is the one refusal.
+    ///
+    /// Source: own choice ("Layouts").
+    pub fn make(alloc: Global, parts: LayoutParts) -> Result<Layout, NoMemory>
+        requires { IsSound parts }
+        ensures { IfOk result (λ layout. layout ≡ parts) }
+    {
+        let owner_rows = owner_rows(alloc, parts.owners.as_slice(), parts.placed.len())?;
+        let local_rows = local_rows(alloc, &owner_rows, parts.units.len())?;
+        Ok(Layout {
+            parts,
+            owner_rows,
+            local_rows,
+        })
+    }
+
+    /// The placed extents in order of placing.
+    ///
+    /// Source: own choice ("Layouts").
+    pub fn placed(&self) -> &[Placed]
+        ensures list { result.now ≡ self.now.placed }
+        ensures sound { IsSound self.now }
+    {
+        self.parts.placed.as_slice()
+    }
+
+    /// For each unit its place among the placed extents.
+    ///
+    /// Source: own choice ("Layouts").
+    pub fn units(&self) -> &[u16]
+        ensures list { result.now ≡ self.now.units }
+        ensures sound { IsSound self.now }
+    {
+        self.parts.units.as_slice()
+    }
+
+    /// Whether an edge leads from the first unit to the second.
+    ///
+    /// Source: own choice ("Edges").
+    pub fn edge(&self, from: u16, to: u16) -> bool
+        requires from { from < length self.now.units }
+        requires to { to < length self.now.units }
+        ensures { IsTrue result ↔ HasEdge self.now.edges from to }
+    {
+        self.parts.edges.as_slice().contains(&(from, to))
+    }
+
+    // The placed extent that a unit is.
+    #[tactic(auto, using(crate::proofs::Units::unit_place, crate::proofs::Units::unit_at_place))]
+    fn unit(&self, unit: usize) -> &Placed
+        requires { unit < length self.now.units }
+        ensures unit { IsUnit self.now unit result.now }
+        ensures code { result.now.kind ≡ Kind.Code }
+    {
+        &self.parts.placed.as_slice()[usize::from(self.parts.units.as_slice()[unit])]
+    }
+
+    // Whether the unit covers the address.
+    #[tactic(auto, using(crate::proofs::Units::at_from_covers, crate::proofs::Units::covers_from_at))]
+    fn covers(&self, unit: usize, address: u16) -> bool
+        requires { unit < length self.now.units }
+        ensures { IsTrue result ↔ IsUnitAt self.now address unit }
+    {
+        self.unit(unit).covers(address)
+    }
+
+    /// The unit that covers the address, if one does.
+    ///
+    /// Source: own choice ("Units").
+    #[tactic(auto, using(crate::proofs::Units::one_unit, crate::proofs::Units::unit_below))]
+    pub fn unit_at(&self, address: u16) -> Option<u16>
+        ensures some { IfSome result (λ unit. IsUnitAt self.now address unit) }
+        ensures only { (unit : ℕ) → IsUnitAt self.now address unit → result ≡ Some unit }
+    {
+        for unit in 0..self.parts.units.len() {
+            if self.covers(unit, address) {
+                return Some(unit as u16);
+            }
+        }
+        None
+    }
+
+    // Whether the unit is the root at this vector.
+    #[tactic(auto, using(crate::proofs::Units::root_from_parts, crate::proofs::Units::parts_from_root))]
+    fn is_root(&self, unit: usize, vector: u16) -> bool
+        requires { unit < length self.now.units }
+        ensures { IsTrue result ↔ IsRootAt self.now vector unit }
+    {
+        let placed = self.unit(unit);
+        is_vector(vector) && placed.mark == Mark::Absolute && placed.base == vector
+    }
+
+    /// The unit that is the root at this vector, if there is one: an absolute segment of program memory that begins there.
+    /// No root is at another address than the vectors of the reset and of the six interrupts.
+    ///
+    /// Source: own choice ("Roots").
+    #[tactic(auto, using(crate::proofs::Units::one_root, crate::proofs::Units::root_below))]
+    pub fn root(&self, vector: u16) -> Option<u16>
+        ensures some { IfSome result (λ unit. IsRootAt self.now vector unit) }
+        ensures only { (unit : ℕ) → IsRootAt self.now vector unit → result ≡ Some unit }
+    {
+        for unit in 0..self.parts.units.len() {
+            if self.is_root(unit, vector) {
+                return Some(unit as u16);
+            }
+        }
+        None
+    }
+
+    /// The units that own the extent, its own unit first; empty unless it is overlaid.
+    ///
+    /// Source: own choice ("Owners").
+    pub fn owners(&self, segment: u16) -> &[u16]
+        requires { segment < length self.now.placed }
+        ensures list { result.now ≡ owners_of self.now.owners segment }
+        ensures plain { (IsOverlaid self.now segment → ⊥) → result.now ≡ [] }
+    {
+        self.owner_rows[usize::from(segment)].as_slice()
+    }
+
+    /// The overlaid segments that the unit owns, ascending.
+    ///
+    /// Source: own choice ("Owners").
+    pub fn locals(&self, unit: u16) -> &[u16]
+        requires { unit < length self.now.units }
+        ensures { AreLocals self.now unit result.now }
+    {
+        self.local_rows[usize::from(unit)].as_slice()
+    }
+}

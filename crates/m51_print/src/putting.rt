@@ -1,0 +1,80 @@
+//! Texts and numbers put into the array of a line.
+ghost use Rattle.std.specs.Prelude.{◌≡◌, ◌≤◌, ◌+◌, ◌++◌, ◌<◌, true, length, take};
+ghost use Rattle.std.specs.Fmt.{decimal, digit_glyph};
+ghost use Rattle.m51_cells.specs.Hex.{hex2, hex4};
+
+// Puts the bytes behind the first `at` of the line, and answers where they end.
+pub fn put(into: &mut [u8; 128], at: usize, bytes: &[u8]) -> usize
+    requires { at + length bytes.now ≤ 128 }
+    ensures end { result ≡ at + length bytes.now }
+    ensures written { take result into.new ≡ take at into.old ++ bytes.now }
+{
+    let end = at + bytes.len();
+    into[at..end].copy_from_slice(bytes);
+    end
+}
+
+// The front of the number first: its last digit is the one that is left.
+#[tactic(auto, using(std::proofs::lemmas::Fmt::decimal_digit))]
+fn put_digits(into: &mut [u8; 128], at: usize, number: u64) -> usize
+    requires { at + length (decimal number) ≤ 128 }
+    ensures end { result ≡ at + length (decimal number) }
+    ensures written { take result into.new ≡ take at into.old ++ decimal number }
+{
+    if number < 10 {
+        return put(into, at, &[b'0' + number as u8]);
+    }
+    let front = put_digits(into, at, number / 10);
+    put(into, front, &[b'0' + (number % 10) as u8])
+}
+
+// Puts a number in decimal, which takes up to 20 digits.
+pub fn put_decimal(into: &mut [u8; 128], at: usize, number: u64) -> usize
+    requires { at + 20 ≤ 128 }
+    ensures bound { result ≤ at + 20 }
+    ensures written { take result into.new ≡ take at into.old ++ decimal number }
+{
+    put_digits(into, at, number)
+}
+
+// Puts a number below 10.
+#[tactic(auto, using(std::proofs::lemmas::Fmt::decimal_digit))]
+pub fn put_digit(into: &mut [u8; 128], at: usize, digit: u8) -> usize
+    requires digit { digit < 10 }
+    requires room { at + 1 ≤ 128 }
+    ensures end { result ≡ at + 1 }
+    ensures written { take result into.new ≡ take at into.old ++ decimal digit }
+{
+    put(into, at, &[b'0' + digit])
+}
+
+// The hexadecimal digit of a number below 16, in upper case.
+pub fn hex_digit(number: u8) -> u8
+    requires { number < 16 }
+    ensures { result ≡ digit_glyph true number }
+{
+    if number < 10 {
+        b'0' + number
+    } else {
+        b'A' + (number - 10)
+    }
+}
+
+// Puts the two digits of a byte.
+pub fn put_hex2(into: &mut [u8; 128], at: usize, byte: u8) -> usize
+    requires { at + 2 ≤ 128 }
+    ensures end { result ≡ at + 2 }
+    ensures written { take result into.new ≡ take at into.old ++ hex2 byte }
+{
+    put(into, at, &[hex_digit(byte / 16), hex_digit(byte % 16)])
+}
+
+// Puts the four digits of an address.
+pub fn put_hex4(into: &mut [u8; 128], at: usize, number: u16) -> usize
+    requires { at + 4 ≤ 128 }
+    ensures end { result ≡ at + 4 }
+    ensures written { take result into.new ≡ take at into.old ++ hex4 number }
+{
+    let middle = put_hex2(into, at, (number / 256) as u8);
+    put_hex2(into, middle, (number % 256) as u8)
+}

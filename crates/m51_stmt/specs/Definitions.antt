@@ -28,9 +28,14 @@ definition_of word =
     else if bytes_eq word (codes "SET") then Some Set
     else option_map Address (kind_of word)
 
--- the word of definitions behind a first word, if there is one; a kind behind EXTRN is none
+-- a kind behind EXTRN is no word of definitions
+abbrev pub beside_extrn : Option Definition → Option Definition
+beside_extrn (Some (Address k)) = None
+beside_extrn d = d
+
+-- the word of definitions behind a first word, if there is one
 abbrev pub definition_at : List ℕ → List Token → List ℕ → ℕ → Option Definition
-definition_at line tokens first at = if bytes_eq first (codes "EXTRN") then None else option_and_then definition_of (word_at line tokens at)
+definition_at line tokens first at = let d = option_and_then definition_of (word_at line tokens at) in if bytes_eq first (codes "EXTRN") then beside_extrn d else d
 
 -- an expression that ends the line
 abbrev pub expression_line : List ℕ → List Token → ℕ → Result Tree ℕ

@@ -1,8 +1,8 @@
 -- The forms of instructions (family manual): which mnemonics may have which operands. Nothing stands for no operand.
 use Rattle.std.specs.Prelude.{ℕ, Bool, true, false, if◌then◌else◌, List, [], ◌∷◌, codes, Option, Some, None}
 use Rattle.m51_expr.specs.Words.{is_among}
-use Rattle.m51_stmt.specs.declared.forms.Group.{Group}
-use Rattle.m51_stmt.specs.declared.forms.Group.TheVariants as group
+use Rattle.m51_stmt.specs.declared.groups.Group.{Group}
+use Rattle.m51_stmt.specs.declared.groups.Group.TheVariants as group
 use Rattle.m51_stmt.specs.declared.shape.Shape.{Shape}
 use Rattle.m51_stmt.specs.declared.shape.Shape.TheVariants.{Nothing, A, Ab, C, Dptr, APc, ADptr, AtDptr, R, AtR, Imm, Plain, NotBit}
 

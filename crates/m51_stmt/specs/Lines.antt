@@ -4,7 +4,7 @@ use Rattle.m51_lex.specs.declared.token.Token.{Token}
 use Rattle.m51_lex.specs.Tokens.{tokens_at}
 use Rattle.m51_expr.specs.Words.{is_reserved}
 use Rattle.m51_expr.specs.Symbol.{symbol_at}
-use Rattle.m51_stmt.specs.declared.forms.Group.{Group}
+use Rattle.m51_stmt.specs.declared.groups.Group.{Group}
 use Rattle.m51_stmt.specs.declared.lack.Want.TheVariants as want
 use Rattle.m51_stmt.specs.declared.definitions.Definition.{Definition}
 use Rattle.m51_stmt.specs.declared.directives.Directive.{Directive}

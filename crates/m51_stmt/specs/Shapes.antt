@@ -1,6 +1,6 @@
 -- What operands look like, and which a mnemonic may have.
 use Rattle.std.specs.Prelude.{ℕ, Bool, false, List, [], ◌∷◌, Option, Some, None}
-use Rattle.m51_stmt.specs.declared.forms.Group.{Group}
+use Rattle.m51_stmt.specs.declared.groups.Group.{Group}
 use Rattle.m51_stmt.specs.declared.shape.Shape.{Shape}
 use Rattle.m51_stmt.specs.declared.shape.Shape.TheVariants as shape
 use Rattle.m51_stmt.specs.Statement.{OperandTree, A, Ab, C, Dptr, APc, ADptr, AtDptr, R, AtR, Imm, Plain, NotBit}

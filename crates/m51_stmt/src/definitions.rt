@@ -7,7 +7,7 @@ ghost use Rattle.m51_stmt.specs.Kinds.{kind_of};
 ghost use Rattle.m51_stmt.specs.Statement.{body_tree};
 ghost use Rattle.m51_stmt.specs.Answer.{fault_of};
 ghost use Rattle.m51_stmt.specs.Lack.{same};
-ghost use Rattle.m51_stmt.specs.Definitions.{definition_of, definition_at, expression_line, reloc_at, overlayable_at, segment, is_segment, definition_met, valued, definition_form, defined, is_code, may_be};
+ghost use Rattle.m51_stmt.specs.Definitions.{definition_of, beside_extrn, definition_at, expression_line, reloc_at, overlayable_at, segment, is_segment, definition_met, valued, definition_form, defined, is_code, may_be};
 
 use crate::fault::StmtError;
 use crate::kinds::{allows, kind_of, reloc_of};
@@ -60,6 +60,16 @@ fn definition_word(word: Option<Name>) -> Option<Definition>
     }
 }
 
+// A kind behind EXTRN is no word of definitions.
+fn beside_extrn(definition: Option<Definition>) -> Option<Definition>
+    ensures { result ≡ beside_extrn definition }
+{
+    match definition {
+        Some(Definition::Address(_)) => None,
+        _ => definition,
+    }
+}
+
 /// The word of definitions behind a first word, if there is one. A kind behind EXTRN is none.
 pub(crate) fn definition_at(
     line: &[u8],
@@ -70,10 +80,11 @@ pub(crate) fn definition_at(
     requires { All (IsWithin (length line.now)) tokens.now }
     ensures { result ≡ definition_at line.now tokens.now first.now at }
 {
+    let definition = definition_word(word_at(line, tokens, at));
     if first == b"EXTRN".as_slice() {
-        return None;
+        return beside_extrn(definition);
     }
-    definition_word(word_at(line, tokens, at))
+    definition
 }
 
 /// The expression from a place to the end of the line, or E12.

@@ -3,10 +3,12 @@
 
 mod control;
 mod definitions;
+mod directive_forms;
 mod directives;
 mod externs;
 mod fault;
 mod forms;
+mod groups;
 mod indirect;
 mod kinds;
 mod lack;

@@ -8,9 +8,10 @@ ghost use Rattle.m51_stmt.specs.Lines.{is_mnemonic, spoken, said, label_at, behi
 
 use crate::control::control;
 use crate::definitions::{defined, definition_at};
-use crate::directives::{directed, directive_of};
+use crate::directive_forms::directed;
+use crate::directives::directive_of;
 use crate::fault::StmtError;
-use crate::forms::group_of;
+use crate::groups::group_of;
 use crate::lack::{Want, met};
 use crate::operands::instruction;
 use crate::statement::{Body, Stmt};

@@ -3,7 +3,8 @@ ghost use Rattle.std.specs.Prelude.{◌≡◌, map};
 ghost use Rattle.m51_stmt.specs.Statement.{operand_tree};
 ghost use Rattle.m51_stmt.specs.Shapes.{shape_of, fits, has_form};
 
-use crate::forms::{group_of, is_form_of};
+use crate::forms::is_form_of;
+use crate::groups::group_of;
 use crate::statement::Operand;
 
 /// What an operand looks like, or that there is none.

@@ -191,6 +191,7 @@ AR0 EQU 5\n\
 MOV DATA,A\n\
 DB SET\n\
 PUSH BIT\n\
+EXTRN EQU (\n\
 L: X EQU 5\n\
 RSEG MOV\n\
 NAME ADD\n\

@@ -1,0 +1,82 @@
+-- Control lines (the assembler's rules of controls): $ and a word in either case, blanks, and a comment.
+use Rattle.std.specs.Prelude.{ℕ, ◌==◌, ◌&&◌, ◌||◌, not, Bool, true, false, if◌then◌else◌, List, [], ◌∷◌, take, drop, codes, Option, Some, None, Result, Ok, Err, option_and_then}
+use Rattle.std.specs.Char.{is_ascii_alphanumeric}
+use Rattle.std.specs.List.{prefix_len}
+use Rattle.std.specs.Str.{bytes_eq}
+use Rattle.m51_cells.specs.Name.{name_of}
+use Rattle.m51_lex.specs.Characters.{space, tab, semicolon}
+use Rattle.m51_expr.specs.Words.{is_among}
+use Rattle.m51_stmt.specs.Statement.{BodyTree, Ignored, Include, Mod51}
+
+abbrev pub is_blank : ℕ → Bool
+is_blank b = b == space || b == tab
+
+-- a byte that may stand between the parentheses of a control: none of ) and ;
+abbrev pub is_inside : ℕ → Bool
+is_inside b = not (b == 0x29) && not (b == semicolon)
+
+abbrev pub behind_blanks : List ℕ → List ℕ
+behind_blanks rest = drop (prefix_len is_blank rest) rest
+
+abbrev pub is_comment : List ℕ → Bool
+is_comment [] = true
+is_comment (c ∷ rest) = c == semicolon
+
+-- blanks and a comment alone
+abbrev pub ends : List ℕ → Bool
+ends rest = is_comment (behind_blanks rest)
+
+-- what stands behind this sign, where it comes first
+abbrev pub behind_sign : ℕ → List ℕ → Option (List ℕ)
+behind_sign sign [] = None
+behind_sign sign (c ∷ rest) = if c == sign then Some rest else None
+
+abbrev pub if_ended : List ℕ → List ℕ → Option (List ℕ)
+if_ended inner behind = if ends behind then Some inner else None
+
+abbrev pub closed_at : List ℕ → ℕ → Option (List ℕ)
+closed_at inner len = if len == 0 then None else option_and_then (if_ended (take len inner)) (behind_sign 0x29 (drop len inner))
+
+-- one or more bytes between parentheses, behind which blanks and a comment alone stand
+abbrev pub parenthesized : List ℕ → Option (List ℕ)
+parenthesized rest = option_and_then (λ inner. closed_at inner (prefix_len is_inside inner)) (behind_sign 0x28 (behind_blanks rest))
+
+-- a control that stands alone
+abbrev pub alone : List ℕ → BodyTree → Result BodyTree ℕ
+alone rest body = if ends rest then Ok body else Err 12
+
+abbrev pub include_of : Option (List ℕ) → Result BodyTree ℕ
+include_of (Some name) = Ok (Include name)
+include_of None = Err 12
+
+abbrev pub include : List ℕ → Result BodyTree ℕ
+include rest = include_of (parenthesized rest)
+
+abbrev pub ignored_if : Option (List ℕ) → Result BodyTree ℕ
+ignored_if (Some text) = Ok Ignored
+ignored_if None = Err 12
+
+-- a title stands alone, or with a text
+abbrev pub title : List ℕ → Result BodyTree ℕ
+title rest = if ends rest then Ok Ignored else ignored_if (parenthesized rest)
+
+unfoldable pub is_ignored_word : List ℕ → Bool
+is_ignored_word word = is_among word (codes "LIST" ∷ codes "NOLIST" ∷ codes "DEBUG" ∷ codes "NODEBUG" ∷ codes "EJECT" ∷ [])
+
+-- what the word and what follows it say
+unfoldable pub by_word : List ℕ → List ℕ → Result BodyTree ℕ
+by_word word rest =
+    if bytes_eq word (codes "INCLUDE") then include rest
+    else if bytes_eq word (codes "TITLE") then title rest
+    else if bytes_eq word (codes "MOD51") then alone rest (Mod51 true)
+    else if bytes_eq word (codes "NOMOD51") then alone rest (Mod51 false)
+    else if is_ignored_word word then alone rest Ignored
+    else Err 12
+
+abbrev pub by_name : Option (List ℕ) → List ℕ → Result BodyTree ℕ
+by_name (Some word) rest = by_word word rest
+by_name None rest = Err 12
+
+-- what a control line says, whose $ stands before these bytes
+abbrev pub control : List ℕ → Result BodyTree ℕ
+control rest = let len = prefix_len is_ascii_alphanumeric rest in by_name (name_of (take len rest)) (drop len rest)

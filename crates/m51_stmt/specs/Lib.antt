@@ -1,0 +1,16 @@
+pub mod Statement
+pub mod Answer
+pub mod Words
+pub mod Indirect
+pub mod Forms
+pub mod Shapes
+pub mod Operands
+pub mod Lack
+pub mod Kinds
+pub mod Lists
+pub mod Externs
+pub mod Definitions
+pub mod Directives
+pub mod Control
+pub mod Lines
+pub mod Printing

@@ -1,0 +1,47 @@
+//! What may be wrong with a line.
+ghost use Rattle.std.specs.Prelude.{◌≡◌};
+
+use m51_cells::NoMemory;
+use std::alloc::{AllocError, AllocFailed};
+
+/// What is wrong with a line.
+///
+/// Source: own choice ("Faults of a line").
+#[derive(Clone, Copy, Debug, PartialEq, Eq)]
+pub enum StmtError {
+    /// The fault E`number`: 1 to 5 as of tokens, 6 where no expression stands, 11 for no instruction or a form that it
+    /// has not, 12 for a directive, definition or control line out of its form, or a reserved word.
+    Fault { number: u8 },
+    /// Want of memory.
+    Memory,
+}
+
+impl From<AllocError> for StmtError {
+    ghost use Rattle.m51_stmt.specs.declared.fault.StmtError.TheVariants.{Memory};
+
+    ghost from_gives = { λ _ e. e ≡ Memory };
+
+    fn from(_error: AllocError) -> StmtError {
+        StmtError::Memory
+    }
+}
+
+impl<T: Drop> From<AllocFailed<T>> for StmtError {
+    ghost use Rattle.m51_stmt.specs.declared.fault.StmtError.TheVariants.{Memory};
+
+    ghost from_gives = { λ _ e. e ≡ Memory };
+
+    fn from(_error: AllocFailed<T>) -> StmtError {
+        StmtError::Memory
+    }
+}
+
+impl From<NoMemory> for StmtError {
+    ghost use Rattle.m51_stmt.specs.declared.fault.StmtError.TheVariants.{Memory};
+
+    ghost from_gives = { λ _ e. e ≡ Memory };
+
+    fn from(_error: NoMemory) -> StmtError {
+        StmtError::Memory
+    }
+}

@@ -1,0 +1,29 @@
+//! Reads the lines of an assembler source as statements, and prints statements.
+#![tactic(auto)]
+
+mod control;
+mod definitions;
+mod directive_forms;
+mod directives;
+mod externs;
+mod fault;
+mod forms;
+mod groups;
+mod indirect;
+mod kinds;
+mod lack;
+mod lists;
+mod operands;
+mod printing;
+mod reading;
+mod shape;
+mod statement;
+mod statement_printing;
+#[cfg(test)]
+mod tests;
+mod words;
+
+pub use fault::StmtError;
+pub use reading::read_line;
+pub use statement::{Body, Externs, Item, Items, Operand, Operands, Stmt};
+pub use statement_printing::print_stmt;

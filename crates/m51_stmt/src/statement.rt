@@ -1,0 +1,118 @@
+//! Statements.
+use m51_cells::{Bytes, Kind, ListOf, Name, Names, Reloc};
+use m51_expr::Expr;
+
+/// An operand of an instruction.
+///
+/// Source: ASM51 guide.
+#[derive(Drop)]
+pub enum Operand {
+    /// `A`
+    A,
+    /// `AB`
+    Ab,
+    /// `C`
+    C,
+    /// `DPTR`
+    Dptr,
+    /// `@A+PC`
+    APc,
+    /// `@A+DPTR`
+    ADptr,
+    /// `@DPTR`
+    AtDptr,
+    /// `R0` to `R7`
+    R(u8),
+    /// `@R0` or `@R1`
+    AtR(u8),
+    /// `#` and an expression.
+    Imm(Expr),
+    /// An expression: an address, a bit or a target.
+    Plain(Expr),
+    /// `/` and an expression: a bit, inverted.
+    NotBit(Expr),
+}
+
+/// The operands of an instruction, at most three.
+///
+/// Source: own choice ("Lists in types").
+pub type Operands = ListOf<Operand>;
+
+/// An item of DB or DW.
+///
+/// Source: ASM51 guide.
+#[derive(Drop)]
+pub enum Item {
+    /// A value: one byte of DB, two of DW.
+    Value(Expr),
+    /// A text that stands alone in DB, as its characters.
+    Text(Bytes),
+}
+
+/// The items of DB or DW.
+///
+/// Source: own choice ("Lists in types").
+pub type Items = ListOf<Item>;
+
+/// The names of EXTRN with their kinds.
+///
+/// Source: own choice ("Lists in types").
+pub type Externs = ListOf<(Name, Kind)>;
+
+/// What a line says, without its label.
+///
+/// Source: ASM51 guide.
+#[derive(Drop)]
+pub enum Body {
+    /// Nothing but blanks and a comment.
+    Empty,
+    /// A control that changes nothing, as `$LIST`.
+    Ignored,
+    /// `$INCLUDE`, with the name between its parentheses.
+    Include(Bytes),
+    /// `$MOD51` or `$NOMOD51`: whether the names of the 8052 are predefined.
+    Mod51(bool),
+    /// `END`
+    End,
+    /// An instruction, by its mnemonic.
+    Code(Name, Operands),
+    /// `DB`
+    Db(Items),
+    /// `DW`
+    Dw(Items),
+    /// `DS`
+    Ds(Expr),
+    /// `DBIT`
+    Dbit(Expr),
+    /// `ORG`
+    Org(Expr),
+    /// `USING`
+    Using(Expr),
+    /// `SEGMENT`: name, kind, type, and whether OVERLAYABLE stands.
+    Segment(Name, Kind, Reloc, bool),
+    /// `RSEG`
+    Rseg(Name),
+    /// `CSEG`, `XSEG`, `DSEG`, `ISEG` or `BSEG`, with what follows AT.
+    Select(Kind, Option<Expr>),
+    /// `EQU`
+    Equ(Name, Expr),
+    /// `SET`
+    Set(Name, Expr),
+    /// `CODE`, `XDATA`, `DATA`, `IDATA` or `BIT` as a word of definitions.
+    Address(Name, Kind, Expr),
+    /// `PUBLIC`
+    Public(Names),
+    /// `EXTRN`
+    Extrn(Externs),
+    /// `NAME`
+    ModuleName(Name),
+}
+
+/// A line: its label, if it has one, and what it says.
+///
+/// Source: ASM51 guide.
+#[derive(Drop)]
+pub struct Stmt {
+    pub label: Option<Name>,
+    pub body: Body,
+}

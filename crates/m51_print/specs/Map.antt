@@ -103,7 +103,7 @@ overlaid_line placed = codes "OVERLAID " ++ decimal (overlaid_below placed 256) 
 abbrev pub image_line : ℕ → List ℕ
 image_line bytes = codes "IMAGE " ++ decimal bytes ++ codes " BYTES\n"
 
--- the lines of the units
+-- the lines of so many units, from the first
 unfoldable pub unit_lines : LayoutParts → List ℕ → ℕ → List ℕ
 unit_lines l roots count = flat_map (line_of_unit l roots) (range_with_len 0 count)
 

@@ -1,5 +1,5 @@
 -- The map of a layout: its placed extents, its units, the heaviest chains, and the bytes in use.
-use Rattle.std.specs.Prelude.{◌≡◌, ℕ, ◌+◌, ◌/◌, ◌%◌, ◌<◌, ◌==◌, ◌&&◌, nat_le, nat_lt, Bool, true, false, if◌then◌else◌, List, [], ◌∷◌, ◌++◌, map, length, slice_index, codes, All, flat_map, count_by}
+use Rattle.std.specs.Prelude.{ℕ, ◌+◌, ◌/◌, ◌%◌, ◌<◌, ◌==◌, ◌&&◌, nat_le, nat_lt, Bool, true, false, if◌then◌else◌, List, [], ◌∷◌, ◌++◌, map, length, slice_index, codes, All, flat_map, count_by}
 use Rattle.std.specs.List.{filter, range_with_len, list_any}
 use Rattle.std.specs.Fmt.{decimal}
 use Rattle.m51_cells.specs.declared.kind.Kind.{Kind}

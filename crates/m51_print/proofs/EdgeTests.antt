@@ -1,8 +1,8 @@
 -- The test for an edge holds exactly where there is one.
-use Rattle.std.proofs.Common.{◌≡◌, ℕ, Bool, true, false, List, slice_index_or, refl, ap, sym, subst, ◌∙◌, Decides}
+use Rattle.std.proofs.Common.{◌≡◌, ℕ, Bool, true, false, slice_index_or, refl, subst}
 use Rattle.std.specs.Prelude.{◌==◌, ◌&&◌, IsTrue, ◌↔◌}
 use Rattle.std.specs.Cmp.Derive.{both_true}
-use Rattle.std.specs.List.{Contains, list_any, Any}
+use Rattle.std.specs.List.{Any}
 use Rattle.std.proofs.lemmas.Bool.{eq-eqb, eqb-true}
 use Rattle.std.proofs.lemmas.Bool.Decides.{same_from_decides}
 use Rattle.std.proofs.lemmas.List.Folds.{Any-from_list_any, list_any-from_Any}

@@ -1,5 +1,5 @@
 -- The map of a layout: its placed extents, its units, the heaviest chains, and the bytes in use.
-use Rattle.std.specs.Prelude.{◌≡◌, ℕ, ◌+◌, ◌/◌, ◌%◌, ◌<◌, ◌==◌, ◌&&◌, nat_le, nat_lt, Bool, true, false, if◌then◌else◌, List, [], ◌∷◌, ◌++◌, map, length, slice_index, codes, All, flat_map, count_by}
+use Rattle.std.specs.Prelude.{ℕ, ◌+◌, ◌/◌, ◌%◌, ◌<◌, ◌==◌, ◌&&◌, nat_le, nat_lt, Bool, true, false, if◌then◌else◌, List, [], ◌∷◌, ◌++◌, map, length, slice_index, codes, All, flat_map, count_by}
 use Rattle.std.specs.List.{filter, range_with_len, list_any}
 use Rattle.std.specs.Fmt.{decimal}
 use Rattle.m51_cells.specs.declared.kind.Kind.{Kind}
@@ -103,7 +103,7 @@ overlaid_line placed = codes "OVERLAID " ++ decimal (overlaid_below placed 256) 
 abbrev pub image_line : ℕ → List ℕ
 image_line bytes = codes "IMAGE " ++ decimal bytes ++ codes " BYTES\n"
 
--- the lines of the units
+-- the lines of so many units, from the first
 unfoldable pub unit_lines : LayoutParts → List ℕ → ℕ → List ℕ
 unit_lines l roots count = flat_map (line_of_unit l roots) (range_with_len 0 count)
 

@@ -1,5 +1,5 @@
 -- The lines of refusals.
-use Rattle.std.specs.Prelude.{ℕ, List, [], ◌∷◌, ◌++◌, codes, flat_map}
+use Rattle.std.specs.Prelude.{ℕ, List, [], ◌++◌, codes, flat_map}
 use Rattle.std.specs.Fmt.{decimal}
 use Rattle.m51_cells.specs.Hex.{hex4}
 use Rattle.m51_module.specs.declared.linked.Quantity.{Quantity}

@@ -1,7 +1,6 @@
 //! What no clause says: that the definitions give the texts that the formats ask for.
-ghost use Rattle.std.specs.Prelude.{◌≡◌, ◌≢◌, length, option_copied};
-ghost use Rattle.std.specs.Option.{ForSome};
-ghost use Rattle.m51_print.specs.Lines.{HasText};
+ghost use Rattle.std.specs.Prelude.{◌≡◌, ◌≢◌, ◌<◌, length};
+ghost use Rattle.m51_print.specs.Lines.{IsDataCell};
 
 use crate::map::{push_chain_line, push_segments, push_unit_line};
 use crate::overlaid::overlaid_below;
@@ -39,82 +38,100 @@ fn an_entry_is_a_line(rt: HostRuntime) {
     assert!(rt; is_line(&with_ninth, b"976 TX 0A 1\n"));
 }
 
-fn ends(event: Option<&Event>, placed: &[Placed], expected: &[u8]) -> bool
-    requires { ForSome (option_copied event) (HasText (length placed.now)) }
-{
+fn transfer_ends(why: Why, from: u16, to: u16, expected: &[u8]) -> bool {
+    let event = Event::Transfer { why, from, to };
     let mut line = [0; 128];
-    let len = end_line(event, placed, 10, 18, &mut line);
+    let len = end_line(Some(&event), &[], 6, 9, &mut line);
     &line[..len] == expected
 }
 
-#[test]
-fn the_last_line_tells_the_event(rt: HostRuntime) -> Result<(), Fail> {
-    let local = extent(b"?DT?F", Kind::Direct, Mark::Overlaid, 8, 1).ok_or("a name")?;
-    let placed = [local];
-    let cell = Cell {
-        space: Space::Ram,
-        at: 0x40,
-    };
-    let byte = Cell {
-        space: Space::Xram,
-        at: 0x1F00,
-    };
-    let busy = Event::Transfer {
-        why: Why::RootBusy,
-        from: 0x0F,
-        to: 0x0B,
-    };
-    let outside = Event::Outside { cell, at: 1 };
-    let beyond = Event::Outside { cell: byte, at: 1 };
-    let unwritten = Event::Unwritten {
+fn outside_ends(cell: Cell, at: u16, expected: &[u8]) -> bool
+    requires { IsDataCell cell.space cell.at }
+{
+    let event = Event::Outside { cell, at };
+    let mut line = [0; 128];
+    let len = end_line(Some(&event), &[], 1, 1, &mut line);
+    &line[..len] == expected
+}
+
+fn unwritten_ends(cell: Cell, placed: &[Placed], expected: &[u8]) -> bool
+    requires cell { IsDataCell cell.space cell.at }
+    requires placed { 0 < length placed.now }
+{
+    let event = Event::Unwritten {
         cell,
         segment: 0,
         at: 0x12,
     };
-    assert!(rt; ends(None, &placed, b"END 10 STEPS 18 CYCLES\n"));
+    let mut line = [0; 128];
+    let len = end_line(Some(&event), placed, 10, 18, &mut line);
+    &line[..len] == expected
+}
+
+#[test]
+fn a_run_ends_with_its_counts(rt: HostRuntime) {
+    let mut line = [0; 128];
+    let len = end_line(None, &[], 5000, 9989, &mut line);
+    assert_eq!(rt; &line[..len], b"END 5000 STEPS 9989 CYCLES\n".as_slice());
+}
+
+#[test]
+fn a_refused_transfer_ends_a_run(rt: HostRuntime) {
     assert!(rt;
-        ends(
-            Some(&busy),
-            &placed,
-            b"EVENT V1 ROOTBUSY FROM 000F TO 000B AFTER 10 STEPS 18 CYCLES\n"
+        transfer_ends(
+            Why::RootBusy,
+            0x0F,
+            0x0B,
+            b"EVENT V1 ROOTBUSY FROM 000F TO 000B AFTER 6 STEPS 9 CYCLES\n"
         )
     );
+}
+
+#[test]
+fn a_cell_outside_ends_a_run(rt: HostRuntime) {
+    let bit = Cell {
+        space: Space::Ram,
+        at: 0x40,
+    };
+    assert!(rt; outside_ends(bit, 1, b"EVENT V2 D:08.0 AT 0001 AFTER 1 STEPS 1 CYCLES\n"));
+    let byte = Cell {
+        space: Space::Xram,
+        at: 0x1F00,
+    };
+    assert!(rt; outside_ends(byte, 3, b"EVENT V2 X:1F00 AT 0003 AFTER 1 STEPS 1 CYCLES\n"));
+}
+
+#[test]
+fn an_unwritten_local_ends_a_run(rt: HostRuntime) -> Result<(), Fail> {
+    let local = extent(b"?DT?F", Kind::Direct, Mark::Overlaid, 8, 1).ok_or("a name")?;
+    let bit = Cell {
+        space: Space::Ram,
+        at: 0x40,
+    };
+    let placed = [local];
     assert!(rt;
-        ends(
-            Some(&outside),
-            &placed,
-            b"EVENT V2 D:08.0 AT 0001 AFTER 10 STEPS 18 CYCLES\n"
-        )
-    );
-    assert!(rt;
-        ends(
-            Some(&beyond),
-            &placed,
-            b"EVENT V2 X:1F00 AT 0001 AFTER 10 STEPS 18 CYCLES\n"
-        )
-    );
-    assert!(rt;
-        ends(
-            Some(&unwritten),
+        unwritten_ends(
+            bit,
             &placed,
             b"EVENT V3 D:08.0 IN ?DT?F AT 0012 AFTER 10 STEPS 18 CYCLES\n"
         )
     );
-    assert!(rt;
-        ends(
-            Some(&Event::Reserved { at: 0 }),
-            &placed,
-            b"EVENT V4 AT 0000 AFTER 10 STEPS 18 CYCLES\n"
-        )
-    );
-    assert!(rt;
-        ends(
-            Some(&Event::PowerDown { at: 0 }),
-            &placed,
-            b"EVENT V5 AT 0000 AFTER 10 STEPS 18 CYCLES\n"
-        )
-    );
     Ok(())
+}
+
+#[test]
+fn an_instruction_may_end_a_run(rt: HostRuntime) {
+    let mut line = [0; 128];
+    let len = end_line(Some(&Event::Reserved { at: 0 }), &[], 0, 0, &mut line);
+    assert_eq!(rt;
+        &line[..len],
+        b"EVENT V4 AT 0000 AFTER 0 STEPS 0 CYCLES\n".as_slice()
+    );
+    let len = end_line(Some(&Event::PowerDown { at: 0 }), &[], 0, 0, &mut line);
+    assert_eq!(rt;
+        &line[..len],
+        b"EVENT V5 AT 0000 AFTER 0 STEPS 0 CYCLES\n".as_slice()
+    );
 }
 
 fn extent(title: &[u8], kind: Kind, mark: Mark, base: u16, size: u16) -> Option<Placed> {

@@ -6,6 +6,7 @@ use std::test::Fail;
 // The echo program, and a line of each other form.
 const LINES: &str = "\
 $MOD51\n\
+MOV R8,A\n\
 NAME ECHO\n\
 ?STACK SEGMENT IDATA\n\
 ?PR?MAIN SEGMENT CODE\n\
@@ -84,7 +85,7 @@ L:\n\
 
 // Lines, and their printed lines.
 const READ: &str = "\
-MOV R8,A\n\
+MOV RX,A\n\
 l?: mov\ta,#0fh ; x\n\
 \n\
 L:\n\
@@ -115,7 +116,7 @@ END\n\
 ";
 
 const PRINTED: &str = "\
-MOV R8 , A \n\
+MOV RX , A \n\
 L? : MOV A , # 0000FH \n\
 \n\
 L : \n\

@@ -1,3 +1,1 @@
-pub mod Places
-pub mod Sums
-pub mod Going
+pub mod Values

@@ -1,17 +1,16 @@
-//! A board that runs one unit of code of the first form, and the sinks that take the lines of its record.
+//! Boards that run an image, and the sinks that take the lines of their records.
 #![tactic(auto)]
 
-mod board;
-mod lines;
+mod chip;
 mod memory;
+mod runs;
 mod sink;
 mod stdout;
 mod sure;
-#[cfg(test)]
-mod tests;
+mod units;
 
-pub use board::{Board, RunEnd, Step};
 pub use memory::MemSink;
+pub use runs::{RunEnd, Step};
 pub use sink::{Failed, Sink, write_whole};
 pub use stdout::StdSink;
 pub use sure::SureSink;

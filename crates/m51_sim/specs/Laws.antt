@@ -1,0 +1,23 @@
+-- The record of the separate machine is one of the flat machine.
+use Rattle.std.specs.Prelude.{◌≡◌, ℕ, List, None}
+use Rattle.m51_module.specs.declared.parts.LayoutParts.{LayoutParts}
+use Rattle.m51_flat.specs.Reads.{CellMap}
+use Rattle.m51_sim.specs.Runs.{State, Record, record_of}
+use Rattle.m51_sim.specs.FlatMachine.{flat_machine}
+use Rattle.m51_sim.specs.SeparateMachine.{Stores, separate_machine}
+use Rattle.m51_sim.specs.Boards.{joined}
+
+-- a record of the flat machine has the steps that are performed in one of the separate machine, and no event
+pub record IsSameRun (layout : LayoutParts) (separate : Record Stores) (flat : Record CellMap) : Type 0 where
+  pub entries : flat.entries ≡ separate.entries
+  pub event : flat.event ≡ None
+  pub steps : flat.steps ≡ separate.steps
+  pub last : flat.last ≡ joined layout separate.last
+
+-- Over the same image, from the map that the stores give: the flat machine performs the steps that the separate machine
+-- performs, and gives the same entries.
+abbrev pub IsKeptByFlat : Type 0
+IsKeptByFlat =
+    (layout : LayoutParts) (image : List ℕ) (n : ℕ) (s : State Stores)
+    → let run = record_of (separate_machine layout image) n s in
+      IsSameRun layout run (record_of (flat_machine image) run.steps (joined layout s))

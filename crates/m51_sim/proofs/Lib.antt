@@ -1,1 +1,7 @@
 pub mod Values
+pub mod Performing
+pub mod Inside
+pub mod Sums
+pub mod Going
+pub mod Parting
+pub mod Keeping

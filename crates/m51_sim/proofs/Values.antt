@@ -1,5 +1,5 @@
 -- The map of a memory.
-use Rattle.std.proofs.Common.{◌≡◌, ℕ, ◌+◌, ◌*◌, ◌/◌, ◌%◌, ◌<◌, Bool, true, false, cond, Option, Some, None, Ok, Err, refl, sym, ap, subst, ◌∙◌, arith, length}
+use Rattle.std.proofs.Common.{◌≡◌, ℕ, ◌+◌, ◌*◌, ◌/◌, ◌%◌, ◌<◌, Bool, true, false, cond, Option, Some, None, Ok, Err, refl, sym, ap, subst, ◌∙◌, arith, length, rules}
 use Rattle.std.specs.Prelude.{◌==◌, nat_eq, nat_lt, slice_index}
 use Rattle.std.specs.Int.{bit_at}
 use Rattle.std.proofs.lemmas.Bool.{lt-ltb}
@@ -11,10 +11,11 @@ use Rattle.m51_flat.specs.Reads.{CellMap}
 use Rattle.m51_flat.specs.Flat.{FlatBytes, filled_cells, flat_cells}
 use Rattle.m51_flat.specs.Sfr.{flag, has_register, latch, pcon}
 use Rattle.m51_flat.specs.declared.state.Cpu.{Cpu}
+use Rattle.m51_flat.specs.Reset.{reset_cpu}
 use Rattle.m51_flat.specs.Causes.{IsWhole}
 use Rattle.m51_sim.specs.Runs.{State}
 use Rattle.m51_alu.specs.Arithmetic.{bit_of}
-use Rattle.m51_sim.specs.FlatMachine.{blank_map, map_after, replaced}
+use Rattle.m51_sim.specs.FlatMachine.{blank_map, flat_start, map_after, replaced}
 use Rattle.m51_sim.specs.Boards.{ChipState, flat_of, map_of, value_of, values_of}
 
 -- maps with the same values are one
@@ -76,3 +77,11 @@ unfolding flag latch has_register
 idle_bit cpu b e =
     let low : bit_at (slice_index cpu.regs 7) 0 ≡ slice_index cpu.regs 7 % 2 = omega arith in
     e ∙ ap (λ n. n == 1) (sym low)
+
+-- a processor and a memory before the first cycle
+abbrev pub state_of : Cpu → FlatBytes → State CellMap
+state_of cpu memory = record { cpu = cpu; cycle = 0; memory = map_of memory }
+
+-- after a reset it is the start of the flat machine
+pub start_of : (cpu : Cpu) (memory : FlatBytes) → cpu ≡ reset_cpu → flat_cells memory ≡ filled_cells 0 → state_of cpu memory ≡ flat_start
+start_of cpu memory is filled = rw (is, blank_of memory filled) refl

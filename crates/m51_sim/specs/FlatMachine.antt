@@ -27,7 +27,7 @@ abbrev pub outer : Pins
 outer = record { p = 0xFF ∷ 0xFF ∷ 0xFF ∷ 0xFF ∷ [] }
 
 -- the instruction that begins at an address; the addresses of its bytes go on from 0 past the last one
-abbrev pub instr_at : List ℕ → ℕ → Option Instr
+unfoldable pub instr_at : List ℕ → ℕ → Option Instr
 instr_at image at = decoded_at (slice_index image at) (slice_index image ((at + 1) % 65536)) (slice_index image ((at + 2) % 65536))
 
 -- what a put writes to a cell, if it does: to one of internal RAM a bit, to one of external memory a byte
@@ -65,7 +65,7 @@ idle_effect cpu = record {
 abbrev pub unless_powers_down : Cpu → Effect → Result Effect Event
 unless_powers_down cpu e = if flag e.cpu pcon 1 then Err (PowerDown cpu.pc) else Ok e
 
-abbrev pub instr_effect : List ℕ → Cpu → CellMap → Instr → Result Effect Event
+unfoldable pub instr_effect : List ℕ → Cpu → CellMap → Instr → Result Effect Event
 instr_effect image cpu m instr = unless_powers_down cpu (result_over m (plan_of cpu instr image outer))
 
 -- the instruction, or the reserved opcode
@@ -74,7 +74,7 @@ flat_instr image cpu m None = Err (Reserved cpu.pc)
 flat_instr image cpu m (Some instr) = instr_effect image cpu m instr
 
 -- what a step comes to
-abbrev pub flat_effect : List ℕ → Cpu → CellMap → Result Effect Event
+unfoldable pub flat_effect : List ℕ → Cpu → CellMap → Result Effect Event
 flat_effect image cpu m = if flag cpu pcon 0 then Ok (idle_effect cpu) else flat_instr image cpu m (instr_at image cpu.pc)
 
 -- the flat machine that holds an image

@@ -4,7 +4,7 @@ use Rattle.std.specs.Io.KnownBytes.{Appends}
 use Rattle.m51_cells.specs.Outside.{AppendsFront}
 use Rattle.m51_cells.specs.declared.event.Event.{Event}
 use Rattle.m51_cells.specs.declared.event.Entry.{Entry}
-use Rattle.m51_print.specs.Lines.{entry_line, last_line}
+use Rattle.m51_print.specs.Lines.{entry_line, last_line, HasText}
 use Rattle.m51_sim.specs.declared.runs.Step.{Step}
 use Rattle.m51_sim.specs.declared.runs.Step.TheVariants.{Done, Stopped}
 use Rattle.m51_sim.specs.declared.runs.RunEnd.{RunEnd}
@@ -18,12 +18,21 @@ IsAdvance (Ok done) (Err told) old new = ⊥
 IsAdvance (Err event) (Ok entry) old new = ⊥
 IsAdvance (Err event) (Err told) old new = (told ≡ event) × (new ≡ old)
 
+-- what an advance tells of its step
+abbrev pub step_told : Result (Option Entry) Event → Step
+step_told (Ok entry) = Done
+step_told (Err event) = Stopped event
+
 -- a step is done, or it is stopped and leaves the state
 abbrev pub IsStep : {M : Type 0} → Result (Performed M) Event → Step → State M → State M → Type 0
 IsStep (Ok done) Done old new = new ≡ done.state
 IsStep (Ok done) (Stopped told) old new = ⊥
 IsStep (Err event) Done old new = ⊥
 IsStep (Err event) (Stopped told) old new = (told ≡ event) × (new ≡ old)
+
+-- the event names no segment and no cell out of range, so that it has a text whatever is placed
+abbrev pub HasTextAnywhere : Event → Type 0
+HasTextAnywhere event = (count : ℕ) → HasText count event
 
 -- the lines of a record's entries
 abbrev pub entry_lines : {M : Type 0} → Record M → List ℕ

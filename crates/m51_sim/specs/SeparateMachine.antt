@@ -129,7 +129,7 @@ separate_instr layout image cpu m (Some instr) =
     else Err (LeavesUnits PastEnd cpu.pc ((cpu.pc + length_of instr) % 65536))
 
 -- what a step comes to
-abbrev pub separate_effect : LayoutParts → List ℕ → Cpu → CellMap → Result Effect Event
+unfoldable pub separate_effect : LayoutParts → List ℕ → Cpu → CellMap → Result Effect Event
 separate_effect layout image cpu m =
     if flag cpu pcon 0 then Ok (idle_effect cpu) else separate_instr layout image cpu m (instr_at image cpu.pc)
 

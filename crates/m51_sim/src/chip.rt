@@ -1,8 +1,9 @@
 //! An image, the processor, the number of the machine cycle, and one memory.
-ghost use Rattle.std.specs.Prelude.{◌≡◌, IfOk, slice_index};
+ghost use Rattle.std.specs.Prelude.{◌≡◌, IfErr, IfOk, slice_index};
 ghost use Rattle.m51_flat.specs.Sfr.{flag, pcon};
 ghost use Rattle.m51_sim.specs.Boards.{flat_of, map_of};
 ghost use Rattle.m51_sim.specs.Effects.{cycles_on, effected, entry_of, latch_of};
+ghost use Rattle.m51_sim.specs.Run.{HasTextAnywhere};
 ghost use Rattle.m51_sim.specs.FlatMachine.{flat_start, idle_effect, instr_at, instr_effect, map_after, outer};
 
 use m51_cells::{Entry, Event, NoMemory};
@@ -34,7 +35,6 @@ impl Model for Chip {
 
 impl Chip {
     // With this image, after a reset, and with the fill 00H everywhere.
-    #[tactic(auto, using(crate::proofs::Values::blank_of))]
     pub(crate) fn make(alloc: Global, image: Image) -> Result<Chip, NoMemory>
         ensures image { IfOk result (λ chip. chip.image ≡ image) }
         ensures start { IfOk result (λ chip. flat_of chip ≡ flat_start) }
@@ -88,6 +88,7 @@ impl Chip {
     }
 
     // The instruction at the program counter, unless it is the reserved opcode.
+    #[tactic(auto, unfolding(crate::specs::FlatMachine::instr_at))]
     pub(crate) fn instr(&self) -> Option<Instr>
         ensures { result ≡ instr_at self.now.image self.now.cpu.pc }
     {
@@ -107,8 +108,9 @@ impl Chip {
     }
 
     // The effect of an instruction, unless it would power down.
-    fn effect(&self, instr: &Instr) -> Result<Effect, Event>
-        ensures { result ≡ instr_effect self.now.image self.now.cpu (map_of self.now.memory) instr.now }
+    pub(crate) fn effect(&self, instr: &Instr) -> Result<Effect, Event>
+        ensures value { result ≡ instr_effect self.now.image self.now.cpu (map_of self.now.memory) instr.now }
+        ensures text { IfErr result HasTextAnywhere }
     {
         match exec(
             &self.cpu,
@@ -126,6 +128,7 @@ impl Chip {
     // Performs an effect, and gives the entry of a port that it wrote.
     pub(crate) fn perform(&mut self, effect: &Effect) -> Option<Entry>
         ensures image { self.new.image ≡ self.old.image }
+        ensures cpu { self.new.cpu ≡ effect.now.cpu }
         ensures state { flat_of self.new ≡ effected map_after (flat_of self.old) effect.now }
         ensures entry { result ≡ entry_of self.old.cycle effect.now }
     {
@@ -146,7 +149,6 @@ fn outer_pins() -> Pins
 }
 
 // Writes the cells of a put.
-#[tactic(auto, using(crate::proofs::Values::put_map))]
 fn put(memory: &mut FlatRam, put: &Put)
     ensures { map_of memory.new ≡ map_after put.now (map_of memory.old) }
 {

@@ -1,9 +1,10 @@
 //! Which units cover an address.
-ghost use Rattle.std.specs.Prelude.{◌≡◌, ◌&&◌, ◌≤◌};
-ghost use Rattle.std.specs.List.{list_any};
-ghost use Rattle.m51_sim.specs.SeparateMachine.{is_code, unit_covers, has_unit, in_unit_of, lie_inside};
+ghost use Rattle.std.specs.Prelude.{◌≡◌, true, IfErr, IfOk};
+ghost use Rattle.m51_sim.specs.SeparateMachine.{is_code, unit_covers, has_unit, in_unit_of, lie_inside, unless_leaves};
+ghost use Rattle.m51_sim.specs.Run.{HasTextAnywhere};
 
-use m51_cells::Kind;
+use m51_cells::{Event, Kind, Why};
+use m51_flat::{Effect, Transfer};
 use m51_module::{Layout, Mark, Placed};
 
 // Whether such an extent is a segment of program memory.
@@ -40,6 +41,7 @@ pub(crate) fn in_unit_of(layout: &Layout, pc: u16, address: u16) -> bool
 }
 
 // Whether so many bytes from the program counter on lie in the current unit.
+#[tactic(auto, using(crate::proofs::Inside::one_outside))]
 pub(crate) fn lie_inside(layout: &Layout, pc: u16, count: u8) -> bool
     ensures { result ≡ lie_inside layout.now pc count }
 {
@@ -49,4 +51,38 @@ pub(crate) fn lie_inside(layout: &Layout, pc: u16, count: u8) -> bool
         }
     }
     true
+}
+
+// The effect, unless control leaves the current unit without a jump, or all units.
+#[tactic(auto, using(crate::proofs::Inside::unit_of_both))]
+pub(crate) fn unless_leaves(layout: &Layout, pc: u16, effect: Effect) -> Result<Effect, Event>
+    ensures value { result ≡ unless_leaves layout.now pc effect effect.transfer }
+    ensures covered { IfOk result (λ e. has_unit layout.now e.cpu.pc ≡ true) }
+    ensures text { IfErr result HasTextAnywhere }
+{
+    let target = effect.cpu.pc;
+    match effect.transfer {
+        Transfer::Next => {
+            if in_unit_of(layout, pc, target) {
+                Ok(effect)
+            } else {
+                Err(Event::Transfer {
+                    why: Why::PastEnd,
+                    from: pc,
+                    to: target,
+                })
+            }
+        }
+        _ => {
+            if has_unit(layout, target) {
+                Ok(effect)
+            } else {
+                Err(Event::Transfer {
+                    why: Why::NoUnit,
+                    from: pc,
+                    to: target,
+                })
+            }
+        }
+    }
 }

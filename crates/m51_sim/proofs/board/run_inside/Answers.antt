@@ -47,14 +47,14 @@ returns-in-Err-write_end-2-clause-ended g c =
     let machine = separate_machine c.args.layout.now c.args.chip.now.image in
     let all : c.loop-done.done ≡ c.args.n = omega arith in
     let going = c.loop-done.invariant.going in
-    cut_at_end (titles_of c.args.layout.now.placed) machine _ _ _ _ _ _ _ _ going (over_at_last (titles_of c.args.layout.now.placed) machine _ _ _ _ _ _ all going) (rw (c.placed-2.ensures.list, c.cycle-2.ensures, ← all) at c.in-Err-write_end-2.ensures.short)
+    cut_at_end (titles_of c.args.layout.now.placed) machine _ _ _ _ _ _ _ _ going (over_at_last (titles_of c.args.layout.now.placed) machine _ _ _ _ _ _ all going) (rw (c.cycle-2.ensures, ← all) at c.in-Err-write_end-2.ensures.short)
 
 pub returns-clause-ended : goal.returns-clause-ended
 returns-clause-ended g c =
     let machine = separate_machine c.args.layout.now c.args.chip.now.image in
     let all : c.loop-done.done ≡ c.args.n = omega arith in
     let going = c.loop-done.invariant.going in
-    whole_at_end (titles_of c.args.layout.now.placed) machine _ _ _ _ _ _ _ _ going (over_at_last (titles_of c.args.layout.now.placed) machine _ _ _ _ _ _ all going) (rw (c.placed-2.ensures.list, c.cycle-2.ensures, ← all) at c.in-Ok-write_end-2.ensures.whole)
+    whole_at_end (titles_of c.args.layout.now.placed) machine _ _ _ _ _ _ _ _ going (over_at_last (titles_of c.args.layout.now.placed) machine _ _ _ _ _ _ all going) (rw (c.cycle-2.ensures, ← all) at c.in-Ok-write_end-2.ensures.whole)
 
 pub write_end-requires : goal.write_end-requires
 write_end-requires g c =

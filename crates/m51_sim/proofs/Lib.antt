@@ -5,3 +5,4 @@ pub mod Sums
 pub mod Going
 pub mod Parting
 pub mod Keeping
+pub mod SampleLayout

@@ -20,4 +20,4 @@ abbrev pub IsKeptByFlat : Type 0
 IsKeptByFlat =
     (layout : LayoutParts) (image : List ℕ) (n : ℕ) (s : State Stores)
     → let run = record_of (separate_machine layout image) n s in
-      IsSameRun layout run (record_of (flat_machine image) run.steps (joined layout s))
+    IsSameRun layout run (record_of (flat_machine image) run.steps (joined layout s))

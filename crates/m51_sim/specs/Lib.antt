@@ -6,3 +6,4 @@ pub mod SeparateMachine
 pub mod Boards
 pub mod Laws
 pub mod Run
+pub mod Sample

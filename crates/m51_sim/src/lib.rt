@@ -20,3 +20,6 @@ pub use runs::{RunEnd, Step};
 pub use sink::{Failed, Sink, write_whole};
 pub use stdout::StdSink;
 pub use sure::SureSink;
+
+#[cfg(test)]
+mod tests;

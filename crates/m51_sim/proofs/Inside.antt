@@ -45,7 +45,7 @@ any_second f g (p ∷ ps) e = here (f p) (g p) (list_any (λ p. f p && g p) ps) 
 pub unit_of_both : (layout : LayoutParts) (pc address : ℕ) → in_unit_of layout pc address ≡ true → has_unit layout address ≡ true
 unit_of_both layout pc address e = any_second (unit_covers pc) (unit_covers address) layout.placed e
 
-any_at : (f : Placed → Bool) (ps : List Placed) (k : ℕ) (p : Placed) → slice_get ps k ≡ Some p → f p ≡ true → list_any f ps ≡ true
+pub any_at : (f : Placed → Bool) (ps : List Placed) (k : ℕ) (p : Placed) → slice_get ps k ≡ Some p → f p ≡ true → list_any f ps ≡ true
 any_at f [] k p e h = absurd (cc e)
 any_at f (q ∷ ps) zero p e h = let same : q ≡ p = cc e in ap (λ b. b || list_any f ps) (ap f same ∙ h)
 any_at f (q ∷ ps) (suc k) p e h = or_true (f q) (list_any f ps) (any_at f ps k p e h)

@@ -6,3 +6,4 @@ pub mod Going
 pub mod Parting
 pub mod Keeping
 pub mod SampleLayout
+pub mod UnitTests

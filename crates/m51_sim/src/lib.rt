@@ -14,7 +14,7 @@ mod units;
 
 pub use board::Board;
 pub use flat_board::FlatBoard;
-pub use laws::flat_keeps;
+pub use laws::{flat_keeps, units_are_the_layouts};
 pub use memory::MemSink;
 pub use runs::{RunEnd, Step};
 pub use sink::{Failed, Sink, write_whole};

@@ -1,8 +1,7 @@
 -- What the separate machine performs, the flat machine performs.
 use Rattle.std.proofs.Common.{◌≡◌, ℕ, zero, suc, Bool, true, false, cond, List, Option, Some, None, Result, Ok, Err, refl, sym, ap, subst, ◌∙◌, option_to_list}
-use Rattle.std.specs.Prelude.{◌%◌, ◌+◌, ◌++◌}
+use Rattle.std.specs.Prelude.{◌++◌}
 use Rattle.m51_cells.specs.declared.event.Event.{Event}
-use Rattle.m51_cells.specs.declared.event.Entry.{Entry}
 use Rattle.m51_isa.specs.declared.instr.Instr.{Instr}
 use Rattle.m51_isa.specs.Table.{length_of}
 use Rattle.m51_module.specs.declared.parts.LayoutParts.{LayoutParts}
@@ -12,7 +11,7 @@ use Rattle.m51_flat.specs.declared.state.Transfer.{Transfer}
 use Rattle.m51_flat.specs.declared.state.Transfer.TheVariants.{Next, Jump}
 use Rattle.m51_flat.specs.Reads.{CellMap}
 use Rattle.m51_flat.specs.Sfr.{flag, pcon}
-use Rattle.m51_sim.specs.Runs.{State, Performed, Record, record_from, record_of, no_step, with_step}
+use Rattle.m51_sim.specs.Runs.{State, Record, record_from, record_of, no_step, with_step}
 use Rattle.m51_sim.specs.Effects.{effected, entry_of, performs}
 use Rattle.m51_sim.specs.FlatMachine.{flat_effect, flat_instr, flat_machine, idle_effect, instr_at, instr_effect, map_after}
 use Rattle.m51_sim.specs.SeparateMachine.{Stores, has_unit, in_unit_of, lie_inside, map_of_stores, separate_effect, separate_instr, separate_machine, stores_after, transferred, unless_leaves}

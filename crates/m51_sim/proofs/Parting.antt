@@ -1,5 +1,5 @@
 -- One memory, and the stores that it is parted into.
-use Rattle.std.proofs.Common.{◌≡◌, ℕ, zero, suc, Bool, true, false, cond, List, [], Option, Some, None, Result, Ok, Err, refl, sym, ap, subst, ◌∙◌, ⊎_elim}
+use Rattle.std.proofs.Common.{◌≡◌, ℕ, Bool, true, false, cond, List, Option, Ok, Err, refl, sym, ap, subst, ◌∙◌, ⊎_elim}
 use Rattle.std.specs.Prelude.{nat_eq}
 use Rattle.std.proofs.lemmas.Bool.Decides.{eqb_tells}
 use Rattle.m51_cells.specs.declared.cell.Cell.{Cell}
@@ -13,7 +13,7 @@ use Rattle.m51_flat.specs.declared.state.Put.TheVariants.{Nothing, Byte, Bit, Xb
 use Rattle.m51_flat.specs.declared.state.Effect.{Effect}
 use Rattle.m51_flat.specs.Reads.{CellMap}
 use Rattle.m51_flat.specs.States.{ram_cell, xram_cell}
-use Rattle.m51_sim.specs.Runs.{State, Performed}
+use Rattle.m51_sim.specs.Runs.{State}
 use Rattle.m51_sim.specs.Effects.{cycles_on, effected, entry_of, performs}
 use Rattle.m51_sim.specs.FlatMachine.{blank_map, flat_start, map_after, replaced, written}
 use Rattle.m51_sim.specs.SeparateMachine.{Home, Segment, Common, Stores, home_of, is_home, map_of_stores, separate_effect, separate_machine, separate_start, stores_after}

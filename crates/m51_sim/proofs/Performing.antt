@@ -1,12 +1,10 @@
 -- What an instruction comes to over one memory, as the step of a machine.
-use Rattle.std.proofs.Common.{◌≡◌, ℕ, Bool, true, false, cond, List, Result, Ok, Err, refl, sym, ap, subst, ◌∙◌}
-use Rattle.m51_cells.specs.declared.event.Event.{Event}
+use Rattle.std.proofs.Common.{◌≡◌, ℕ, Bool, true, false, cond, List, Ok, Err, refl, ap, subst, ◌∙◌}
 use Rattle.m51_cells.specs.declared.event.Event.TheVariants.{PowerDown as DownEvent}
 use Rattle.m51_isa.specs.declared.instr.Instr.{Instr}
 use Rattle.m51_flat.specs.declared.state.Cpu.{Cpu}
 use Rattle.m51_flat.specs.declared.state.Pins.{Pins}
 use Rattle.m51_flat.specs.declared.state.Effect.{Effect}
-use Rattle.m51_flat.specs.declared.state.Outcome.{Outcome}
 use Rattle.m51_flat.specs.declared.state.Outcome.TheVariants.{Done, PowerDown}
 use Rattle.m51_flat.specs.Reads.{CellMap, result_over}
 use Rattle.m51_flat.specs.Sfr.{flag, pcon}

@@ -2,15 +2,13 @@
 use Rattle.std.proofs.Common.{◌≡◌, ◌≢◌, ℕ, zero, suc, ◌<◌, Some, List, [], ◌∷◌, refl, sym, ap, subst, arith}
 use Rattle.std.specs.Prelude.{slice_get}
 use Rattle.std.specs.List.{Contains}
-use Rattle.m51_cells.specs.declared.kind.Kind.TheVariants.{Code}
 use Rattle.m51_cells.specs.Extent.{Meet}
 use Rattle.m51_module.specs.declared.parts.LayoutParts.{LayoutParts}
-use Rattle.m51_module.specs.declared.placed.Mark.TheVariants.{Overlaid}
 use Rattle.m51_module.specs.declared.placed.Placed.{Placed}
 use Rattle.m51_module.specs.Cells.{extent_at}
-use Rattle.m51_module.specs.Walks.{HasEdge, IsWalk, Reaches}
-use Rattle.m51_module.specs.Plan.{ExtentsConflict, IsCodeSegment, IsOverlaid, IsPlaced, IsRootAt, Owns, UnitLiesUnder, owners_of}
-use Rattle.m51_module.specs.Sound.{HasOwners, IsFit, IsSound}
+use Rattle.m51_module.specs.Walks.{HasEdge, IsWalk}
+use Rattle.m51_module.specs.Plan.{ExtentsConflict, IsCodeSegment, IsOverlaid, IsPlaced, IsRootAt, Owns}
+use Rattle.m51_module.specs.Sound.{IsFit, IsSound}
 use Rattle.m51_sim.specs.Sample.{data_byte, one_unit, unit_at_reset}
 
 some_is : (p q : Placed) → Some p ≡ Some q → p ≡ q

@@ -1,5 +1,5 @@
 -- The record of a run in two parts.
-use Rattle.std.proofs.Common.{◌≡◌, ℕ, suc, zero, ◌+◌, List, ◌++◌, Option, Some, None, Result, Ok, Err, refl, sym, ap, subst, append_assoc, zero-add, suc-add, option_to_list}
+use Rattle.std.proofs.Common.{◌≡◌, ℕ, suc, zero, ◌+◌, ◌++◌, Option, Some, None, Result, Ok, Err, refl, sym, ap, subst, append_assoc, zero-add, suc-add, option_to_list}
 use Rattle.m51_cells.specs.declared.event.Event.{Event}
 use Rattle.m51_cells.specs.declared.event.Entry.{Entry}
 use Rattle.m51_sim.specs.Runs.{State, Performed, Machine, Record, no_step, with_step, record_from, record_of}

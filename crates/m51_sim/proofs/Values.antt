@@ -1,12 +1,11 @@
 -- The map of a memory.
-use Rattle.std.proofs.Common.{◌≡◌, ℕ, ◌+◌, ◌*◌, ◌/◌, ◌%◌, ◌<◌, Bool, true, false, cond, Option, Some, None, Ok, Err, refl, sym, ap, subst, ◌∙◌, arith, length, rules}
+use Rattle.std.proofs.Common.{◌≡◌, ℕ, ◌+◌, ◌/◌, ◌%◌, Bool, true, false, cond, Some, None, refl, sym, ap, ◌∙◌, arith, rules}
 use Rattle.std.specs.Prelude.{◌==◌, nat_eq, nat_lt, slice_index}
 use Rattle.std.specs.Int.{bit_at}
 use Rattle.std.proofs.lemmas.Bool.{lt-ltb}
-use Rattle.m51_cells.specs.declared.cell.Cell.{Cell}
 use Rattle.m51_flat.specs.declared.state.Put.{Put}
 use Rattle.m51_flat.specs.declared.state.Put.TheVariants.{Nothing, Byte, Bit, Xbyte}
-use Rattle.m51_flat.specs.States.{CellState, Holds, Absent, Fresh, States, states_after}
+use Rattle.m51_flat.specs.States.{CellState, Holds, Absent, States, states_after}
 use Rattle.m51_flat.specs.Reads.{CellMap}
 use Rattle.m51_flat.specs.Flat.{FlatBytes, filled_cells, flat_cells}
 use Rattle.m51_flat.specs.Sfr.{flag, has_register, latch, pcon}
@@ -16,7 +15,7 @@ use Rattle.m51_flat.specs.Causes.{IsWhole}
 use Rattle.m51_sim.specs.Runs.{State}
 use Rattle.m51_alu.specs.Arithmetic.{bit_of}
 use Rattle.m51_sim.specs.FlatMachine.{blank_map, flat_start, map_after, replaced}
-use Rattle.m51_sim.specs.Boards.{ChipState, flat_of, map_of, value_of, values_of}
+use Rattle.m51_sim.specs.Boards.{map_of, value_of, values_of}
 
 -- maps with the same values are one
 pub same_map : (m k : CellMap) → ((n : ℕ) → m.ram n ≡ k.ram n) → ((n : ℕ) → m.xram n ≡ k.xram n) → m ≡ k

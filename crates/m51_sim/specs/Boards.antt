@@ -1,6 +1,5 @@
 -- What contracts see of the boards, and which states of the two machines they stand for.
 use Rattle.std.specs.Prelude.{ℕ, List, if◌then◌else◌}
-use Rattle.m51_cells.specs.declared.cell.Cell.{Cell}
 use Rattle.m51_cells.specs.declared.cell.Space.{Space}
 use Rattle.m51_cells.specs.declared.cell.Space.TheVariants.{Ram, Xram, Code}
 use Rattle.m51_module.specs.declared.parts.LayoutParts.{LayoutParts}

@@ -1,10 +1,10 @@
 -- The flat machine: one map from all cells to values. It stops at the reserved opcode and at power-down alone. A machine
 -- cycle adds 1 to the cycle number and changes nothing else, and no interrupt is taken.
-use Rattle.std.specs.Prelude.{ℕ, ◌+◌, ◌*◌, ◌/◌, ◌%◌, ◌==◌, false, if◌then◌else◌, List, [], ◌∷◌, Option, Some, None, Result, Ok, Err, slice_index}
+use Rattle.std.specs.Prelude.{ℕ, ◌+◌, ◌/◌, ◌%◌, ◌==◌, false, if◌then◌else◌, List, [], ◌∷◌, Option, Some, None, Result, Ok, Err, slice_index}
 use Rattle.std.specs.Int.{bit_at}
 use Rattle.m51_alu.specs.Arithmetic.{bit_of}
 use Rattle.m51_cells.specs.declared.cell.Space.{Space}
-use Rattle.m51_cells.specs.declared.cell.Space.TheVariants.{Ram, Xram, Code}
+use Rattle.m51_cells.specs.declared.cell.Space.TheVariants.{Ram, Xram}
 use Rattle.m51_cells.specs.declared.event.Event.{Event}
 use Rattle.m51_cells.specs.declared.event.Event.TheVariants.{Reserved, PowerDown}
 use Rattle.m51_isa.specs.declared.instr.Instr.{Instr}

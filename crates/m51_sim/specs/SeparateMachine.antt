@@ -11,7 +11,7 @@ use Rattle.m51_cells.specs.declared.event.Event.TheVariants.{Transfer as LeavesU
 use Rattle.m51_cells.specs.declared.event.Why.TheVariants.{NoUnit, PastEnd}
 use Rattle.m51_cells.specs.declared.extent.Extent.{Extent}
 use Rattle.m51_cells.specs.declared.kind.Kind.{Kind}
-use Rattle.m51_cells.specs.declared.kind.Kind.TheVariants.{Code, Xdata, Direct, Idata, Bits, Number}
+use Rattle.m51_cells.specs.declared.kind.Kind.TheVariants.{Code}
 use Rattle.m51_isa.specs.declared.instr.Instr.{Instr}
 use Rattle.m51_isa.specs.Table.{length_of}
 use Rattle.m51_module.specs.declared.parts.LayoutParts.{LayoutParts}

@@ -2,7 +2,6 @@ use Rattle.std.proofs.Common.{◌≡◌, [], ap, ◌∙◌, arith, subst}
 use Rattle.m51_flat.specs.Reads.{CellMap}
 use Rattle.m51_print.specs.Lines.{HasText}
 use Rattle.m51_sim.specs.Runs.{State}
-use Rattle.m51_sim.specs.Boards.{flat_of}
 use Rattle.m51_sim.specs.FlatMachine.{flat_machine}
 use Rattle.m51_sim.proofs.Sums.{stays}
 use Rattle.m51_sim.proofs.Going.{going_start, going_on, cut_in_entry, over_at_event, over_at_last, whole_at_end, cut_at_end}

@@ -11,61 +11,31 @@ use Rattle.m51_cells.specs.declared.event.Event.{Event}
 use Rattle.m51_cells.specs.declared.event.Entry.{Entry}
 use Rattle.m51_cells.specs.Outside.{AppendsFront}
 use Rattle.m51_sim.specs.Writing.{StopsWithin}
-use Rattle.m51_sim.specs.Machine.{State, Record, no_step, with_step, step_of, record_of}
-use Rattle.m51_sim.specs.Lines.{entry_line, entry_lines, last_line, record_text}
-use Rattle.m51_sim.specs.Run.{IsAdvance, lines_after, StandsAtCut}
-use Rattle.m51_sim.proofs.Sums.{joined, record_sum, record_goes, record_stops, record_zero}
+use Rattle.m51_print.specs.Lines.{entry_line, last_line}
+use Rattle.m51_sim.specs.Runs.{State, Machine, Record, no_step, with_step, record_of}
+use Rattle.m51_sim.specs.Run.{IsAdvance, entry_lines, lines_after, record_text, StandsAtCut}
+use Rattle.m51_sim.proofs.Sums.{appended, record_sum, record_goes, record_stops, record_zero}
 
 -- the first steps are performed, and the lines of their entries are written
-pub record IsGoing (before now : Option (List ℕ)) (code : List ℕ) (first : State) (done : ℕ) (s : State) : Type 0 where
-  pub event : (record_of code done first).event ≡ None
-  pub steps : (record_of code done first).steps ≡ done
-  pub last : s ≡ (record_of code done first).last
-  pub text : Appends before now (lines_after code first done)
+pub record IsGoing {M : Type 0} (before now : Option (List ℕ)) (machine : Machine M) (first : State M) (done : ℕ) (s : State M) : Type 0 where
+  pub event : (record_of machine done first).event ≡ None
+  pub steps : (record_of machine done first).steps ≡ done
+  pub last : s ≡ (record_of machine done first).last
+  pub text : Appends before now (lines_after machine first done)
 
-pub going_start : (before : Option (List ℕ)) (code : List ℕ) (first : State) → IsGoing before before code first 0 first
-unfolding record_of
-going_start before code first = record { event = refl; steps = refl; last = refl; text = Appends-nil before }
+-- the steps done are all
+pub record IsOver {M : Type 0} (machine : Machine M) (all : ℕ) (first : State M) (done : ℕ) (s : State M) (event : Option Event) : Type 0 where
+  pub event_is : (record_of machine all first).event ≡ event
+  pub lines : entry_lines (record_of machine all first) ≡ lines_after machine first done
+  pub steps : (record_of machine all first).steps ≡ done
+  pub last : s ≡ (record_of machine all first).last
 
--- the steps done, and the record of the others
-pub record_of_rest : (before now : Option (List ℕ)) (code : List ℕ) (first : State) (done rest all : ℕ) (s : State)
-    → IsGoing before now code first done s → all ≡ done + rest → record_of code all first ≡ joined (record_of code done first) (record_of code rest s)
-record_of_rest before now code first done rest all s going e = rw (e, going.last) (record_sum code done rest first going.event)
-
--- a step more
-pub record_of_next : (before now : Option (List ℕ)) (code : List ℕ) (first : State) (done : ℕ) (old new : State) (entry : Option Entry)
-    → IsGoing before now code first done old → IsAdvance (step_of code old) (Ok entry) old new
-    → record_of code (done + 1) first ≡ joined (record_of code done first) (with_step entry (no_step None new))
-record_of_next before now code first done old new entry going h =
-    record_of_rest before now code first done 1 (done + 1) old going refl
-    ∙ ap (λ r. joined (record_of code done first) r) (record_goes code 0 1 entry old new refl h ∙ ap (λ r. with_step entry r) (record_zero code new))
-
-pub entry_lines-joined : (r next : Record) → entry_lines (joined r next) ≡ entry_lines r ++ entry_lines next
-entry_lines-joined r next = flat_map-append entry_line r.entries next.entries
+pub entry_lines-appended : {M : Type 0} (r next : Record M) → entry_lines (appended r next) ≡ entry_lines r ++ entry_lines next
+entry_lines-appended r next = flat_map-append entry_line r.entries next.entries
 
 -- the lines of an entry
 abbrev pub lines_of : Option Entry → List ℕ
 lines_of entry = flat_map entry_line (option_to_list entry)
-
-pub lines_of_next : (before now : Option (List ℕ)) (code : List ℕ) (first : State) (done : ℕ) (old new : State) (entry : Option Entry)
-    → IsGoing before now code first done old → IsAdvance (step_of code old) (Ok entry) old new
-    → lines_after code first (done + 1) ≡ lines_after code first done ++ lines_of entry
-lines_of_next before now code first done old new entry going h =
-    ap entry_lines (record_of_next before now code first done old new entry going h)
-    ∙ entry_lines-joined (record_of code done first) (with_step entry (no_step None new))
-    ∙ ap (λ es. lines_after code first done ++ flat_map entry_line es) (append-nil (option_to_list entry))
-
-pub going_on : (before m n : Option (List ℕ)) (code : List ℕ) (first : State) (done : ℕ) (old new : State) (entry : Option Entry)
-    → IsGoing before m code first done old → IsAdvance (step_of code old) (Ok entry) old new
-    → Appends m n (lines_of entry) → IsGoing before n code first (done + 1) new
-going_on before m n code first done old new entry going h line =
-    let next = record_of_next before m code first done old new entry going h in
-    record {
-      event = ap (λ (r : Record). r.event) next;
-      steps = omega (arith, ap (λ (r : Record). r.steps) next, going.steps);
-      last = sym (ap (λ (r : Record). r.last) next);
-      text = rw (lines_of_next before m code first done old new entry going h) (Appends-trans before m n _ _ going.text line);
-    }
 
 -- bytes, and then a part of what follows
 pub front_after : (a b c : Option (List ℕ)) (xs ys zs : List ℕ) → Appends a b xs → (q : StopsWithin b c ys) → (length xs + q.0 ≤ length (xs ++ (ys ++ zs))) × Appends a c (take (length xs + q.0) (xs ++ (ys ++ zs)))
@@ -73,90 +43,121 @@ front_after a b c xs ys zs p q =
     let some : take (length xs + q.0) (xs ++ (ys ++ zs)) ≡ xs ++ take q.0 ys = take-append-add xs (ys ++ zs) q.0 ∙ ap (λ t. xs ++ t) (take-append-le q.0 ys zs (omega (arith, q.1))) in
     (omega (arith, length-append xs (ys ++ zs), length-append ys zs, q.1), rw some (Appends-trans a b c xs (take q.0 ys) p q.2))
 
--- a write failed in the line of a step
-pub cut_in_entry : (before m n : Option (List ℕ)) (code : List ℕ) (all : ℕ) (first : State) (done : ℕ) (old new : State) (entry : Option Entry)
-    → done < all → IsGoing before m code first done old → IsAdvance (step_of code old) (Ok entry) old new → StopsWithin m n (lines_of entry)
-    → (front : AppendsFront before n (record_text (record_of code all first))) × StandsAtCut code all first front.0 new
-cut_in_entry before m n code all first done old new entry more going h cut =
-    let k = all - (done + 1) in
-    let rest = record_of code k new in
-    let whole : record_of code all first ≡ joined (record_of code done first) (with_step entry rest) =
-    record_of_rest before m code first done (suc k) all old going (omega arith) ∙ ap (λ r. joined (record_of code done first) r) (record_goes code k (suc k) entry old new refl h) in
-    let so_far = lines_after code first done in
-    let tail = entry_lines rest ++ last_line [] (record_of code all first).event (record_of code all first).steps (record_of code all first).last.cycle in
-    let lines : entry_lines (record_of code all first) ≡ so_far ++ (lines_of entry ++ entry_lines rest) =
-    ap entry_lines whole ∙ entry_lines-joined (record_of code done first) (with_step entry rest) ∙ ap (λ t. so_far ++ t) (flat_map-append entry_line (option_to_list entry) rest.entries) in
-    let text : record_text (record_of code all first) ≡ so_far ++ (lines_of entry ++ tail) = rw (lines, append_assoc, append_assoc) refl in
-    let next = lines_of_next before m code first done old new entry going h in
-    let told = front_after before m n so_far (lines_of entry) tail going.text cut in
-    let back : done + 1 - 1 ≡ done = omega arith in (
-      (length so_far + cut.0, rw text told.0, rw text told.1),
+module _ {M : Type 0} (titles : List (List ℕ)) (machine : Machine M) where
+  pub going_start : (before : Option (List ℕ)) (first : State M) → IsGoing before before machine first 0 first
+  unfolding record_of
+  going_start before first = record { event = refl; steps = refl; last = refl; text = Appends-nil before }
+
+  -- the steps done, and the record of the others
+  pub record_of_rest : (before now : Option (List ℕ)) (first : State M) (done rest all : ℕ) (s : State M)
+      → IsGoing before now machine first done s → all ≡ done + rest → record_of machine all first ≡ appended (record_of machine done first) (record_of machine rest s)
+  record_of_rest before now first done rest all s going e = rw (e, going.last) (record_sum machine done rest first going.event)
+
+  -- a step more
+  pub record_of_next : (before now : Option (List ℕ)) (first : State M) (done : ℕ) (old new : State M) (entry : Option Entry)
+      → IsGoing before now machine first done old → IsAdvance (machine old) (Ok entry) old new
+      → record_of machine (done + 1) first ≡ appended (record_of machine done first) (with_step entry (no_step None new))
+  record_of_next before now first done old new entry going h =
+      record_of_rest before now first done 1 (done + 1) old going refl
+      ∙ ap (λ r. appended (record_of machine done first) r) (record_goes machine 0 1 entry old new refl h ∙ ap (λ r. with_step entry r) (record_zero machine new))
+
+  pub lines_of_next : (before now : Option (List ℕ)) (first : State M) (done : ℕ) (old new : State M) (entry : Option Entry)
+      → IsGoing before now machine first done old → IsAdvance (machine old) (Ok entry) old new
+      → lines_after machine first (done + 1) ≡ lines_after machine first done ++ lines_of entry
+  lines_of_next before now first done old new entry going h =
+      ap entry_lines (record_of_next before now first done old new entry going h)
+      ∙ entry_lines-appended (record_of machine done first) (with_step entry (no_step None new))
+      ∙ ap (λ es. lines_after machine first done ++ flat_map entry_line es) (append-nil (option_to_list entry))
+
+  pub going_on : (before m n : Option (List ℕ)) (first : State M) (done : ℕ) (old new : State M) (entry : Option Entry)
+      → IsGoing before m machine first done old → IsAdvance (machine old) (Ok entry) old new
+      → Appends m n (lines_of entry) → IsGoing before n machine first (done + 1) new
+  going_on before m n first done old new entry going h line =
+      let next = record_of_next before m first done old new entry going h in
       record {
-        steps = done + 1;
-        state = sym (ap (λ (r : Record). r.last) (record_of_next before m code first done old new entry going h));
-        cut = inl (record {
-          some = omega arith;
-          within = omega (arith, ap (λ (r : Record). r.steps) whole, going.steps);
-          begun = rw back (omega arith);
-          unfinished = omega (arith, ap length next, length-append so_far (lines_of entry), cut.1);
-        });
-      },
-    )
+        event = ap (λ (r : Record M). r.event) next;
+        steps = omega (arith, ap (λ (r : Record M). r.steps) next, going.steps);
+        last = sym (ap (λ (r : Record M). r.last) next);
+        text = rw (lines_of_next before m first done old new entry going h) (Appends-trans before m n _ _ going.text line);
+      }
 
--- the steps done are all
-pub record IsOver (code : List ℕ) (all : ℕ) (first : State) (done : ℕ) (s : State) (event : Option Event) : Type 0 where
-  pub event_is : (record_of code all first).event ≡ event
-  pub lines : entry_lines (record_of code all first) ≡ lines_after code first done
-  pub steps : (record_of code all first).steps ≡ done
-  pub last : s ≡ (record_of code all first).last
+  -- a write failed in the line of a step
+  pub cut_in_entry : (before m n : Option (List ℕ)) (all : ℕ) (first : State M) (done : ℕ) (old new : State M) (entry : Option Entry)
+      → done < all → IsGoing before m machine first done old → IsAdvance (machine old) (Ok entry) old new → StopsWithin m n (lines_of entry)
+      → (front : AppendsFront before n (record_text titles (record_of machine all first))) × StandsAtCut titles machine all first front.0 new
+  cut_in_entry before m n all first done old new entry more going h cut =
+      let k = all - (done + 1) in
+      let rest = record_of machine k new in
+      let whole : record_of machine all first ≡ appended (record_of machine done first) (with_step entry rest) =
+      record_of_rest before m first done (suc k) all old going (omega arith) ∙ ap (λ r. appended (record_of machine done first) r) (record_goes machine k (suc k) entry old new refl h) in
+      let so_far = lines_after machine first done in
+      let tail = entry_lines rest ++ last_line titles (record_of machine all first).event (record_of machine all first).steps (record_of machine all first).last.cycle in
+      let lines : entry_lines (record_of machine all first) ≡ so_far ++ (lines_of entry ++ entry_lines rest) =
+      ap entry_lines whole ∙ entry_lines-appended (record_of machine done first) (with_step entry rest) ∙ ap (λ t. so_far ++ t) (flat_map-append entry_line (option_to_list entry) rest.entries) in
+      let text : record_text titles (record_of machine all first) ≡ so_far ++ (lines_of entry ++ tail) = rw (lines, append_assoc, append_assoc) refl in
+      let next = lines_of_next before m first done old new entry going h in
+      let told = front_after before m n so_far (lines_of entry) tail going.text cut in
+      let back : done + 1 - 1 ≡ done = omega arith in (
+        (length so_far + cut.0, rw text told.0, rw text told.1),
+        record {
+          steps = done + 1;
+          state = sym (ap (λ (r : Record M). r.last) (record_of_next before m first done old new entry going h));
+          cut = inl (record {
+            some = omega arith;
+            within = omega (arith, ap (λ (r : Record M). r.steps) whole, going.steps);
+            begun = rw back (omega arith);
+            unfinished = omega (arith, ap length next, length-append so_far (lines_of entry), cut.1);
+          });
+        },
+      )
 
-pub over_at_event : (before now : Option (List ℕ)) (code : List ℕ) (all : ℕ) (first : State) (done : ℕ) (old new : State) (event : Event)
-    → done < all → IsGoing before now code first done old → IsAdvance (step_of code old) (Err event) old new → IsOver code all first done old (Some event)
-over_at_event before now code all first done old new event more going h =
-    let k = all - (done + 1) in
-    let whole : record_of code all first ≡ joined (record_of code done first) (no_step (Some event) old) =
-    record_of_rest before now code first done (suc k) all old going (omega arith) ∙ ap (λ r. joined (record_of code done first) r) (record_stops code k (suc k) event old new refl h) in
-    record {
-      event_is = ap (λ (r : Record). r.event) whole;
-      lines = ap entry_lines whole ∙ ap (λ es. flat_map entry_line es) (append-nil (record_of code done first).entries);
-      steps = omega (arith, ap (λ (r : Record). r.steps) whole, going.steps);
-      last = sym (ap (λ (r : Record). r.last) whole);
-    }
-
-pub over_at_last : (before now : Option (List ℕ)) (code : List ℕ) (all : ℕ) (first : State) (done : ℕ) (s : State) → done ≡ all → IsGoing before now code first done s → IsOver code all first done s None
-over_at_last before now code all first done s e going =
-    let over : IsOver code done first done s None = record { event_is = going.event; lines = refl; steps = going.steps; last = going.last } in
-    subst (λ (n : ℕ). IsOver code n first done s None) e over
-
--- the text of a run that is over
-pub text_over : (code : List ℕ) (all : ℕ) (first : State) (done : ℕ) (s : State) (event : Option Event) → IsOver code all first done s event
-    → record_text (record_of code all first) ≡ lines_after code first done ++ last_line [] event done s.cycle
-text_over code all first done s event over = rw (over.lines, over.event_is, over.steps, ← over.last) refl
-
--- its last line is written
-pub whole_at_end : (before m n : Option (List ℕ)) (code : List ℕ) (all : ℕ) (first : State) (done : ℕ) (s : State) (event : Option Event)
-    → IsGoing before m code first done s → IsOver code all first done s event → Appends m n (last_line [] event done s.cycle)
-    → ((record_of code all first).event ≡ event) × (s ≡ (record_of code all first).last) × Appends before n (record_text (record_of code all first))
-whole_at_end before m n code all first done s event going over line =
-    (over.event_is, over.last, rw (text_over code all first done s event over) (Appends-trans before m n _ _ going.text line))
-
--- a write failed in its last line
-pub cut_at_end : (before m n : Option (List ℕ)) (code : List ℕ) (all : ℕ) (first : State) (done : ℕ) (s : State) (event : Option Event)
-    → IsGoing before m code first done s → IsOver code all first done s event → StopsWithin m n (last_line [] event done s.cycle)
-    → (front : AppendsFront before n (record_text (record_of code all first))) × StandsAtCut code all first front.0 s
-cut_at_end before m n code all first done s event going over cut =
-    let so_far = lines_after code first done in
-    let line = last_line [] event done s.cycle in
-    let text : record_text (record_of code all first) ≡ so_far ++ (line ++ []) = text_over code all first done s event over ∙ ap (λ t. so_far ++ t) (sym (append-nil line)) in
-    let told = front_after before m n so_far line [] going.text cut in (
-      (length so_far + cut.0, rw text told.0, rw text told.1),
+  pub over_at_event : (before now : Option (List ℕ)) (all : ℕ) (first : State M) (done : ℕ) (old new : State M) (event : Event)
+      → done < all → IsGoing before now machine first done old → IsAdvance (machine old) (Err event) old new → IsOver machine all first done old (Some event)
+  over_at_event before now all first done old new event more going h =
+      let k = all - (done + 1) in
+      let whole : record_of machine all first ≡ appended (record_of machine done first) (no_step (Some event) old) =
+      record_of_rest before now first done (suc k) all old going (omega arith) ∙ ap (λ r. appended (record_of machine done first) r) (record_stops machine k (suc k) event old new refl h) in
       record {
-        steps = done;
-        state = going.last;
-        cut = inr (record {
-          all = sym over.steps;
-          begun = omega arith;
-          unfinished = omega (arith, ap length (text_over code all first done s event over), length-append so_far line, cut.1);
-        });
-      },
-    )
+        event_is = ap (λ (r : Record M). r.event) whole;
+        lines = ap entry_lines whole ∙ ap (λ es. flat_map entry_line es) (append-nil (record_of machine done first).entries);
+        steps = omega (arith, ap (λ (r : Record M). r.steps) whole, going.steps);
+        last = sym (ap (λ (r : Record M). r.last) whole);
+      }
+
+  pub over_at_last : (before now : Option (List ℕ)) (all : ℕ) (first : State M) (done : ℕ) (s : State M) → done ≡ all → IsGoing before now machine first done s → IsOver machine all first done s None
+  over_at_last before now all first done s e going =
+      let over : IsOver machine done first done s None = record { event_is = going.event; lines = refl; steps = going.steps; last = going.last } in
+      subst (λ (n : ℕ). IsOver machine n first done s None) e over
+
+  -- the text of a run that is over
+  pub text_over : (all : ℕ) (first : State M) (done : ℕ) (s : State M) (event : Option Event) → IsOver machine all first done s event
+      → record_text titles (record_of machine all first) ≡ lines_after machine first done ++ last_line titles event done s.cycle
+  text_over all first done s event over = rw (over.lines, over.event_is, over.steps, ← over.last) refl
+
+  -- its last line is written
+  pub whole_at_end : (before m n : Option (List ℕ)) (all : ℕ) (first : State M) (done : ℕ) (s : State M) (event : Option Event)
+      → IsGoing before m machine first done s → IsOver machine all first done s event → Appends m n (last_line titles event done s.cycle)
+      → ((record_of machine all first).event ≡ event) × (s ≡ (record_of machine all first).last) × Appends before n (record_text titles (record_of machine all first))
+  whole_at_end before m n all first done s event going over line =
+      (over.event_is, over.last, rw (text_over all first done s event over) (Appends-trans before m n _ _ going.text line))
+
+  -- a write failed in its last line
+  pub cut_at_end : (before m n : Option (List ℕ)) (all : ℕ) (first : State M) (done : ℕ) (s : State M) (event : Option Event)
+      → IsGoing before m machine first done s → IsOver machine all first done s event → StopsWithin m n (last_line titles event done s.cycle)
+      → (front : AppendsFront before n (record_text titles (record_of machine all first))) × StandsAtCut titles machine all first front.0 s
+  cut_at_end before m n all first done s event going over cut =
+      let so_far = lines_after machine first done in
+      let line = last_line titles event done s.cycle in
+      let text : record_text titles (record_of machine all first) ≡ so_far ++ (line ++ []) = text_over all first done s event over ∙ ap (λ t. so_far ++ t) (sym (append-nil line)) in
+      let told = front_after before m n so_far line [] going.text cut in (
+        (length so_far + cut.0, rw text told.0, rw text told.1),
+        record {
+          steps = done;
+          state = going.last;
+          cut = inr (record {
+            all = sym over.steps;
+            begun = omega arith;
+            unfinished = omega (arith, ap length (text_over all first done s event over), length-append so_far line, cut.1);
+          });
+        },
+      )

@@ -1,5 +1,9 @@
 pub mod Writing
-pub mod Machine
-pub mod FirstForm
-pub mod Lines
+pub mod Runs
+pub mod Effects
+pub mod FlatMachine
+pub mod SeparateMachine
+pub mod Boards
+pub mod Laws
 pub mod Run
+pub mod Sample

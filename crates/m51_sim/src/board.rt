@@ -1,97 +1,72 @@
-//! A board with one unit of code.
-ghost use Rattle.std.specs.Prelude.{◌≡◌, ◌≤◌, ◌<◌, ◌+◌, ◌^◌, ◌↔◌, [], Some, IsTrue, length, OnOk, OnErr, IfOk, IfErr, option_to_list, option_copied, flat_map};
-ghost use Rattle.std.specs.Option.{ForSome};
-ghost use Rattle.std.specs.Io.KnownBytes.{Appends};
-ghost use Rattle.m51_cells.specs.Outside.{Rose, AppendsFront, HasCause};
-ghost use Rattle.m51_isa.specs.Table.{cycles_of};
-ghost use Rattle.m51_sim.specs.Writing.{StopsWithin};
-ghost use Rattle.m51_sim.specs.Machine.{start, cycles_on, byte_at, instr_at, to_next, to_target, target_of, next_of, step_of, record_of};
-ghost use Rattle.m51_sim.specs.FirstForm.{IsFirstForm, IsFirstInstr, IsAtInstr};
-ghost use Rattle.m51_sim.specs.Lines.{entry_line, last_line, HasText};
-ghost use Rattle.m51_sim.specs.Run.{IsAdvance, IsStep, Ended};
+//! A board whose program keeps to its units, and whose segments have stores of their own.
+ghost use Rattle.std.specs.Prelude.{◌≡◌, ◌≤◌, ℕ, true, IfErr, IfOk};
+ghost use Rattle.m51_cells.specs.Outside.{Rose};
+ghost use Rattle.m51_module.specs.Plan.{IsRootAt};
+ghost use Rattle.m51_print.specs.Lines.{titles_of};
+ghost use Rattle.m51_sim.specs.Boards.{flat_of, map_of, parted, separate_of};
+ghost use Rattle.m51_sim.specs.Run.{Ended, HasTextAnywhere, IsAdvance, IsStep, step_told};
+ghost use Rattle.m51_sim.specs.SeparateMachine.{has_unit, separate_effect, separate_machine, separate_start};
 
-use crate::lines::{end_line, trace_line};
-use crate::sink::{Failed, Sink, write_whole};
-use m51_cells::{Bytes, Entry, Event, NoMemory, Why};
-use m51_isa::{Instr, cycles, decode, length};
+use crate::chip::Chip;
+use crate::runs::{RunEnd, Step, write_end, write_entry};
+use crate::sink::{Failed, Sink};
+use crate::units::{lie_inside, unless_leaves};
+use m51_cells::{Entry, Event, NoMemory, Why};
+use m51_flat::Effect;
+use m51_isa::length;
+use m51_module::{Image, Layout};
 use std::alloc::Global;
 use std::marker::Model;
 
-/// What a step does.
+/// A board that runs a linked program. Each plain or absolute segment of data memory has a store of its own; all other
+/// cells are of a common one. Overlaid segments have none until there are activations.
 ///
-/// Source: own choice ("Runs").
-#[derive(Clone, Copy, Debug, PartialEq, Eq)]
-pub enum Step {
-    /// It is performed.
-    Done,
-    /// It is stopped by this event and changes nothing.
-    Stopped(Event),
-}
-
-/// How a run ends.
-///
-/// Source: own choice ("Runs").
-#[derive(Clone, Copy, Debug, PartialEq, Eq)]
-pub enum RunEnd {
-    /// All its steps are performed, and its record is written.
-    Finished,
-    /// This event has stopped it, and its record is written.
-    Stopped(Event),
-    /// The sink has failed, and a front of the record is written.
-    WriteFault,
-}
-
-/// A board that runs one unit of code of the first form, which begins at 0.
-///
-/// Source: own choice ("The first form").
+/// Source: own choice ("Boards").
 #[derive(Drop)]
 pub struct Board {
-    code: Bytes,
-    pc: u16,
-    acc: u8,
-    cycle: u64,
+    layout: Layout,
+    chip: Chip,
 }
 
 impl Model for Board {
-    ghost use Rattle.m51_sim.specs.Machine.{BoardState};
-    ghost use Rattle.m51_sim.specs.FirstForm.{IsAtInstr};
+    ghost use Rattle.std.specs.Prelude.{◌≡◌, true};
+    ghost use Rattle.m51_sim.specs.Boards.{BoardState};
+    ghost use Rattle.m51_sim.specs.SeparateMachine.{has_unit};
 
     ghost Value = { BoardState };
 
-    ghost view = { λ b. record { code = b.code; state = record { pc = b.pc; acc = b.acc; cycle = b.cycle } } };
+    ghost view = { λ b. record { layout = b.layout; chip = b.chip } };
 
-    ghost invariant = { λ b. IsAtInstr b.code b.pc };
+    ghost invariant = { λ b. has_unit b.layout b.chip.cpu.pc ≡ true };
 }
 
 impl Board {
-    /// A board with this code, before its first step.
+    /// A board with this layout, which has a root at 0000H, and this image, after a reset: each store has the fill 00H.
+    /// Want of memory is the one refusal.
     ///
-    /// NoMemory: it takes none yet, so this does not come.
-    ///
-    /// Source: own choice ("The first form").
-    pub fn first(_alloc: Global, code: Bytes) -> Result<Board, NoMemory>
-        requires { IsFirstForm code }
-        ensures first { IfOk result (λ board. board ≡ record { code = code; state = start }) }
+    /// Source: own choice ("Boards").
+    pub fn make(alloc: Global, layout: Layout, image: Image) -> Result<Board, NoMemory>
+        requires { (unit : ℕ) × IsRootAt layout 0 unit }
+        ensures layout { IfOk result (λ board. board.layout ≡ layout) }
+        ensures image { IfOk result (λ board. board.chip.image ≡ image) }
+        ensures start { IfOk result (λ board. separate_of board ≡ separate_start) }
     {
-        Ok(Board {
-            code,
-            pc: 0,
-            acc: 0,
-            cycle: 0,
-        })
+        // A layout is sound, so its root is not empty.
+        let _ = layout.placed();
+        let chip = Chip::make(alloc, image)?;
+        Ok(Board { layout, chip })
     }
 
     /// One step.
     ///
     /// Source: own choice ("Runs").
     pub fn step(&mut self) -> Step
-        ensures code { self.new.code ≡ self.old.code }
-        ensures step { IsStep (step_of self.old.code self.old.state) result self.old.state self.new.state }
+        ensures layout { self.new.layout ≡ self.old.layout }
+        ensures image { self.new.chip.image ≡ self.old.chip.image }
+        ensures step { IsStep (separate_machine self.old.layout self.old.chip.image (separate_of self.old)) result (separate_of self.old) (separate_of self.new) }
     {
-        match self.advance() {
-            Ok(_) => Step::Done,
-            Err(event) => Step::Stopped(event),
-        }
+        let answer = advance(&self.layout, &mut self.chip);
+        step_told(answer)
     }
 
     /// At most `n` steps, 1 to 10,000,000, with a line for each entry and the last line.
@@ -102,190 +77,97 @@ impl Board {
     /// Source: own choice ("Runs").
     pub fn run<S: Sink>(&mut self, n: u32, out: &mut S) -> RunEnd
         requires { (1 ≤ n) × (n ≤ 10000000) }
-        ensures ended { Ended (S.text out.old) (S.text out.new) self.old.code n self.old.state self.new.state result }
-        ensures code { self.new.code ≡ self.old.code }
+        ensures ended { Ended (S.text out.old) (S.text out.new) (titles_of self.old.layout.placed) (separate_machine self.old.layout self.old.chip.image) n (separate_of self.old) (separate_of self.new) result }
+        ensures layout { self.new.layout ≡ self.old.layout }
+        ensures image { self.new.chip.image ≡ self.old.chip.image }
         ensures later { S.faults out.old ≤ S.faults out.new }
         ensures fault { result ≡ RunEnd.WriteFault → Rose (S.faults out.old) (S.faults out.new) }
     {
-        for done in 0..n {
-            match self.advance() {
-                Ok(entry) => {
-                    match write_entry(out, entry) {
-                        Ok(()) => {}
-                        Err(Failed) => return RunEnd::WriteFault,
-                    }
+        run_inside(&self.layout, &mut self.chip, n, out)
+    }
+}
+
+// What an advance tells of its step.
+fn step_told(answer: Result<Option<Entry>, Event>) -> Step
+    ensures { result ≡ step_told answer }
+{
+    match answer {
+        Ok(_) => Step::Done,
+        Err(event) => Step::Stopped(event),
+    }
+}
+
+// The effect of the next step, or the event that stops it.
+#[tactic(auto, unfolding(crate::specs::SeparateMachine::separate_effect))]
+fn judge(layout: &Layout, chip: &Chip) -> Result<Effect, Event>
+    requires { has_unit layout.now chip.now.cpu.pc ≡ true }
+    ensures value { result ≡ separate_effect layout.now chip.now.image chip.now.cpu (map_of chip.now.memory) }
+    ensures covered { IfOk result (λ e. has_unit layout.now e.cpu.pc ≡ true) }
+    ensures text { IfErr result HasTextAnywhere }
+{
+    if chip.is_idle() {
+        return Ok(chip.idle());
+    }
+    let pc = chip.pc();
+    let Some(instr) = chip.instr() else {
+        return Err(Event::Reserved { at: pc });
+    };
+    if !lie_inside(layout, pc, length(&instr)) {
+        return Err(Event::Transfer {
+            why: Why::PastEnd,
+            from: pc,
+            to: pc.wrapping_add(u16::from(length(&instr))),
+        });
+    }
+    match chip.effect(&instr) {
+        Ok(effect) => unless_leaves(layout, pc, effect),
+        Err(event) => Err(event),
+    }
+}
+
+// Performs a step and gives its entry, or gives the event that stops it.
+fn advance(layout: &Layout, chip: &mut Chip) -> Result<Option<Entry>, Event>
+    requires { has_unit layout.now chip.old.cpu.pc ≡ true }
+    ensures covered { has_unit layout.now chip.new.cpu.pc ≡ true }
+    ensures image { chip.new.image ≡ chip.old.image }
+    ensures step { IsAdvance (separate_machine layout.now chip.old.image (parted layout.now (flat_of chip.old))) result (parted layout.now (flat_of chip.old)) (parted layout.now (flat_of chip.new)) }
+    ensures text { IfErr result HasTextAnywhere }
+{
+    match judge(layout, chip) {
+        Ok(effect) => Ok(chip.perform(&effect)),
+        Err(event) => Err(event),
+    }
+}
+
+// At most so many steps, with their lines.
+fn run_inside<S: Sink>(layout: &Layout, chip: &mut Chip, n: u32, out: &mut S) -> RunEnd
+    requires { has_unit layout.now chip.old.cpu.pc ≡ true }
+    ensures covered { has_unit layout.now chip.new.cpu.pc ≡ true }
+    ensures ended { Ended (S.text out.old) (S.text out.new) (titles_of layout.now.placed) (separate_machine layout.now chip.old.image) n (parted layout.now (flat_of chip.old)) (parted layout.now (flat_of chip.new)) result }
+    ensures image { chip.new.image ≡ chip.old.image }
+    ensures later { S.faults out.old ≤ S.faults out.new }
+    ensures fault { result ≡ RunEnd.WriteFault → Rose (S.faults out.old) (S.faults out.new) }
+{
+    for done in 0..n {
+        match advance(layout, chip) {
+            Ok(entry) => {
+                match write_entry(out, entry) {
+                    Ok(()) => {}
+                    Err(Failed) => return RunEnd::WriteFault,
                 }
-                Err(event) => {
-                    match write_end(out, Some(&event), done, self.cycle) {
-                        Ok(()) => {}
-                        Err(Failed) => return RunEnd::WriteFault,
-                    }
-                    return RunEnd::Stopped(event);
+            }
+            Err(event) => {
+                match write_end(out, Some(&event), layout.placed(), done, chip.cycle()) {
+                    Ok(()) => {}
+                    Err(Failed) => return RunEnd::WriteFault,
                 }
+                return RunEnd::Stopped(event);
             }
         }
-        match write_end(out, None, n, self.cycle) {
-            Ok(()) => {}
-            Err(Failed) => return RunEnd::WriteFault,
-        }
-        RunEnd::Finished
     }
-
-    // Performs a step and gives its entry, or gives the event that stops it.
-    #[tactic(auto, unfolding(crate::specs::Machine::step_of))]
-    fn advance(&mut self) -> Result<Option<Entry>, Event>
-        ensures code { self.new.code ≡ self.old.code }
-        ensures step { IsAdvance (step_of self.old.code self.old.state) result self.old.state self.new.state }
-        ensures text { IfErr result (HasText []) }
-    {
-        let instr = self.instr();
-        match instr {
-            Instr::MovAData(value) => self.to_next(&instr, value, None),
-            Instr::MovDirectData(_, value) => {
-                let entry = port_entry(self.cycle, value);
-                self.to_next(&instr, self.acc, Some(entry))
-            }
-            Instr::MovDirectA(_) => {
-                let entry = port_entry(self.cycle, self.acc);
-                self.to_next(&instr, self.acc, Some(entry))
-            }
-            Instr::SjmpRel(offset) => {
-                let target = jump_target(self.pc + 2, offset);
-                self.to_target(&instr, target)
-            }
-            _ => unreachable!(),
-        }
+    match write_end(out, None, layout.placed(), n, chip.cycle()) {
+        Ok(()) => {}
+        Err(Failed) => return RunEnd::WriteFault,
     }
-
-    // The instruction at the program counter.
-    fn instr(&self) -> Instr
-        ensures at { instr_at self.now.code self.now.state.pc ≡ Some result }
-        ensures first { IsFirstInstr result }
-        ensures whole { next_of self.now.state result ≤ length self.now.code }
-    {
-        match decoded(self.code.as_slice(), usize::from(self.pc)) {
-            Some(instr) => instr,
-            None => unreachable!(),
-        }
-    }
-
-    // Goes on to the next instruction, or stops at the end of the unit.
-    fn to_next(
-        &mut self,
-        instr: &Instr,
-        acc: u8,
-        entry: Option<Entry>,
-    ) -> Result<Option<Entry>, Event>
-        requires { instr_at self.old.code self.old.state.pc ≡ Some instr.now }
-        ensures code { self.new.code ≡ self.old.code }
-        ensures step { IsAdvance (to_next self.old.code self.old.state instr.now acc entry) result self.old.state self.new.state }
-        ensures text { IfErr result (HasText []) }
-    {
-        let next = usize::from(self.pc) + usize::from(length(instr));
-        if !covers(self.code.as_slice(), next) {
-            return Err(Event::Transfer {
-                why: Why::PastEnd,
-                from: self.pc,
-                to: (next % 65536) as u16,
-            });
-        }
-        self.pc = next as u16;
-        self.acc = acc;
-        self.cycle = cycle_after(self.cycle, instr);
-        Ok(entry)
-    }
-
-    // Goes on to the target of a jump, which is an instruction of the unit.
-    fn to_target(&mut self, instr: &Instr, target: u16) -> Result<Option<Entry>, Event>
-        requires { IsAtInstr self.old.code target }
-        ensures code { self.new.code ≡ self.old.code }
-        ensures step { IsAdvance (to_target self.old.code self.old.state instr.now target) result self.old.state self.new.state }
-        ensures text { IfErr result (HasText []) }
-    {
-        self.pc = target;
-        self.cycle = cycle_after(self.cycle, instr);
-        Ok(None)
-    }
-}
-
-// Whether the unit covers an address.
-fn covers(code: &[u8], address: usize) -> bool
-    ensures { IsTrue result ↔ (address < length code.now) }
-{
-    address < code.len()
-}
-
-// The instruction that begins at an address.
-fn decoded(code: &[u8], at: usize) -> Option<Instr>
-    requires { at < 2 ^ 16 }
-    ensures { result ≡ instr_at code.now at }
-{
-    decode([byte(code, at), byte(code, at + 1), byte(code, at + 2)])
-}
-
-// The byte at an address, FFH past the unit.
-fn byte(code: &[u8], at: usize) -> u8
-    ensures { result ≡ byte_at code.now at }
-{
-    code.get(at).copied().unwrap_or(0xff)
-}
-
-// The cycle number after an instruction.
-fn cycle_after(cycle: u64, instr: &Instr) -> u64
-    ensures { result ≡ cycles_on cycle (cycles_of instr.now) }
-{
-    cycle.saturating_add(u64::from(cycles(instr)))
-}
-
-// The entry of a write to P1.
-fn port_entry(cycle: u64, value: u8) -> Entry
-    ensures { result ≡ Entry.Port cycle 1 value }
-{
-    Entry::Port {
-        cycle,
-        port: 1,
-        value,
-    }
-}
-
-// Where a relative jump goes from the next instruction's address.
-fn jump_target(next: u16, offset: u8) -> u16
-    ensures { result ≡ target_of next offset }
-{
-    let offset = u32::from(offset);
-    let signed = if offset < 128 { offset } else { 65280 + offset };
-    ((u32::from(next) + signed) % 65536) as u16
-}
-
-// Writes the line of an entry, if there is one.
-fn write_entry<S: Sink>(out: &mut S, entry: Option<Entry>) -> Result<(), Failed>
-    ensures whole { OnOk result (Appends (S.text out.old) (S.text out.new) (flat_map entry_line (option_to_list entry))) }
-    ensures short { OnErr result (StopsWithin (S.text out.old) (S.text out.new) (flat_map entry_line (option_to_list entry))) }
-    ensures cause { HasCause (S.faults out.old) (S.faults out.new) result }
-{
-    match entry {
-        None => Ok(()),
-        Some(entry) => {
-            let mut line = [0u8; 128];
-            let len = trace_line(&entry, &mut line);
-            write_whole(out, &line[..len])
-        }
-    }
-}
-
-// Writes the last line.
-fn write_end<S: Sink>(
-    out: &mut S,
-    event: Option<&Event>,
-    steps: u32,
-    cycle: u64,
-) -> Result<(), Failed>
-    requires { ForSome (option_copied event) (HasText []) }
-    ensures whole { OnOk result (Appends (S.text out.old) (S.text out.new) (last_line [] (option_copied event.entry) steps cycle)) }
-    ensures short { OnErr result (StopsWithin (S.text out.old) (S.text out.new) (last_line [] (option_copied event.entry) steps cycle)) }
-    ensures cause { HasCause (S.faults out.old) (S.faults out.new) result }
-{
-    let mut line = [0u8; 128];
-    let len = end_line(event, steps, cycle, &mut line);
-    write_whole(out, &line[..len])
+    RunEnd::Finished
 }

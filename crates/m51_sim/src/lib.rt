@@ -1,17 +1,25 @@
-//! A board that runs one unit of code of the first form, and the sinks that take the lines of its record.
+//! Boards that run an image, and the sinks that take the lines of their records.
 #![tactic(auto)]
 
 mod board;
-mod lines;
+mod chip;
+mod flat_board;
+mod laws;
 mod memory;
+mod runs;
 mod sink;
 mod stdout;
 mod sure;
-#[cfg(test)]
-mod tests;
+mod units;
 
-pub use board::{Board, RunEnd, Step};
+pub use board::Board;
+pub use flat_board::FlatBoard;
+pub use laws::{flat_keeps, units_are_the_layouts};
 pub use memory::MemSink;
+pub use runs::{RunEnd, Step};
 pub use sink::{Failed, Sink, write_whole};
 pub use stdout::StdSink;
 pub use sure::SureSink;
+
+#[cfg(test)]
+mod tests;

@@ -1,130 +1,144 @@
 //! What no clause says: that the calls which want memory can succeed, and that the texts are those of runs worked by hand.
-ghost use Rattle.std.specs.Prelude.{◌≤◌};
-ghost use Rattle.m51_sim.specs.FirstForm.{IsFirstForm};
+ghost use Rattle.std.specs.Prelude.{◌≡◌, ◌<◌, ◌≤◌, [], IfOk, length};
+ghost use Rattle.m51_cells.specs.Name.{title_at};
+ghost use Rattle.m51_sim.specs.Sample.{one_unit};
 
-use crate::lines::{end_line, trace_line};
-use crate::{Board, MemSink, RunEnd, StdSink, write_whole};
-use m51_cells::{Bytes, Cell, Entry, Event, Space, Why};
+use crate::{Board, FlatBoard, MemSink, RunEnd, StdSink, Step, write_whole};
+use m51_cells::{Event, Kind, ListOf, Name, NoMemory, Reloc, Why};
+use m51_module::{Image, Layout, LayoutParts, Mark, Placed};
 use std::alloc::Global;
 use std::test::Fail;
 
-// A board with this code, and a sink whose calls of these numbers fail.
-fn fixture(alloc: Global, code: &[u8], fails: &[u32]) -> Result<(Board, MemSink), Fail>
-    requires { IsFirstForm code.now }
+// An image whose first bytes are these.
+fn image(alloc: Global, bytes: &[u8]) -> Result<Image, NoMemory>
+    requires { length bytes.now ≤ 100 }
 {
-    let code = Bytes::of(code.to_vec(alloc)?);
-    let board = Board::first(alloc, code)?;
-    let sink = MemSink::make(alloc, fails.to_vec(alloc)?, 200)?;
-    Ok((board, sink))
+    let mut image = Image::blank(alloc)?;
+    for place in 0..bytes.len() {
+        image.set(place as u16, bytes[place]);
+    }
+    Ok(image)
+}
+
+// One unit of so many bytes at 0000H, and a byte of DATA at 08H.
+fn parts(alloc: Global, size: u16) -> Result<LayoutParts, NoMemory>
+    ensures { IfOk result (λ parts. parts ≡ one_unit (title_at 0) [] size) }
+{
+    let unit = Placed {
+        title: Name::at(0),
+        kind: Kind::Code,
+        reloc: Reloc::Abs,
+        mark: Mark::Absolute,
+        base: 0,
+        size,
+    };
+    let byte = Placed {
+        title: Name::none(),
+        kind: Kind::Direct,
+        reloc: Reloc::Unit,
+        mark: Mark::Plain,
+        base: 8,
+        size: 1,
+    };
+    Ok(LayoutParts {
+        placed: ListOf::of(vec![in alloc; unit, byte]?),
+        units: ListOf::of(vec![in alloc; 0u16]?),
+        edges: ListOf::of(Vec::new(alloc)),
+        owners: ListOf::of(Vec::new(alloc)),
+    })
+}
+
+// A board of that layout, with an image whose first bytes are these.
+fn board(alloc: Global, size: u16, bytes: &[u8]) -> Result<Board, NoMemory>
+    requires some { 0 < size }
+    requires few { length bytes.now ≤ 100 }
+{
+    let parts = parts(alloc, size)?;
+    let layout = Layout::make(alloc, parts)?;
+    let image = image(alloc, bytes)?;
+    Board::make(alloc, layout, image)
+}
+
+// What so many steps of the flat board write.
+fn flat_run(alloc: Global, bytes: &[u8], n: u32) -> Result<MemSink, NoMemory>
+    requires few { length bytes.now ≤ 100 }
+    requires some { (1 ≤ n) × (n ≤ 100) }
+{
+    let image = image(alloc, bytes)?;
+    let mut board = FlatBoard::make(alloc, image)?;
+    let mut sink = MemSink::make(alloc, Vec::new(alloc), 200)?;
+    board.run(n, &mut sink);
+    Ok(sink)
 }
 
 #[test]
-fn a_port_line_is_written(rt: HostRuntime) -> Result<(), Fail> {
-    let (mut board, mut sink) = fixture(rt.alloc(), &[0x75, 0x90, 0x55, 0x80, 0xfe], &[])?;
+fn a_sum_is_adjusted_and_complemented(rt: HostRuntime) -> Result<(), Fail> {
+    let bytes = [0x74, 0x58, 0x24, 0x46, 0xD4, 0xF5, 0x90, 0x80, 0xFE];
+    let sink = flat_run(rt.alloc(), &bytes, 5)?;
+    assert_eq!(rt; sink.text(), b"3 P1 04\nEND 5 STEPS 6 CYCLES\n".as_slice());
+    Ok(())
+}
+
+#[test]
+fn a_product_is_written_in_two_bytes(rt: HostRuntime) -> Result<(), Fail> {
+    let bytes = [
+        0x74, 0x50, 0x75, 0xF0, 0xA0, 0xA4, 0xF5, 0x90, 0xE5, 0xF0, 0xF5, 0x90, 0x80, 0xFE,
+    ];
+    let sink = flat_run(rt.alloc(), &bytes, 7)?;
+    assert_eq!(rt;
+        sink.text(),
+        b"7 P1 00\n9 P1 32\nEND 7 STEPS 12 CYCLES\n".as_slice()
+    );
+    Ok(())
+}
+
+#[test]
+fn the_reserved_opcode_stops_a_run(rt: HostRuntime) -> Result<(), Fail> {
+    let sink = flat_run(rt.alloc(), &[0xA5], 1)?;
+    assert_eq!(rt;
+        sink.text(),
+        b"EVENT V4 AT 0000 AFTER 0 STEPS 0 CYCLES\n".as_slice()
+    );
+    Ok(())
+}
+
+const STORES_AND_LOADS: [u8; 9] = [0x75, 0x08, 0x05, 0xE5, 0x08, 0xF5, 0x90, 0x80, 0xFE];
+
+#[test]
+fn a_byte_of_data_is_kept(rt: HostRuntime) -> Result<(), Fail> {
+    let mut board = board(rt.alloc(), 9, &STORES_AND_LOADS)?;
+    let mut sink = MemSink::make(rt.alloc(), Vec::new(rt.alloc()), 200)?;
     assert_eq!(rt; board.run(4, &mut sink), RunEnd::Finished);
-    assert_eq!(rt; sink.text(), b"0 P1 55\nEND 4 STEPS 8 CYCLES\n".as_slice());
+    assert_eq!(rt; sink.text(), b"3 P1 05\nEND 4 STEPS 6 CYCLES\n".as_slice());
     Ok(())
 }
 
 #[test]
 fn the_end_of_the_unit_stops_a_run(rt: HostRuntime) -> Result<(), Fail> {
-    let (mut board, mut sink) = fixture(rt.alloc(), &[0x74, 0x07, 0xf5, 0x90, 0x75, 0x90, 1], &[])?;
+    let mut board = board(rt.alloc(), 5, &STORES_AND_LOADS)?;
     let past_end = Event::Transfer {
         why: Why::PastEnd,
-        from: 4,
-        to: 7,
+        from: 3,
+        to: 5,
     };
+    assert_eq!(rt; board.step(), Step::Done);
+    assert_eq!(rt; board.step(), Step::Stopped(past_end));
+    let mut sink = MemSink::make(rt.alloc(), Vec::new(rt.alloc()), 200)?;
     assert_eq!(rt; board.run(9, &mut sink), RunEnd::Stopped(past_end));
-    let text = b"1 P1 07\nEVENT V1 PASTEND FROM 0004 TO 0007 AFTER 2 STEPS 2 CYCLES\n";
+    let text = b"EVENT V1 PASTEND FROM 0003 TO 0005 AFTER 0 STEPS 2 CYCLES\n";
     assert_eq!(rt; sink.text(), text.as_slice());
     Ok(())
 }
 
 #[test]
 fn a_board_is_run_on_after_a_failed_write(rt: HostRuntime) -> Result<(), Fail> {
-    let (mut board, mut sink) = fixture(rt.alloc(), &[0x75, 0x90, 0x55, 0x80, 0xfe], &[2])?;
+    let mut board = board(rt.alloc(), 9, &STORES_AND_LOADS)?;
+    let fails = vec![in rt.alloc(); 2u32]?;
+    let mut sink = MemSink::make(rt.alloc(), fails, 200)?;
     assert_eq!(rt; board.run(4, &mut sink), RunEnd::WriteFault);
     assert_eq!(rt; board.run(1, &mut sink), RunEnd::Finished);
-    assert_eq!(rt; sink.text(), b"0 P1 55\nEND 1 STEPS 10 CYCLES\n".as_slice());
+    assert_eq!(rt; sink.text(), b"3 P1 05\nEND 1 STEPS 8 CYCLES\n".as_slice());
     Ok(())
-}
-
-#[test]
-fn entries_have_the_texts_of_worked_runs(rt: HostRuntime) {
-    let port = Entry::Port {
-        cycle: 278,
-        port: 1,
-        value: 0xfe,
-    };
-    let sent = Entry::Sent {
-        cycle: 976,
-        byte: 0x41,
-        ninth: None,
-    };
-    let ninth = Entry::Sent {
-        cycle: 976,
-        byte: 0x41,
-        ninth: Some(true),
-    };
-    let cases = [
-        (port, b"278 P1 FE\n".as_slice()),
-        (sent, b"976 TX 41\n".as_slice()),
-        (ninth, b"976 TX 41 1\n".as_slice()),
-    ];
-    for (entry, text) in cases {
-        let mut line = [0u8; 128];
-        let len = trace_line(&entry, &mut line);
-        assert_eq!(rt; &line[..len], text);
-    }
-}
-
-#[test]
-fn events_have_the_texts_of_worked_runs(rt: HostRuntime) {
-    let edge = Event::Transfer {
-        why: Why::NoEdge,
-        from: 4,
-        to: 0x100,
-    };
-    let outside = Event::Outside {
-        cell: Cell {
-            space: Space::Ram,
-            at: 0x40,
-        },
-        at: 1,
-    };
-    let external = Event::Outside {
-        cell: Cell {
-            space: Space::Xram,
-            at: 0x1234,
-        },
-        at: 3,
-    };
-    let mut line = [0u8; 128];
-    let len = end_line(Some(&edge), 2, 3, &mut line);
-    assert_eq!(rt;
-        &line[..len],
-        b"EVENT V1 NOEDGE FROM 0004 TO 0100 AFTER 2 STEPS 3 CYCLES\n".as_slice()
-    );
-    let len = end_line(Some(&outside), 1, 1, &mut line);
-    assert_eq!(rt;
-        &line[..len],
-        b"EVENT V2 D:08.0 AT 0001 AFTER 1 STEPS 1 CYCLES\n".as_slice()
-    );
-    let len = end_line(Some(&external), 1, 1, &mut line);
-    assert_eq!(rt;
-        &line[..len],
-        b"EVENT V2 X:1234 AT 0003 AFTER 1 STEPS 1 CYCLES\n".as_slice()
-    );
-    let len = end_line(Some(&Event::Reserved { at: 0 }), 0, 0, &mut line);
-    assert_eq!(rt;
-        &line[..len],
-        b"EVENT V4 AT 0000 AFTER 0 STEPS 0 CYCLES\n".as_slice()
-    );
-    let len = end_line(Some(&Event::PowerDown { at: 0 }), 0, 0, &mut line);
-    assert_eq!(rt;
-        &line[..len],
-        b"EVENT V5 AT 0000 AFTER 0 STEPS 0 CYCLES\n".as_slice()
-    );
 }
 
 #[test]

@@ -1,6 +1,0 @@
-use Rattle.std.proofs.Common.{[], ◌∷◌, refl, arith}
-use Rattle.m51_sim.specs.FirstForm.{DataToP1, JumpHere}
-use Rattle.m51_sim.proofs.tests.a_board_is_run_on_after_a_failed_write.Goals as goal
-
-pub fixture-requires : goal.fixture-requires
-fixture-requires g c = record { instrs = DataToP1 0x55 ∷ JumpHere ∷ []; some = omega arith; most = omega arith; bytes = refl }

@@ -12,6 +12,3 @@ mod targets;
 
 pub use linked::Linked;
 pub use linking::link_plain;
-
-#[cfg(test)]
-mod tests;

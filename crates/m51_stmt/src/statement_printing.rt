@@ -191,7 +191,7 @@ fn put_label(out: &mut Vec<u8>, label: &Option<Name>) -> Result<(), NoMemory>
 }
 
 /// The line of a statement: each token with a blank behind it, numbers in hexadecimal, and each operator with its
-/// operands in parentheses. Of a statement that `read_line` gives it is a line that reads as that statement.
+/// operands in parentheses. That `read_line` gives the statement back is only tested.
 ///
 /// Errors: want of memory.
 ///

@@ -208,7 +208,7 @@ pub record IsValidStart (s : Segment) : Type 0 where
   pub is : IsStart s
   pub valid : IsSegmentValid s
 
-one_start : (m : ModuleParts) → IsValid m → IsFirstShape m → IsOne m.segments
+pub one_start : (m : ModuleParts) → IsValid m → IsFirstShape m → IsOne m.segments
 one_start m valid shape =
     let passed = filter is_absolute m.segments in
     let each : All IsValidStart passed = λ k d below. record {

@@ -40,21 +40,31 @@ pub fn outcome(
 
 #[test]
 fn sources_answer_as_the_form_says(rt: HostRuntime) -> Result<(), Fail> {
-    let cases: [(&[u8], Status, &[u8]); 11] = [
+    let cases: [(&[u8], Status, &[u8]); 13] = [
         (
             PORT_LINE,
             Status::Ran,
-            b"RUN\n0 P1 55\nEND 4 STEPS 8 CYCLES\n",
+            b"SEGMENTS\nDATA  0000 0008 B BANK0\nCODE  0000 0005 A @0000\nUNITS\n@0000 FROM @0000 TO -\nCHAIN @0000 0 @0000\nOVERLAID 0 BYTES\nIMAGE 5 BYTES\nRUN\n0 P1 55\nEND 4 STEPS 8 CYCLES\n",
         ),
         (
             b"CSEG AT 0\nMOV P1,#1H\nEND\n",
             Status::Event,
-            b"RUN\nEVENT V1 PASTEND FROM 0000 TO 0003 AFTER 0 STEPS 0 CYCLES\n",
+            b"SEGMENTS\nDATA  0000 0008 B BANK0\nCODE  0000 0003 A @0000\nUNITS\n@0000 FROM @0000 TO -\nCHAIN @0000 0 @0000\nOVERLAID 0 BYTES\nIMAGE 3 BYTES\nRUN\nEVENT V1 PASTEND FROM 0000 TO 0003 AFTER 0 STEPS 0 CYCLES\n",
         ),
         (
             b"CSEG AT 0\nMOV A,#0FFH\nMOV P1,A\nMOV P1,#1H\nEND",
             Status::Event,
-            b"RUN\n1 P1 FF\nEVENT V1 PASTEND FROM 0004 TO 0007 AFTER 2 STEPS 2 CYCLES\n",
+            b"SEGMENTS\nDATA  0000 0008 B BANK0\nCODE  0000 0007 A @0000\nUNITS\n@0000 FROM @0000 TO -\nCHAIN @0000 0 @0000\nOVERLAID 0 BYTES\nIMAGE 7 BYTES\nRUN\n1 P1 FF\nEVENT V1 PASTEND FROM 0004 TO 0007 AFTER 2 STEPS 2 CYCLES\n",
+        ),
+        (
+            b"A1 SEGMENT DATA\nB1 SEGMENT DATA\nRSEG A1\nX: DS 1\nRSEG B1\nY: DS 1\nCSEG AT 0\nMOV X,#5H\nMOV Y,#6H\nMOV A,X\nMOV P1,A\nSJMP $\nEND\n",
+            Status::Ran,
+            b"SEGMENTS\nDATA  0000 0008 B BANK0\nCODE  0000 000C A @0000\nDATA  0008 0001 P A1\nDATA  0009 0001 P B1\nUNITS\n@0000 FROM @0000 TO -\nCHAIN @0000 0 @0000\nOVERLAID 0 BYTES\nIMAGE 12 BYTES\nRUN\n5 P1 05\nEND 4 STEPS 6 CYCLES\n",
+        ),
+        (
+            b"A1 SEGMENT DATA\nB1 SEGMENT DATA\nC1 SEGMENT DATA\nRSEG A1\nDS 60\nRSEG B1\nDS 60\nRSEG C1\nDS 60\nCSEG AT 0\nSJMP $\nEND\n",
+            Status::Link,
+            b"LINK L12 C1\n",
         ),
         (b"CSEG AT 0\nNOP\nEND\n", Status::Source, b"a.a51(2): E0\n"),
         (b"", Status::Source, b"a.a51(1): E0\n"),

@@ -37,10 +37,26 @@ fn a_file_that_is_not_there_is_a_read_fault(rt: HostRuntime) -> Result<(), Fail>
 fn a_failed_write_leaves_a_prefix(rt: HostRuntime) -> Result<(), Fail> {
     let usage = ["build"];
     let absent = ["build", "--steps", "4", "b.a51"];
-    let cases: [(&[&str], &[u8], u32, &[u8]); 6] = [
+    let cases: [(&[&str], &[u8], u32, &[u8]); 7] = [
         (&FOUR_STEPS, PORT_LINE, 1, b""),
-        (&FOUR_STEPS, PORT_LINE, 2, b"RUN\n"),
-        (&FOUR_STEPS, PORT_LINE, 3, b"RUN\n0 P1 55\n"),
+        (
+            &FOUR_STEPS,
+            PORT_LINE,
+            2,
+            b"SEGMENTS\nDATA  0000 0008 B BANK0\nCODE  0000 0005 A @0000\nUNITS\n@0000 FROM @0000 TO -\nCHAIN @0000 0 @0000\nOVERLAID 0 BYTES\nIMAGE 5 BYTES\n",
+        ),
+        (
+            &FOUR_STEPS,
+            PORT_LINE,
+            3,
+            b"SEGMENTS\nDATA  0000 0008 B BANK0\nCODE  0000 0005 A @0000\nUNITS\n@0000 FROM @0000 TO -\nCHAIN @0000 0 @0000\nOVERLAID 0 BYTES\nIMAGE 5 BYTES\nRUN\n",
+        ),
+        (
+            &FOUR_STEPS,
+            PORT_LINE,
+            4,
+            b"SEGMENTS\nDATA  0000 0008 B BANK0\nCODE  0000 0005 A @0000\nUNITS\n@0000 FROM @0000 TO -\nCHAIN @0000 0 @0000\nOVERLAID 0 BYTES\nIMAGE 5 BYTES\nRUN\n0 P1 55\n",
+        ),
         (&usage, PORT_LINE, 1, b""),
         (&FOUR_STEPS, b"NOP\n", 1, b""),
         (&absent, PORT_LINE, 1, b""),

@@ -1,6 +1,6 @@
-pub mod Lines
-pub mod Ends
 pub mod Digits
 pub mod Due
 pub mod Front
-pub mod Forms
+pub mod OneUnit
+pub mod Written
+pub mod Linking

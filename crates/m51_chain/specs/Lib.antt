@@ -4,6 +4,6 @@ pub mod Memory
 pub mod Outside
 pub mod Reading
 pub mod Words
-pub mod Source
+pub mod Chains
 pub mod Answer
 pub mod Cause

@@ -1,13 +1,14 @@
 //! The top call, and the shelf that its files come from.
 #![tactic(auto)]
 
+mod building;
+mod chains;
 mod files;
 mod folder;
 mod memory;
 mod reading;
 mod refusals;
 mod shelf;
-mod source;
 mod status;
 mod sure;
 mod top;
@@ -17,7 +18,6 @@ pub use folder::DirShelf;
 pub use m51_sim::{Failed, MemSink, Sink, StdSink, SureSink};
 pub use memory::{Call, MemShelf};
 pub use shelf::Shelf;
-pub use source::{First, read_first};
 pub use status::Status;
 pub use sure::SureShelf;
 pub use top::chain;

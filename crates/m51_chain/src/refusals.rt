@@ -1,10 +1,13 @@
 //! The texts of refusals, each made whole before its first byte is written.
-ghost use Rattle.std.specs.Prelude.{◌≡◌, ◌≤◌, IfOk, string_bytes};
-ghost use Rattle.m51_chain.specs.Answer.{usage_answer, limit_answer, unread_answer, fault_answer};
+ghost use Rattle.std.specs.Prelude.{◌≡◌, ◌≢◌, ◌≤◌, IfOk, string_bytes};
+ghost use Rattle.m51_chain.specs.Answer.{usage_answer, limit_answer, unread_answer, fault_line, faults_answer, refusal_answer};
 ghost use Rattle.m51_chain.specs.Cause.{IsWritten};
 
 use crate::status::{Failure, Status};
+use m51_asm::Fault;
 use m51_cells::NoMemory;
+use m51_module::Refusal;
+use m51_print::refusal_text;
 use m51_sim::{Sink, write_whole};
 use std::alloc::Global;
 
@@ -59,24 +62,54 @@ pub fn refuse_unread_file<S: Sink>(
     refuse(out, Status::ReadFault, text.as_bytes())
 }
 
-// The text of a line that is out of the form.
-fn fault_text(alloc: Global, file: &str, line: u32) -> Result<String, NoMemory>
-    ensures { IfOk result (λ text. string_bytes text ≡ (fault_answer file.now line).text) }
+// The line of a fault.
+fn fault_line(alloc: Global, file: &str, fault: &Fault) -> Result<String, NoMemory>
+    ensures { IfOk result (λ text. string_bytes text ≡ fault_line file.now fault.now) }
 {
-    Ok(format!(in alloc; "{file}({line}): E0\n")?)
+    let line = fault.line;
+    let number = fault.number;
+    Ok(format!(in alloc; "{file}({line}): E{number}\n")?)
 }
 
-/// Refuses a source at a line that is out of the form.
+// The lines of the faults.
+fn faults_text(alloc: Global, file: &str, faults: &[Fault]) -> Result<Vec<u8>, NoMemory>
+    ensures { IfOk result (λ text. text.items ≡ (faults_answer file.now faults.now).text) }
+{
+    let mut text = Vec::new(alloc);
+    for fault in faults {
+        let line = fault_line(alloc, file, fault)?;
+        text.extend_from_slice(line.as_bytes())?;
+    }
+    Ok(text)
+}
+
+/// Refuses a source at its faults.
 #[tactic(auto, unfolding(crate::specs::Cause::IsWritten))]
-pub fn refuse_line<S: Sink>(
+pub fn refuse_source<S: Sink>(
     alloc: Global,
     file: &str,
-    line: u32,
+    faults: &[Fault],
     out: &mut S,
 ) -> Result<Status, Failure>
-    ensures written { IsWritten (fault_answer file.now line) (record { text = S.text out.old; faults = S.faults out.old }) (record { text = S.text out.new; faults = S.faults out.new }) result }
+    ensures written { IsWritten (faults_answer file.now faults.now) (record { text = S.text out.old; faults = S.faults out.old }) (record { text = S.text out.new; faults = S.faults out.new }) result }
     ensures later { S.faults out.old ≤ S.faults out.new }
 {
-    let text = fault_text(alloc, file, line)?;
-    refuse(out, Status::Source, text.as_bytes())
+    let text = faults_text(alloc, file, faults)?;
+    refuse(out, Status::Source, &text)
+}
+
+/// Refuses a link.
+#[tactic(auto, unfolding(crate::specs::Cause::IsWritten))]
+pub fn refuse_link<S: Sink>(
+    alloc: Global,
+    refusal: &Refusal,
+    out: &mut S,
+) -> Result<Status, Failure>
+    requires { refusal.now ≢ Refusal.Memory }
+    ensures refusal { refusal.now ≢ Refusal.Memory }
+    ensures written { IsWritten (refusal_answer refusal.now) (record { text = S.text out.old; faults = S.faults out.old }) (record { text = S.text out.new; faults = S.faults out.new }) result }
+    ensures later { S.faults out.old ≤ S.faults out.new }
+{
+    let text = refusal_text(alloc, refusal)?;
+    refuse(out, Status::Link, &text)
 }

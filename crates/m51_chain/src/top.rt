@@ -1,55 +1,27 @@
 //! The top call.
 ghost use Rattle.std.specs.Prelude.{◌≡◌, ◌⊎◌, ◌≤◌, IfOk, None, Some, string_bytes};
-ghost use Rattle.m51_sim.specs.Machine.{record_of, start};
-ghost use Rattle.m51_sim.specs.FirstForm.{IsFirstForm};
 ghost use Rattle.m51_chain.specs.Shelf.{Files};
 ghost use Rattle.m51_chain.specs.Words.{job_of, texts};
-ghost use Rattle.m51_chain.specs.Source.{first_of};
-ghost use Rattle.m51_chain.specs.Answer.{answer_of, run_answer, source_answer, file_read};
-ghost use Rattle.m51_chain.specs.Cause.{IsWritten, IsWork, IsTold, IsCaused};
+ghost use Rattle.m51_chain.specs.Answer.{file_read};
+ghost use Rattle.m51_chain.specs.Cause.{IsWork, IsTold, IsCaused};
 
+use crate::building::build;
 use crate::reading::{Contents, ReadError, read_file};
-use crate::refusals::{refuse_line, refuse_long_file, refuse_unread_file, refuse_words};
+use crate::refusals::{refuse_long_file, refuse_unread_file, refuse_words};
 use crate::shelf::Shelf;
-use crate::source::{First, read_first};
 use crate::status::{Failure, Status};
 use crate::words::job_of;
-use m51_cells::NoMemory;
-use m51_sim::{Board, RunEnd, Sink, write_whole};
+use m51_asm::SourceFile;
+use m51_cells::{Bytes, NoMemory};
+use m51_sim::Sink;
 use std::alloc::Global;
 
-// Runs a board from its start, and writes its record.
-#[tactic(auto, unfolding(crate::specs::Cause::IsWritten))]
-fn run<S: Sink>(mut board: Board, steps: u32, out: &mut S) -> Result<Status, Failure>
-    requires bounds { (1 ≤ steps) × (steps ≤ 10000000) }
-    ensures written { IsWritten (run_answer (record_of board.code steps board.state)) (record { text = S.text out.old; faults = S.faults out.old }) (record { text = S.text out.new; faults = S.faults out.new }) result }
-    ensures later { S.faults out.old ≤ S.faults out.new }
+// The source of that name with these bytes.
+fn source_of(alloc: Global, file: &String, bytes: Bytes) -> Result<SourceFile, NoMemory>
+    ensures { IfOk result (λ source. (source.name ≡ string_bytes file.now) × (source.bytes ≡ bytes)) }
 {
-    write_whole(out, b"RUN\n")?;
-    match board.run(steps, out) {
-        RunEnd::Finished => Ok(Status::Ran),
-        RunEnd::Stopped(_) => Ok(Status::Event),
-        RunEnd::WriteFault => Err(Failure::Write),
-    }
-}
-
-// Runs a source, or says which line of it is refused.
-#[tactic(auto, unfolding(crate::specs::Cause::IsWritten))]
-fn build<S: Sink>(
-    alloc: Global,
-    steps: u32,
-    file: &str,
-    source: &[u8],
-    out: &mut S,
-) -> Result<Status, Failure>
-    requires bounds { (1 ≤ steps) × (steps ≤ 10000000) }
-    ensures written { IsWritten (source_answer (record { steps = steps; file = file.now }) (first_of source.now)) (record { text = S.text out.old; faults = S.faults out.old }) (record { text = S.text out.new; faults = S.faults out.new }) result }
-    ensures later { S.faults out.old ≤ S.faults out.new }
-{
-    match read_first(alloc, source)? {
-        First::Fault { line } => refuse_line(alloc, file, line, out),
-        First::Code(code) => run(Board::first(alloc, code)?, steps, out),
-    }
+    let name = Bytes::of(file.as_bytes().to_vec(alloc)?);
+    Ok(SourceFile { name, bytes })
 }
 
 // The same text once more.
@@ -77,13 +49,10 @@ fn work<F: Shelf, S: Sink>(
     };
     let file = copy(job.file)?;
     match read_file(alloc, file, files) {
-        Ok(Contents::Whole(source)) => build(
-            alloc,
-            job.steps,
-            job.file.as_str(),
-            source.as_slice(),
-            out,
-        ),
+        Ok(Contents::Whole(bytes)) => {
+            let source = source_of(alloc, job.file, bytes)?;
+            build(alloc, job.steps, job.file.as_str(), &source, out)
+        }
         Ok(Contents::TooLong) => refuse_long_file(out),
         Err(ReadError::Failed) => refuse_unread_file(alloc, job.file.as_str(), out),
         Err(ReadError::Memory) => Err(Failure::Memory),
@@ -101,8 +70,9 @@ pub fn chain<F: Shelf, S: Sink>(
     files: &mut F,
     out: &mut S,
 ) -> Status
-    // Where the shelf tells its files, status and text are those of the answer, unless a call failed or memory is wanted.
-    ensures told { (held : Files) → F.holds files.old ≡ Some held → IsTold (answer_of (texts words.now) held) (record { named = F.named files.old; ready = F.ready files.old; taken = F.taken files.old; faults = F.read_faults files.old }) (record { named = F.named files.new; ready = F.ready files.new; taken = F.taken files.new; faults = F.read_faults files.new }) (record { text = S.text out.old; faults = S.faults out.old }) (record { text = S.text out.new; faults = S.faults out.new }) result }
+    // Where the shelf tells its files, status and text are those of the answer for words and files, unless a call failed or
+    // memory is wanted.
+    ensures told { (held : Files) → F.holds files.old ≡ Some held → IsTold (texts words.now) held (record { named = F.named files.old; ready = F.ready files.old; taken = F.taken files.old; faults = F.read_faults files.old }) (record { named = F.named files.new; ready = F.ready files.new; taken = F.taken files.new; faults = F.read_faults files.new }) (record { text = S.text out.old; faults = S.faults out.old }) (record { text = S.text out.new; faults = S.faults out.new }) result }
 
     // What lies behind each status, told or not.
     ensures cause { IsCaused (texts words.now) (record { named = F.named files.old; ready = F.ready files.old; taken = F.taken files.old; faults = F.read_faults files.old }) (record { named = F.named files.new; ready = F.ready files.new; taken = F.taken files.new; faults = F.read_faults files.new }) (record { text = S.text out.old; faults = S.faults out.old }) (record { text = S.text out.new; faults = S.faults out.new }) result }

@@ -1,8 +1,9 @@
 use Rattle.std.proofs.Common.{arith, refl}
+use Rattle.std.proofs.KnownBytes.{Appends-trans}
 use Rattle.std.proofs.lemmas.Result.{err_from_is_err_and}
 use Rattle.m51_chain.specs.Cause.{IsWritten}
 use Rattle.m51_chain.proofs.Front.{front_more, front_behind}
-use Rattle.m51_chain.proofs.top.run.Goals as goal
+use Rattle.m51_chain.proofs.building.run.Goals as goal
 
 pub returns-in_err-write_whole-clause-written : goal.returns-in_err-write_whole-clause-written
 unfolding IsWritten
@@ -13,3 +14,15 @@ returns-in_err-write_whole-clause-written g c =
 pub returns-clause-written : goal.returns-clause-written
 unfolding IsWritten
 returns-clause-written g c = (omega (arith, c.write_whole.ensures.cause.later, c.in-WriteFault.ensures.fault refl), front_behind _ _ _ _ _ c.in_ok-write_whole.ensures.whole (c.in-WriteFault.ensures.ended.0))
+
+pub returns-in-Finished-clause-written : goal.returns-in-Finished-clause-written
+unfolding IsWritten
+returns-in-Finished-clause-written g c =
+    let run = c.in-Finished.ensures.ended in
+    (rw (run.0) refl, Appends-trans _ _ _ _ _ c.in_ok-write_whole.ensures.whole (run.2))
+
+pub returns-in-Stopped-clause-written : goal.returns-in-Stopped-clause-written
+unfolding IsWritten
+returns-in-Stopped-clause-written g c =
+    let run = c.in-Stopped.ensures.ended in
+    (rw (run.0) refl, Appends-trans _ _ _ _ _ c.in_ok-write_whole.ensures.whole (run.2))

@@ -102,7 +102,11 @@ fn sources_answer_as_the_form_says(rt: HostRuntime) -> Result<(), Fail> {
 #[test]
 fn a_hundred_instructions_are_taken_and_one_more_is_refused(rt: HostRuntime) -> Result<(), Fail> {
     for (count, status, text) in [
-        (100, Status::Ran, b"RUN\nEND 4 STEPS 8 CYCLES\n".as_slice()),
+        (
+            100,
+            Status::Ran,
+            b"SEGMENTS\nDATA  0000 0008 B BANK0\nCODE  0000 00C8 A @0000\nUNITS\n@0000 FROM @0000 TO -\nCHAIN @0000 0 @0000\nOVERLAID 0 BYTES\nIMAGE 200 BYTES\nRUN\nEND 4 STEPS 8 CYCLES\n".as_slice(),
+        ),
         (101, Status::Source, b"a.a51(102): E0\n".as_slice()),
     ] {
         let mut source = b"CSEG AT 0\n".as_slice().to_vec(rt.alloc())?;

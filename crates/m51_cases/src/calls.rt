@@ -5,12 +5,18 @@ use std::alloc::Global;
 use std::test::Fail;
 
 /// The source that writes 55H to port 1 and then loops.
+///
+/// Source: own choice ("The top call").
 pub const PORT_LINE: &[u8] = b"CSEG AT 0\nMOV P1,#55H\nSJMP $\nEND\n";
 
 /// The words that run it for four steps.
+///
+/// Source: own choice ("The top call").
 pub const FOUR_STEPS: [&str; 4] = ["build", "--steps", "4", "a.a51"];
 
 /// The words as the top call takes them.
+///
+/// Source: own choice ("The top call").
 pub fn words_of(alloc: Global, texts: &[&str]) -> Result<Vec<String>, Fail> {
     let mut words = Vec::new(alloc);
     for text in texts {
@@ -21,6 +27,8 @@ pub fn words_of(alloc: Global, texts: &[&str]) -> Result<Vec<String>, Fail> {
 
 /// The status and the text for these words, where `a.a51` holds the source; the listed calls of the shelf and writes of
 /// the sink fail.
+///
+/// Source: own choice ("The top call").
 pub fn outcome(
     alloc: Global,
     words: &[&str],

@@ -23,6 +23,8 @@ impl Model for Bytes {
 
 impl Bytes {
     /// The empty list. It takes no memory.
+    ///
+    /// Source: own choice ("Lists in types").
     pub fn new(alloc: Global) -> Bytes
         ensures { result ≡ [] }
     {
@@ -32,6 +34,8 @@ impl Bytes {
     }
 
     /// The list of these items. It takes no memory.
+    ///
+    /// Source: own choice ("Lists in types").
     pub fn of(items: Vec<u8>) -> Bytes
         ensures { result ≡ items.items }
     {
@@ -39,6 +43,8 @@ impl Bytes {
     }
 
     /// The items, handed out without taking memory.
+    ///
+    /// Source: own choice ("Lists in types").
     pub fn into_vec(self) -> Vec<u8>
         ensures { result.items ≡ self }
     {
@@ -47,6 +53,8 @@ impl Bytes {
     }
 
     /// The items, lent.
+    ///
+    /// Source: own choice ("Lists in types").
     pub fn as_slice(&self) -> &[u8]
         ensures { result.now ≡ self.now }
     {
@@ -54,6 +62,8 @@ impl Bytes {
     }
 
     /// How many items there are.
+    ///
+    /// Source: own choice ("Lists in types").
     pub fn len(&self) -> usize
         ensures { result ≡ length self.now }
     {
@@ -61,6 +71,8 @@ impl Bytes {
     }
 
     /// Appends a byte. Where memory is wanted the list is as before.
+    ///
+    /// Source: own choice ("Lists in types").
     pub fn push(&mut self, byte: u8) -> Result<(), NoMemory>
         ensures ok { OnOk result (self.new ≡ self.old ++ byte ∷ []) }
         ensures err { OnErr result (self.new ≡ self.old) }

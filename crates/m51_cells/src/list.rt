@@ -23,6 +23,8 @@ impl<T> Model for ListOf<T> {
 
 impl<T> ListOf<T> {
     /// The list of these items. It takes no memory.
+    ///
+    /// Source: own choice ("Lists in types").
     pub fn of(items: Vec<T>) -> ListOf<T>
         ensures { result ≡ items.items }
     {
@@ -30,6 +32,8 @@ impl<T> ListOf<T> {
     }
 
     /// The items, handed out without taking memory.
+    ///
+    /// Source: own choice ("Lists in types").
     pub fn into_vec(self) -> Vec<T>
         ensures { result.items ≡ self }
     {
@@ -38,6 +42,8 @@ impl<T> ListOf<T> {
     }
 
     /// The items, lent.
+    ///
+    /// Source: own choice ("Lists in types").
     pub fn as_slice(&self) -> &[T]
         ensures { result.now ≡ self.now }
     {
@@ -45,6 +51,8 @@ impl<T> ListOf<T> {
     }
 
     /// How many items there are.
+    ///
+    /// Source: own choice ("Lists in types").
     pub fn len(&self) -> usize
         ensures { result ≡ length self.now }
     {
@@ -52,6 +60,8 @@ impl<T> ListOf<T> {
     }
 
     /// Whether there is no item.
+    ///
+    /// Source: own choice ("Lists in types").
     pub fn is_empty(&self) -> bool
         ensures { result ≡ (length self.now == 0) }
     {

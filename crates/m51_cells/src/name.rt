@@ -8,6 +8,8 @@ ghost use Rattle.m51_cells.specs.Name.{is_name_byte, is_name, name_of, title_at,
 use std::marker::Model;
 
 /// The most bytes that a name has.
+///
+/// Source: own choice ("Names").
 pub const LONGEST: usize = 31;
 
 /// A name, which contracts see as the list of its 0 to 31 bytes. None of them is a small letter, so names that differ

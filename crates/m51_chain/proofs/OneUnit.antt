@@ -7,7 +7,8 @@ use Rattle.m51_module.specs.declared.placed.Placed.{Placed}
 use Rattle.m51_print.specs.Map.{NamesUnits, map_of}
 use Rattle.m51_module.specs.Plan.{IsRootAt, owners_of}
 use Rattle.m51_module.specs.Walks.{IsWalk, Edges, HasEdge}
-use Rattle.m51_chain.specs.Chains.{IsHeaviest, HasNoRoot, ChainsAt, AreHeaviest, IsOneUnit, one_unit, data_of, weight_of, weight_along, ComesFirst, is_first, is_overlaid_data}
+use Rattle.m51_module.specs.Chains.{IsHeaviest, HasNoRoot, ChainsAt, AreHeaviest, data_of, weight_of, weight_along, ComesFirst, is_first, is_overlaid_data}
+use Rattle.m51_chain.specs.Chains.{IsOneUnit, one_unit}
 
 none_there : (edges : Edges) (edge : ℕ × ℕ) → edges ≡ [] → Contains edges edge → ⊥
 none_there edges edge none there = let h = rw none at there in omega (arith, h.1)

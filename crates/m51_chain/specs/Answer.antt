@@ -21,7 +21,7 @@ use Rattle.m51_sim.specs.Runs.{Record, record_of}
 use Rattle.m51_sim.specs.SeparateMachine.{Stores, separate_machine, separate_start}
 use Rattle.m51_chain.specs.declared.status.Status.{Status}
 use Rattle.m51_chain.specs.declared.status.Status.TheVariants as status
-use Rattle.m51_chain.specs.Chains.{AreHeaviest}
+use Rattle.m51_module.specs.Chains.{AreHeaviest}
 use Rattle.m51_chain.specs.Shelf.{Files}
 use Rattle.m51_chain.specs.Words.{Job, job_of}
 

@@ -92,6 +92,8 @@ fn link<S: Sink>(alloc: Global, steps: u32, parts: &Module, out: &mut S) -> Resu
 }
 
 /// Builds a source and runs it, or says which of its lines are at fault or why its module is not linked.
+///
+/// Source: own choice ("The top call").
 #[tactic(auto, unfolding(crate::specs::Cause::IsSourceWork))]
 pub fn build<S: Sink>(
     alloc: Global,

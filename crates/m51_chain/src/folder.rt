@@ -31,6 +31,8 @@ impl<R: Files> Model for DirShelf<R> {
 
 impl<R: Files> DirShelf<R> {
     /// A shelf over the files that the handle reaches, before its first call.
+    ///
+    /// Source: own choice ("Calls on the outside").
     pub fn make(rt: R) -> DirShelf<R>
         ensures { result ≡ record { name = []; taken = 0; ready = false; faults = 0 } }
     {

@@ -52,6 +52,8 @@ impl Model for MemShelf {
 
 impl MemShelf {
     /// A shelf of these files, by name, before its first call. `fails` lists the calls that fail.
+    ///
+    /// Source: own choice ("The outside").
     pub fn make(
         _alloc: Global,
         files: Vec<(Bytes, Bytes)>,

@@ -8,9 +8,13 @@ use m51_sim::Failed;
 use std::alloc::Global;
 
 /// The most bytes of a file.
+///
+/// Source: own choice ("Limits").
 pub const MAX_BYTES: usize = 1_048_576;
 
 /// What was read of a file.
+///
+/// Source: own choice ("Limits").
 #[derive(Drop)]
 pub enum Contents {
     /// All its bytes.
@@ -20,6 +24,8 @@ pub enum Contents {
 }
 
 /// Why a file was not read.
+///
+/// Source: own choice ("Limits").
 #[derive(Clone, Copy, Debug, PartialEq, Eq)]
 pub enum ReadError {
     /// A call on the shelf failed.
@@ -49,6 +55,8 @@ impl From<NoMemory> for ReadError {
 
 /// Reads the file of this name. It asks for one byte at a time, takes one in each turn, and stops at one more than the
 /// most.
+///
+/// Source: own choice ("Limits").
 pub fn read_file<F: Shelf>(
     alloc: Global,
     name: String,

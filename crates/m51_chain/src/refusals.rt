@@ -22,6 +22,8 @@ fn refuse<S: Sink>(out: &mut S, status: Status, text: &[u8]) -> Result<Status, F
 }
 
 /// Refuses the words.
+///
+/// Source: own choice ("Statuses").
 pub fn refuse_words<S: Sink>(out: &mut S) -> Result<Status, Failure>
     ensures written { IsWritten usage_answer (record { text = S.text out.old; faults = S.faults out.old }) (record { text = S.text out.new; faults = S.faults out.new }) result }
     ensures later { S.faults out.old ≤ S.faults out.new }
@@ -34,6 +36,8 @@ pub fn refuse_words<S: Sink>(out: &mut S) -> Result<Status, Failure>
 }
 
 /// Refuses a file with more bytes than the most.
+///
+/// Source: own choice ("Statuses").
 pub fn refuse_long_file<S: Sink>(out: &mut S) -> Result<Status, Failure>
     ensures written { IsWritten limit_answer (record { text = S.text out.old; faults = S.faults out.old }) (record { text = S.text out.new; faults = S.faults out.new }) result }
     ensures later { S.faults out.old ≤ S.faults out.new }
@@ -49,6 +53,8 @@ fn unread_text(alloc: Global, file: &str) -> Result<String, NoMemory>
 }
 
 /// Says that a file could not be read.
+///
+/// Source: own choice ("Statuses").
 #[tactic(auto, unfolding(crate::specs::Cause::IsWritten))]
 pub fn refuse_unread_file<S: Sink>(
     alloc: Global,
@@ -84,6 +90,8 @@ fn faults_text(alloc: Global, file: &str, faults: &[Fault]) -> Result<Vec<u8>, N
 }
 
 /// Refuses a source at its faults.
+///
+/// Source: own choice ("Statuses").
 #[tactic(auto, unfolding(crate::specs::Cause::IsWritten))]
 pub fn refuse_source<S: Sink>(
     alloc: Global,
@@ -99,6 +107,8 @@ pub fn refuse_source<S: Sink>(
 }
 
 /// Refuses a link.
+///
+/// Source: own choice ("Statuses").
 #[tactic(auto, unfolding(crate::specs::Cause::IsWritten))]
 pub fn refuse_link<S: Sink>(
     alloc: Global,

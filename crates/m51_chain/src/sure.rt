@@ -36,6 +36,8 @@ impl Model for SureShelf {
 
 impl SureShelf {
     /// A shelf of these files, by name, before its first call.
+    ///
+    /// Source: own choice ("The outside").
     pub fn make(files: Vec<(Bytes, Bytes)>) -> SureShelf
         ensures { result ≡ record { files = files.items; name = []; place = length files.items; taken = 0; ready = false } }
     {

@@ -43,6 +43,8 @@ fn is_free(earlier: &[Placed], size: u16, base: u16) -> bool
 
 /// The least base at which a DATA segment of this size fits and shares no cell with an earlier extent; `None` where
 /// there is none.
+///
+/// Source: own choice ("Bases that fit").
 pub fn least_base(earlier: &[Placed], size: u16) -> Option<u16>
     ensures { MatchOption result
         (HasNoBase earlier.now Kind.Direct Reloc.Unit size)

@@ -18,6 +18,8 @@ fn write(image: &mut Image, first: u16, bytes: &[u8])
 }
 
 /// Writes the content of the segment that begins at 0000H.
+///
+/// Source: RL51 guide.
 pub fn fill(image: &mut Image, pieces: &[Piece])
     requires whole { length image.old ≡ 65536 }
     requires inside { All (λ p. p.offset + length p.bytes ≤ 65536) pieces.now }
@@ -36,6 +38,8 @@ fn low_byte(address: u16) -> u8
 }
 
 /// Fills the fields of the fixups in the segment that begins at 0000H.
+///
+/// Source: RL51 guide.
 pub fn patch(image: &mut Image, segments: &[Segment], placed: &[Placed], fixups: &[Fixup])
     requires whole { length image.old ≡ 65536 }
     requires targets { All (HasTarget segments.now placed.now) fixups.now }

@@ -141,6 +141,8 @@ fn place_segments(alloc: Global, segments: &[Segment]) -> Result<PlacedList, Ref
 /// Places the segments of a module of the first shape: bank 0 and the absolute segment at their own bases, and then the
 /// others, which are DATA, in the module's order at the least base that is free. L12 names the first for which there is
 /// none.
+///
+/// Source: RL51 guide.
 pub fn place(alloc: Global, module: &Module) -> Result<PlacedList, Refusal>
     requires { IsFirstShape «module».now }
     ensures { PlacesModule «module».now result }

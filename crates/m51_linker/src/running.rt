@@ -36,6 +36,8 @@ fn add_run(runs: &mut Vec<Run>, first: u16, len: u32) -> Result<(), NoMemory>
 }
 
 /// The runs of the content of the segment that begins at 0000H.
+///
+/// Source: own choice ("Runs").
 pub fn runs_of(alloc: Global, pieces: &[Piece]) -> Result<Runs, NoMemory>
     requires { AreInOrder pieces.now }
     ensures { IfOk result (λ runs. AreRuns (IsCovered pieces.now) runs) }

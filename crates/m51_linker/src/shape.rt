@@ -7,6 +7,8 @@ use m51_cells::{Base, Kind, Reloc};
 use m51_module::{Fixup, Form, Module, Segment};
 
 /// Whether the source gives the segment its base.
+///
+/// Source: own choice ("The second form").
 pub fn is_absolute(segment: &Segment) -> bool
     ensures { result ≡ is_absolute segment.now }
 {
@@ -92,6 +94,8 @@ fn is_alone(module: &Module) -> bool
 
 /// Whether the module is of the first shape: one absolute segment, of program memory and at 0000H, the others DATA of
 /// type UNIT without locals; all fixups BYTE with a segment as target; no external, and no bank but bank 0.
+///
+/// Source: own choice ("The second form").
 pub fn is_first_shape(module: &Module) -> bool
     ensures { IsTrue result ↔ IsFirstShape «module».now }
 {

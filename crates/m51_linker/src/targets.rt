@@ -49,7 +49,9 @@ fn segment_of(segments: &[Segment], number: u8) -> &Segment
     &segments[usize::from(number) - 1]
 }
 
-// The address that the fixup refers to.
+/// The address that the fixup refers to.
+///
+/// Source: RL51 guide.
 pub fn target_of(segments: &[Segment], placed: &[Placed], fixup: &Fixup) -> u16
     requires { HasTarget segments.now placed.now fixup.now }
     ensures { IsTargetOf segments.now placed.now fixup.now result }
@@ -70,6 +72,8 @@ fn is_byte_address(target: u16) -> bool
 }
 
 /// The first fixup that breaks its rule, if one does.
+///
+/// Source: RL51 guide.
 pub fn first_breaking(segments: &[Segment], placed: &[Placed], fixups: &[Fixup]) -> Option<Fixup>
     requires { All (HasTarget segments.now placed.now) fixups.now }
     ensures { MatchOption result

@@ -1,4 +1,5 @@
 pub mod Cells
+pub mod Chains
 pub mod Conflict
 pub mod Image
 pub mod Kept

@@ -7,6 +7,8 @@ use std::alloc::{AllocError, Global};
 use std::marker::Model;
 
 /// How many bytes program memory has.
+///
+/// Source: own choice ("Images").
 pub const IMAGE_LEN: usize = 65536;
 
 /// An image of program memory: a byte for each of its 65,536 addresses, which contracts see as the list of them.

@@ -21,6 +21,8 @@ fn owners_in(alloc: Global, owners: &[(u16, u16)], segment: u16) -> Result<Vec<u
 
 #[tactic(auto, using(crate::proofs::KeptRows::owner_row_more))]
 /// The owners of each of so many segments.
+///
+/// Source: own choice ("Owners").
 pub fn owner_rows(
     alloc: Global,
     owners: &[(u16, u16)],
@@ -59,6 +61,8 @@ fn segments_of(alloc: Global, rows: &[Units], unit: u16) -> Result<Units, NoMemo
 }
 
 /// The segments of each of so many units.
+///
+/// Source: own choice ("Owners").
 pub fn local_rows(alloc: Global, rows: &[Units], count: usize) -> Result<Vec<Units>, NoMemory>
     requires segments { length rows.now < 65536 }
     requires units { count < 65536 }

@@ -54,6 +54,8 @@ fn push_segment(text: &mut Vec<u8>, placed: &Placed) -> Result<(), NoMemory>
 }
 
 /// Appends the lines of the placed extents.
+///
+/// Source: own choice ("Texts").
 pub fn push_segments(text: &mut Vec<u8>, placed: &[Placed]) -> Result<(), NoMemory>
     ensures { OnOk result (text.new.items ≡ text.old.items ++ flat_map segment_line placed.now) }
 {
@@ -64,6 +66,8 @@ pub fn push_segments(text: &mut Vec<u8>, placed: &[Placed]) -> Result<(), NoMemo
 }
 
 /// Appends the line of a unit.
+///
+/// Source: own choice ("Texts").
 #[tactic(auto, unfolding(crate::specs::Map::unit_line))]
 pub fn push_unit_line(
     text: &mut Vec<u8>,
@@ -123,6 +127,8 @@ fn push_units(
 }
 
 /// Appends the line of a chain.
+///
+/// Source: own choice ("Texts").
 #[tactic(auto, unfolding(crate::specs::Map::chain_line))]
 pub fn push_chain_line(
     text: &mut Vec<u8>,

@@ -34,6 +34,8 @@ fn is_overlaid(address: u32, placed: &[Placed]) -> bool
 }
 
 /// How many of the first addresses of internal RAM lie in some overlaid segment of DATA.
+///
+/// Source: own choice ("Texts").
 #[tactic(auto, using(crate::proofs::Steps::none_overlaid, crate::proofs::Steps::overlaid_yes, crate::proofs::Steps::overlaid_no))]
 pub fn overlaid_below(placed: &[Placed], count: u32) -> u32
     ensures count { result ≡ overlaid_below placed.now count }

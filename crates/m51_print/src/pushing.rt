@@ -7,6 +7,8 @@ use crate::putting::{put_decimal, put_hex4};
 use m51_cells::NoMemory;
 
 /// Appends bytes.
+///
+/// Source: own choice ("Texts").
 pub fn push_text(text: &mut Vec<u8>, more: &[u8]) -> Result<(), NoMemory>
     ensures { OnOk result (text.new.items ≡ text.old.items ++ more.now) }
 {
@@ -15,6 +17,8 @@ pub fn push_text(text: &mut Vec<u8>, more: &[u8]) -> Result<(), NoMemory>
 }
 
 /// Appends a number in decimal.
+///
+/// Source: own choice ("Texts").
 pub fn push_decimal(text: &mut Vec<u8>, number: u64) -> Result<(), NoMemory>
     ensures { OnOk result (text.new.items ≡ text.old.items ++ decimal number) }
 {
@@ -24,6 +28,8 @@ pub fn push_decimal(text: &mut Vec<u8>, number: u64) -> Result<(), NoMemory>
 }
 
 /// Appends the four digits of an address or a size.
+///
+/// Source: own choice ("Texts").
 pub fn push_hex4(text: &mut Vec<u8>, number: u16) -> Result<(), NoMemory>
     ensures { OnOk result (text.new.items ≡ text.old.items ++ hex4 number) }
 {

@@ -3,7 +3,9 @@ ghost use Rattle.std.specs.Prelude.{◌≡◌, ◌≤◌, ◌+◌, ◌++◌, ◌
 ghost use Rattle.std.specs.Fmt.{decimal, digit_glyph};
 ghost use Rattle.m51_cells.specs.Hex.{hex2, hex4};
 
-// Puts the bytes behind the first `at` of the line, and answers where they end.
+/// Puts the bytes behind the first `at` of the line, and answers where they end.
+///
+/// Source: own choice ("Texts of a run").
 pub fn put(into: &mut [u8; 128], at: usize, bytes: &[u8]) -> usize
     requires { at + length bytes.now ≤ 128 }
     ensures end { result ≡ at + length bytes.now }
@@ -28,7 +30,9 @@ fn put_digits(into: &mut [u8; 128], at: usize, number: u64) -> usize
     put(into, front, &[b'0' + (number % 10) as u8])
 }
 
-// Puts a number in decimal, which takes up to 20 digits.
+/// Puts a number in decimal, which takes up to 20 digits.
+///
+/// Source: own choice ("Texts of a run").
 pub fn put_decimal(into: &mut [u8; 128], at: usize, number: u64) -> usize
     requires { at + 20 ≤ 128 }
     ensures bound { result ≤ at + 20 }
@@ -37,7 +41,9 @@ pub fn put_decimal(into: &mut [u8; 128], at: usize, number: u64) -> usize
     put_digits(into, at, number)
 }
 
-// Puts a number below 10.
+/// Puts a number below 10.
+///
+/// Source: own choice ("Texts of a run").
 #[tactic(auto, using(std::proofs::lemmas::Fmt::decimal_digit))]
 pub fn put_digit(into: &mut [u8; 128], at: usize, digit: u8) -> usize
     requires digit { digit < 10 }
@@ -48,7 +54,9 @@ pub fn put_digit(into: &mut [u8; 128], at: usize, digit: u8) -> usize
     put(into, at, &[b'0' + digit])
 }
 
-// The hexadecimal digit of a number below 16, in upper case.
+/// The hexadecimal digit of a number below 16, in upper case.
+///
+/// Source: own choice ("Texts of a run").
 pub fn hex_digit(number: u8) -> u8
     requires { number < 16 }
     ensures { result ≡ digit_glyph true number }
@@ -60,7 +68,9 @@ pub fn hex_digit(number: u8) -> u8
     }
 }
 
-// Puts the two digits of a byte.
+/// Puts the two digits of a byte.
+///
+/// Source: own choice ("Texts of a run").
 pub fn put_hex2(into: &mut [u8; 128], at: usize, byte: u8) -> usize
     requires { at + 2 ≤ 128 }
     ensures end { result ≡ at + 2 }
@@ -69,7 +79,9 @@ pub fn put_hex2(into: &mut [u8; 128], at: usize, byte: u8) -> usize
     put(into, at, &[hex_digit(byte / 16), hex_digit(byte % 16)])
 }
 
-// Puts the four digits of an address.
+/// Puts the four digits of an address.
+///
+/// Source: own choice ("Texts of a run").
 pub fn put_hex4(into: &mut [u8; 128], at: usize, number: u16) -> usize
     requires { at + 4 ≤ 128 }
     ensures end { result ≡ at + 4 }

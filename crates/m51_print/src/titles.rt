@@ -24,6 +24,8 @@ fn push_others(text: &mut Vec<u8>, names: &[Name]) -> Result<(), NoMemory>
 }
 
 /// Appends names with commas between them, and `-` where there is none.
+///
+/// Source: own choice ("Texts").
 #[tactic(auto, unfolding(crate::specs::Map::listed))]
 pub fn push_list(text: &mut Vec<u8>, names: &[Name]) -> Result<(), NoMemory>
     ensures { OnOk result (text.new.items ≡ text.old.items ++ listed names.now) }
@@ -54,6 +56,8 @@ fn titles_among(alloc: Global, byte: u8, vectors: &[u16]) -> Result<Vec<Name>, N
 }
 
 /// The titles of the roots of a byte: bit 0 is for the reset, bits 1 to 6 for the interrupts in order.
+///
+/// Source: own choice ("Texts").
 #[tactic(auto, unfolding(crate::specs::Map::root_titles))]
 pub fn root_titles(alloc: Global, byte: u8) -> Result<Vec<Name>, NoMemory>
     ensures { IfOk result (λ titles. titles.items ≡ root_titles byte) }
@@ -62,6 +66,8 @@ pub fn root_titles(alloc: Global, byte: u8) -> Result<Vec<Name>, NoMemory>
 }
 
 /// The title of a unit.
+///
+/// Source: own choice ("Texts").
 #[tactic(auto, using(crate::proofs::PlacedTitles::title_at), unfolding(crate::specs::Map::unit_title))]
 pub fn unit_title(layout: &Layout, unit: u16) -> &Name
     requires { unit < length layout.now.units }
@@ -71,6 +77,8 @@ pub fn unit_title(layout: &Layout, unit: u16) -> &Name
 }
 
 /// The titles of units.
+///
+/// Source: own choice ("Texts").
 pub fn unit_titles(alloc: Global, layout: &Layout, units: &[u16]) -> Result<Vec<Name>, NoMemory>
     requires { All (λ unit. unit < length layout.now.units) units.now }
     ensures { IfOk result (λ titles. titles.items ≡ map (unit_title layout.now) units.now) }
@@ -92,6 +100,8 @@ fn has_edge(layout: &Layout, from: u16, to: u16) -> bool
 }
 
 /// The titles of the units to which an edge leads from this one, by number.
+///
+/// Source: own choice ("Texts").
 #[tactic(auto, using(crate::proofs::Ranges::named_yes, crate::proofs::Ranges::named_no))]
 pub fn target_titles(alloc: Global, layout: &Layout, unit: u16) -> Result<Vec<Name>, NoMemory>
     requires { unit < length layout.now.units }

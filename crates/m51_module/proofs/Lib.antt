@@ -1,8 +1,13 @@
+pub mod Alone
+pub mod Answered
+pub mod Building
 pub mod CellLemmas
 pub mod Erased
+pub mod Held
 pub mod KeptRows
 pub mod Owning
 pub mod Reach
 pub mod SampleLayout
 pub mod SampleModule
+pub mod SamplePublic
 pub mod Units

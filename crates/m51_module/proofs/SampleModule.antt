@@ -9,7 +9,7 @@ use Rattle.m51_module.specs.Sample.{field, code_segment, data_segment, byte_publ
 use Rattle.m51_module.specs.Validity.{IsValid, IsSegmentValid, IsPublicValid, IsPieceValid, IsFixupValid, IsHeld, FieldBefore, BeforeIn, Differ, LiesBefore}
 use Rattle.m51_cells.specs.Name.{IsWritten}
 
-all_one : {X : Type 0} (P : X → Type 0) (x : X) → P x → All P (x ∷ [])
+pub all_one : {X : Type 0} (P : X → Type 0) (x : X) → P x → All P (x ∷ [])
 all_one P x h zero d below = h
 all_one P x h (suc k) d below = absurd (omega (arith, below))
 
@@ -18,7 +18,7 @@ all_two P x y h k zero d below = h
 all_two P x y h k (suc zero) d below = k
 all_two P x y h k (suc (suc n)) d below = absurd (omega (arith, below))
 
-pairs_one : {X : Type 0} (R : X → X → Type 0) (x : X) → AllPairs R (x ∷ [])
+pub pairs_one : {X : Type 0} (R : X → X → Type 0) (x : X) → AllPairs R (x ∷ [])
 pairs_one R x i j d less below = absurd (omega (arith, less, below))
 
 pairs_two : {X : Type 0} (R : X → X → Type 0) (x y : X) → R x y → AllPairs R (x ∷ y ∷ [])

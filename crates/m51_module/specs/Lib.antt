@@ -1,8 +1,10 @@
 pub mod Cells
 pub mod Chains
 pub mod Conflict
+pub mod Edits
 pub mod Image
 pub mod Kept
+pub mod Library
 pub mod Plan
 pub mod Rising
 pub mod Roots

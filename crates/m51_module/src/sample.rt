@@ -1,7 +1,7 @@
 //! A sound layout and a valid module, which show that there are such.
 ghost use Rattle.std.specs.Prelude.{◌≡◌, [], IfOk, Some, true, map};
 ghost use Rattle.std.specs.Char.{to_ascii_uppercase};
-ghost use Rattle.m51_cells.specs.Name.{is_name, title_at};
+ghost use Rattle.m51_cells.specs.Name.{is_name, title_at, IsWritten};
 ghost use Rattle.m51_module.specs.Sample.{code, local, field, sample_layout, sample_module};
 
 use crate::{
@@ -72,8 +72,8 @@ pub(crate) fn layout(alloc: Global) -> Result<Layout, NoMemory>
     Layout::make(alloc, parts)
 }
 
-// The name that the text writes.
-fn name(text: &[u8]) -> Name
+/// The name that the text writes.
+pub(crate) fn name(text: &[u8]) -> Name
     requires { is_name text.now ≡ true }
     ensures { result ≡ map to_ascii_uppercase text.now }
 {
@@ -151,4 +151,36 @@ pub(crate) fn module(alloc: Global) -> Result<Module, NoMemory>
 {
     let parts = module_parts(alloc)?;
     Ok(Module::make(parts))
+}
+
+/// A module without segments, with one public, a number.
+pub(crate) fn module_with(alloc: Global, name: Name, public: Name) -> Result<Module, NoMemory>
+    requires name { IsWritten name }
+    requires public { IsWritten public }
+    ensures name { IfOk result (λ made. made.name ≡ name) }
+{
+    let public = Public {
+        name: public,
+        kind: Kind::Number,
+        base: Base::None,
+        number: 0,
+    };
+    let publics = ListOf::of(vec![in alloc; public]?);
+    Ok(Module::make(ModuleParts {
+        name,
+        segments: ListOf::of(Vec::new(alloc)),
+        publics,
+        externals: ListOf::of(Vec::new(alloc)),
+        pieces: ListOf::of(Vec::new(alloc)),
+        fixups: ListOf::of(Vec::new(alloc)),
+        banks: 1,
+    }))
+}
+
+/// The modules A, B and C, whose publics are P, Q and R.
+pub(crate) fn modules(alloc: Global) -> Result<Vec<Module>, NoMemory> {
+    let first = module_with(alloc, name(b"A"), name(b"P"))?;
+    let second = module_with(alloc, name(b"B"), name(b"Q"))?;
+    let third = module_with(alloc, name(b"C"), name(b"R"))?;
+    Ok(vec![in alloc; first, second, third]?)
 }

@@ -1,0 +1,42 @@
+-- What the edits answer where the module of a name stands at a place, and where there is none.
+use Rattle.std.proofs.Common.{◌≡◌, ℕ, List, get_or, Option, Some, None, ap, sym, ◌∙◌}
+use Rattle.std.specs.Prelude.{position, remove, slice_set, Result, Ok, Err}
+use Rattle.std.specs.Option.{ok_or}
+use Rattle.m51_module.specs.declared.library_error.LibError.{LibError}
+use Rattle.m51_module.specs.declared.library_error.LibError.TheVariants.{B2}
+use Rattle.m51_module.specs.declared.parts.ModuleParts.{ModuleParts}
+use Rattle.m51_module.specs.Library.{is_named, others_than, with_replaced, and_then, unless, clash, extracted, deleted, replaced}
+use Rattle.m51_module.proofs.Alone.{PassesAlone, found_alone, found_nowhere, removed_alone, set_alone}
+
+pub extract_there : (ms : List ModuleParts) (name : List ℕ) (i : ℕ) (m : ModuleParts) → PassesAlone (is_named name) ms i → m ≡ get_or ms i m → extracted ms name ≡ Ok m
+extract_there ms name i m alone e =
+    ap (λ (o : Option ModuleParts). ok_or o (B2 name)) (found_alone (is_named name) ms i m alone ∙ ap Some (sym e))
+
+pub extract_nowhere : (ms : List ModuleParts) (name : List ℕ) → position (is_named name) ms ≡ None → extracted ms name ≡ Err (B2 name)
+extract_nowhere ms name none = ap (λ (o : Option ModuleParts). ok_or o (B2 name)) (found_nowhere (is_named name) ms none)
+
+pub delete_there : (ms : List ModuleParts) (name : List ℕ) (i : ℕ) (m : ModuleParts) → PassesAlone (is_named name) ms i → m ≡ get_or ms i m → deleted ms name ≡ Ok (m, remove ms i)
+delete_there ms name i m alone e =
+    ap (λ (r : Result ModuleParts LibError). and_then r (λ found. Ok (found, others_than name ms))) (extract_there ms name i m alone e)
+    ∙ ap (λ (others : List ModuleParts). Ok (m, others)) (sym (removed_alone (is_named name) ms i alone))
+
+pub delete_nowhere : (ms : List ModuleParts) (name : List ℕ) → position (is_named name) ms ≡ None → deleted ms name ≡ Err (B2 name)
+delete_nowhere ms name none =
+    ap (λ (r : Result ModuleParts LibError). and_then r (λ found. Ok (found, others_than name ms))) (extract_nowhere ms name none)
+
+pub replace_there : (ms : List ModuleParts) (new : ModuleParts) (i : ℕ) → PassesAlone (is_named new.name) ms i
+    → replaced ms new ≡ unless (clash (others_than new.name ms) new) (with_replaced new ms)
+replace_there ms new i alone =
+    ap (λ (o : Option ModuleParts). and_then (ok_or o (B2 new.name)) (λ _. unless (clash (others_than new.name ms) new) (with_replaced new ms)))
+    (found_alone (is_named new.name) ms i new alone)
+
+pub replace_nowhere : (ms : List ModuleParts) (new : ModuleParts) → position (is_named new.name) ms ≡ None → replaced ms new ≡ Err (B2 new.name)
+replace_nowhere ms new none =
+    ap (λ (r : Result ModuleParts LibError). and_then r (λ _. unless (clash (others_than new.name ms) new) (with_replaced new ms))) (extract_nowhere ms new.name none)
+
+-- what replaces at a place, by the place
+pub put_there : (ms : List ModuleParts) (new : ModuleParts) (i : ℕ) → PassesAlone (is_named new.name) ms i
+    → unless (clash (others_than new.name ms) new) (with_replaced new ms) ≡ unless (clash (remove ms i) new) (slice_set ms i new)
+put_there ms new i alone =
+    ap (λ (others : List ModuleParts). unless (clash others new) (with_replaced new ms)) (sym (removed_alone (is_named new.name) ms i alone))
+    ∙ ap (λ (now : List ModuleParts). unless (clash (remove ms i) new) now) (sym (set_alone (is_named new.name) ms i new alone))

@@ -1,0 +1,145 @@
+//! Libraries of modules, and their edits.
+ghost use Rattle.std.specs.Prelude.{◌≡◌, [], Some, OnErr, position};
+ghost use Rattle.m51_cells.specs.Outcome.{Gives};
+ghost use Rattle.m51_module.specs.Library.{IsLibrary, is_named, refusal_of, clash, unless, others_than, with_replaced, added, deleted, replaced, extracted, built};
+
+use crate::members::{add_refusal, clash_with_others, place_of, take_out};
+use crate::{LibError, Module};
+use m51_cells::Name;
+use std::alloc::Global;
+use std::marker::Model;
+
+/// A library, which contracts see as the list of its modules: at most 255, their names all different, and no name a public
+/// of two of them.
+///
+/// Source: own choice ("Libraries").
+#[derive(Drop)]
+pub struct Library {
+    members: Vec<Module>,
+}
+
+impl Model for Library {
+    ghost use Rattle.std.specs.Prelude.{List};
+    ghost use Rattle.m51_module.specs.declared.parts.ModuleParts.{ModuleParts};
+    ghost use Rattle.m51_module.specs.Library.{IsLibrary};
+
+    ghost Value = { List ModuleParts };
+
+    ghost view = { λ l. l.members.items };
+
+    ghost invariant = { λ l. IsLibrary l.members.items };
+}
+
+/// The library of these modules. It is refused as if they were added one by one to none: at the first that can't be added,
+/// by `B1`, then `Full`, then `B3`. It takes no memory.
+///
+/// Source: own choice ("Libraries").
+pub fn build(_alloc: Global, modules: Vec<Module>) -> Result<Library, LibError>
+    // It takes no memory: each error is a refusal.
+    ensures { Gives (λ l. l) Some result (built modules.items) }
+{
+    for place in 0..modules.len() {
+        match add_refusal(&modules[..place], &modules[place]) {
+            Some(refusal) => return Err(refusal),
+            None => continue,
+        }
+    }
+    Ok(Library { members: modules })
+}
+
+impl Library {
+    /// The library of no modules. It takes no memory.
+    ///
+    /// Source: own choice ("Libraries").
+    pub fn empty(alloc: Global) -> Library
+        ensures { result ≡ [] }
+    {
+        Library {
+            members: Vec::new(alloc),
+        }
+    }
+
+    /// The modules, in order.
+    ///
+    /// Source: own choice ("Libraries").
+    pub fn list(&self) -> &[Module]
+        ensures list { result.now ≡ self.now }
+        ensures library { IsLibrary self.now }
+    {
+        &self.members
+    }
+
+    /// Adds the module at the end. It is refused by `B1` where a module of its name is held, else by `Full` where 255 are
+    /// held, else by `B3` with its first public that a held module has. A module that is refused, or for which memory is
+    /// wanted, is dropped, and the library is as before.
+    ///
+    /// Source: own choice ("Libraries").
+    pub fn add(&mut self, incoming: Module) -> Result<(), LibError>
+        ensures answer { Gives (λ _. self.new) refusal_of result (added self.old incoming) }
+        ensures kept { OnErr result (self.new ≡ self.old) }
+    {
+        match add_refusal(&self.members, &incoming) {
+            Some(refusal) => Err(refusal),
+            None => Ok(self.members.push(incoming)?),
+        }
+    }
+
+    /// Takes out the module of that name, and closes up the list. It is refused by `B2` where there is none, and the
+    /// library is then as before. It takes no memory.
+    ///
+    /// Source: own choice ("Libraries").
+    pub fn delete(&mut self, name: &Name) -> Result<Module, LibError>
+        // It takes no memory: each error is a refusal.
+        ensures answer { Gives (λ m. (m, self.new)) Some result (deleted self.old name.now) }
+        ensures kept { OnErr result (self.new ≡ self.old) }
+    {
+        match place_of(&self.members, name) {
+            Some(place) => Ok(take_out(&mut self.members, place)),
+            None => Err(LibError::B2 { name: *name }),
+        }
+    }
+
+    /// Puts the module in the place of the one of its name. It is refused by `B2` where there is none, else by `B3` with
+    /// its first public that one of the others has. A module that is refused is dropped, and the library is as before. It
+    /// takes no memory.
+    ///
+    /// Source: own choice ("Libraries").
+    pub fn replace(&mut self, incoming: Module) -> Result<(), LibError>
+        // It takes no memory: each error is a refusal.
+        ensures answer { Gives (λ _. self.new) Some result (replaced self.old incoming) }
+        ensures kept { OnErr result (self.new ≡ self.old) }
+    {
+        let name = incoming.name();
+        match place_of(&self.members, &name) {
+            Some(place) => self.replace_at(place, incoming),
+            None => Err(LibError::B2 { name }),
+        }
+    }
+
+    /// A module that is equal to the one of that name. It is refused by `B2` where there is none.
+    ///
+    /// Source: own choice ("Libraries").
+    pub fn extract(&self, alloc: Global, name: &Name) -> Result<Module, LibError>
+        ensures { Gives (λ m. m) refusal_of result (extracted self.now name.now) }
+    {
+        match place_of(&self.members, name) {
+            Some(place) => Ok(self.members[place].copy(alloc)?),
+            None => Err(LibError::B2 { name: *name }),
+        }
+    }
+
+    // Puts the module in that place, where the one of its name stands.
+    fn replace_at(&mut self, place: usize, incoming: Module) -> Result<(), LibError>
+        requires { position (is_named incoming.name) self.old ≡ Some place }
+        ensures answer { Gives (λ _. self.new) Some result (unless (clash (others_than incoming.name self.old) incoming) (with_replaced incoming self.old)) }
+        ensures kept { OnErr result (self.new ≡ self.old) }
+    {
+        match clash_with_others(&self.members, place, &incoming) {
+            Some(refusal) => Err(refusal),
+            None => {
+                self.members[place] = incoming;
+                Ok(())
+            }
+        }
+    }
+}

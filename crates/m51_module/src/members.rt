@@ -1,0 +1,112 @@
+//! What is asked of the modules of a library, and of one that comes in.
+ghost use Rattle.std.specs.Prelude.{◌≡◌, ◌<◌, ◌++◌, length, position, remove, slice_index_or, vec_len};
+ghost use Rattle.m51_module.specs.Library.{is_named, holds, has_public, defines, clash, add_refusal};
+
+use crate::{LibError, Module, Public};
+use m51_cells::Name;
+
+/// The most modules that a library holds.
+///
+/// Source: own choice ("Libraries").
+pub const MOST_MODULES: usize = 255;
+
+// Whether the module has that name.
+fn is_named(member: &Module, name: &Name) -> bool
+    ensures { result ≡ is_named name.now member.now }
+{
+    member.name().bytes() == name.bytes()
+}
+
+// Whether one of the modules has that name.
+fn holds(members: &[Module], name: &Name) -> bool
+    ensures { result ≡ holds members.now name.now }
+{
+    members.iter().any(|member| is_named(member, name))
+}
+
+/// Where the module of that name stands, counted from 0.
+///
+/// Source: own choice ("Libraries").
+pub(crate) fn place_of(members: &[Module], name: &Name) -> Option<usize>
+    ensures { result ≡ position (is_named name.now) members.now }
+{
+    members.iter().position(|member| is_named(member, name))
+}
+
+// Whether the module has a public of that name.
+fn has_public(member: &Module, name: &Name) -> bool
+    ensures { result ≡ has_public name.now member.now }
+{
+    member
+        .publics()
+        .iter()
+        .any(|public| public.name.bytes() == name.bytes())
+}
+
+// Whether one of the modules has a public of that name.
+fn defines(members: &[Module], name: &Name) -> bool
+    ensures { result ≡ defines members.now name.now }
+{
+    members.iter().any(|member| has_public(member, name))
+}
+
+// Whether a module of these two parts of a list has a public of that name.
+fn defines_either(before: &[Module], after: &[Module], name: &Name) -> bool
+    ensures { result ≡ defines (before.now ++ after.now) name.now }
+{
+    defines(before, name) || defines(after, name)
+}
+
+// What refuses the module beside these two parts of a list: B3 with its first public that a module of them has.
+fn clash(before: &[Module], after: &[Module], incoming: &Module) -> Option<LibError>
+    ensures { result ≡ clash (before.now ++ after.now) incoming.now }
+{
+    incoming
+        .publics()
+        .iter()
+        .find(|public| defines_either(before, after, &public.name))
+        .map(|public| LibError::B3 { name: public.name })
+}
+
+/// What refuses the module beside all of these but the one at that place, counted from 0: B3 with its first public that one
+/// of them has.
+///
+/// Source: own choice ("Libraries").
+#[tactic(auto, using(crate::proofs::Held::around))]
+pub(crate) fn clash_with_others(
+    members: &[Module],
+    place: usize,
+    incoming: &Module,
+) -> Option<LibError>
+    requires { place < length members.now }
+    ensures { result ≡ clash (remove members.now place) incoming.now }
+{
+    clash(&members[..place], &members[place + 1..], incoming)
+}
+
+/// Takes out the module at that place, counted from 0, and closes up the list.
+///
+/// Source: own choice ("Libraries").
+pub(crate) fn take_out(members: &mut Vec<Module>, place: usize) -> Module
+    requires { place < vec_len members.old }
+    ensures value { result ≡ slice_index_or members.old.items place result }
+    ensures items { members.new.items ≡ remove members.old.items place }
+{
+    members.remove(place)
+}
+
+/// What refuses to add the module to these: B1, then Full, then B3.
+///
+/// Source: own choice ("Libraries").
+pub(crate) fn add_refusal(members: &[Module], incoming: &Module) -> Option<LibError>
+    ensures { result ≡ add_refusal members.now incoming.now }
+{
+    let name = incoming.name();
+    if holds(members, &name) {
+        return Some(LibError::B1 { name });
+    }
+    if members.len() >= MOST_MODULES {
+        return Some(LibError::Full);
+    }
+    clash(members, &[], incoming)
+}

@@ -1,0 +1,52 @@
+//! Why bytes are refused as an object or a library.
+use m51_cells::NoMemory;
+use thiserror::Error;
+
+/// Why bytes are refused as an object or a library: the first failing test, record by record. Places are counted from the
+/// first byte, from 0; so are records.
+///
+/// Source: OMF-51.
+#[derive(Clone, Copy, Debug, PartialEq, Eq, Error)]
+pub enum ObjError {
+    /// The bytes end at this place, inside a record or before one that must come.
+    #[error("the bytes end inside a record or before it")]
+    O1 {
+        at: u32,
+    },
+    /// The checksum of the record of this number is wrong: the byte that is there, and the one that makes the sum 0.
+    #[error("a checksum is wrong")]
+    O2 {
+        record_no: u32,
+        found: u8,
+        needed: u8,
+    },
+    /// The type of the record at this place is not allowed there, or bytes follow the end.
+    #[error("a record of this type can't stand here")]
+    O3 {
+        at: u32,
+    },
+    /// The field at this place is cut off, has a value that it can't have, or breaks a rule.
+    #[error("a field is cut off, out of range or against a rule")]
+    O4 {
+        at: u32,
+    },
+    /// The field at this place numbers a segment or an external that is not there.
+    #[error("a segment or an external is not there")]
+    O5 {
+        at: u32,
+    },
+    /// Memory is wanted.
+    #[error("memory is wanted")]
+    Memory,
+}
+
+impl From<NoMemory> for ObjError {
+    ghost use Rattle.std.specs.Prelude.{◌≡◌};
+    ghost use Rattle.m51_module.specs.declared.object_error.ObjError.TheVariants.{Memory};
+
+    ghost from_gives = { λ _ error. error ≡ Memory };
+
+    fn from(_error: NoMemory) -> ObjError {
+        ObjError::Memory
+    }
+}

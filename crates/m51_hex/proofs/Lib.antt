@@ -1,0 +1,11 @@
+pub mod AcceptedLines
+pub mod DigitLaws
+pub mod FrontLine
+pub mod LineSteps
+pub mod RecordLaws
+pub mod RoundTrip
+pub mod RunLines
+pub mod RunRecords
+pub mod Spelling
+pub mod StoredBytes
+pub mod WrittenLines

@@ -1,0 +1,91 @@
+-- The lines of what is written, and the records that are read of them.
+use Rattle.std.proofs.Common.{◌≡◌, ℕ, zero, suc, ◌+◌, ◌-◌, ◌/◌, ◌%◌, ◌<◌, ◌≤◌, Bool, true, false, cond, List, [], ◌∷◌, ◌++◌, length, take, get_or, Result, Ok, refl, ap, sym, ◌∙◌, append_assoc, arith}
+use Rattle.std.specs.Prelude.{flat_map}
+use Rattle.std.specs.Fmt.{digit_glyph}
+use Rattle.std.specs.List.{slice_split, AllByRecursion}
+use Rattle.std.specs.Str.Lines.{lines, lines_of_parts, strip_carriage_return}
+use Rattle.std.proofs.lemmas.Bool.{ne_eqb}
+use Rattle.std.proofs.lemmas.Bool.Decides.{nat_tests}
+use Rattle.std.proofs.lemmas.List.{append-nil}
+use Rattle.std.proofs.lemmas.List.Elements.{All-from_recursion}
+use Rattle.std.proofs.lemmas.List.Splits.{slice_split_at, length-slice_split}
+use Rattle.m51_cells.specs.Hex.{hex2}
+use Rattle.m51_hex.specs.declared.error.HexError.{HexError}
+use Rattle.m51_hex.specs.declared.records.RecordType.{RecordType}
+use Rattle.m51_hex.specs.declared.records.RecordType.TheVariants.{Data, EndOfFile}
+use Rattle.m51_hex.specs.Line.{◌>>=◌, record_of}
+use Rattle.m51_hex.specs.Reading.{is_line_feed, behind, records_from}
+use Rattle.m51_hex.specs.Record.{Record, IsRecord, line_feed, text_of, line_of}
+use Rattle.m51_hex.proofs.FrontLine.{before_more}
+use Rattle.m51_hex.proofs.RecordLaws.{whole_of, whole_below, text_is_read, text_is_upper}
+
+-- ---- no character of a record's text ends a line
+
+glyph_high : (n : ℕ) → n < 16 → 48 ≤ digit_glyph true n
+glyph_high n small = grind (arith, nat_tests)
+
+digits_high : (bytes : List ℕ) → AllByRecursion (λ byte. byte < 256) bytes → AllByRecursion (λ c. 48 ≤ c) (flat_map hex2 bytes)
+digits_high [] below = tt
+digits_high (b ∷ bs) below =
+    let fits : b < 256 = below.0 in
+    (glyph_high (b / 16) (omega (arith, fits)), (glyph_high (b % 16) (omega arith), digits_high bs below.1))
+
+text_high : (r : Record) → IsRecord r → AllByRecursion (λ c. 48 ≤ c) (text_of r)
+unfolding text_of
+text_high r h = (omega arith, digits_high (whole_of r) (whole_below r h))
+
+no_feed : (text : List ℕ) → AllByRecursion (λ c. 48 ≤ c) text → AllByRecursion (λ c. is_line_feed c ≡ false) text
+no_feed [] high = tt
+no_feed (c ∷ cs) high = let h : 48 ≤ c = high.0 in (ne_eqb c 10 (λ e. omega (arith, e, h)), no_feed cs high.1)
+
+at_high : (place : ℕ) (text : List ℕ) → AllByRecursion (λ c. 48 ≤ c) text → get_or text place 0 ≡ 13 → ⊥
+at_high place [] high e = omega (arith, e)
+at_high zero (c ∷ cs) high e = let h : 48 ≤ c = high.0 in omega (arith, e, h)
+at_high (suc place) (c ∷ cs) high e = at_high place cs high.1 e
+
+no_return : (text : List ℕ) → AllByRecursion (λ c. 48 ≤ c) text → strip_carriage_return text ≡ text
+no_return text high = ap (λ (b : Bool). cond b (take (length text - 1) text) text) (ne_eqb (get_or text (length text - 1) 0) 13 (at_high (length text - 1) text high))
+
+-- the line of a record is the first line
+line_first : (r : Record) (rest : List ℕ) → IsRecord r → lines (line_of r ++ rest) ≡ text_of r ∷ lines rest
+line_first r rest h =
+    let high = text_high r h in
+    let parts = slice_split is_line_feed rest in
+    ap lines (append_assoc (text_of r) (line_feed ∷ []) rest)
+    ∙ ap lines_of_parts (slice_split_at is_line_feed (text_of r) line_feed rest (All-from_recursion (λ c. is_line_feed c ≡ false) (text_of r) (no_feed (text_of r) high)) refl)
+    ∙ before_more (text_of r) parts (omega (arith, length-slice_split is_line_feed rest))
+    ∙ ap (λ (line : List ℕ). line ∷ lines rest) (no_return (text_of r) high)
+
+-- ---- the records that are read
+
+abbrev read_as : List Record → Result (List Record) HexError
+read_as records = Ok records
+
+-- a record of data
+pub record IsData (r : Record) : Type 0 where
+  pub is : IsRecord r
+  pub kind : r.kind ≡ Data
+
+-- the record of a line before those behind it
+one_read : (number : ℕ) (line : List ℕ) (more : List (List ℕ)) (r : Record) → record_of number line ≡ Ok r
+    → records_from number (line ∷ more) ≡ (behind r.kind (records_from (number + 1) more) >>= λ others. Ok (r ∷ others))
+one_read number line more r is =
+    ap (λ (x : Result Record HexError). x >>= λ one. behind one.kind (records_from (number + 1) more) >>= λ others. Ok (one ∷ others)) is
+
+-- the lines of records of data and of one that ends the file are read as those records
+pub records_back : (number : ℕ) (records : List Record) (last : Record) → AllByRecursion IsData records → IsRecord last → last.kind ≡ EndOfFile
+    → records_from number (lines (flat_map line_of records ++ line_of last)) ≡ Ok (records ++ last ∷ [])
+records_back number [] last data_is last_is ends =
+    let text : line_of last ≡ line_of last ++ [] = sym (append-nil (line_of last)) in
+    ap (λ (t : List ℕ). records_from number (lines t)) text
+    ∙ ap (records_from number) (line_first last [] last_is)
+    ∙ one_read number (text_of last) (lines []) last (text_is_read number (text_of last) last last_is (text_is_upper last last_is))
+    ∙ ap (λ (k : RecordType). behind k (records_from (number + 1) (lines [])) >>= λ others. Ok (last ∷ others)) ends
+records_back number (r ∷ records) last data_is last_is ends =
+    let rest = flat_map line_of records ++ line_of last in
+    let one = data_is.0 in
+    ap (λ (t : List ℕ). records_from number (lines t)) (append_assoc (line_of r) (flat_map line_of records) (line_of last))
+    ∙ ap (records_from number) (line_first r rest one.is)
+    ∙ one_read number (text_of r) (lines rest) r (text_is_read number (text_of r) r one.is (text_is_upper r one.is))
+    ∙ ap (λ (k : RecordType). behind k (records_from (number + 1) (lines rest)) >>= λ others. Ok (r ∷ others)) one.kind
+    ∙ ap (λ (x : Result (List Record) HexError). x >>= λ others. Ok (r ∷ others)) (records_back (number + 1) records last data_is.1 last_is ends)

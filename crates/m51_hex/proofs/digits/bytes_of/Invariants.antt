@@ -1,0 +1,13 @@
+use Rattle.std.proofs.Common.{◌≡◌, ◌++◌, true, length}
+use Rattle.std.specs.List.{list_all}
+use Rattle.m51_hex.specs.Line.{is_hex_digit, bytes_of}
+use Rattle.m51_hex.proofs.digits.bytes_of.Given as goal
+
+abbrev pub invariant-loop-rest : goal.invariant-loop-rest
+invariant-loop-rest l = record {
+  digits : list_all is_hex_digit l.rest ≡ true;
+  told : l.bytes.items ++ bytes_of l.rest ≡ bytes_of l.digits;
+}
+
+abbrev pub decreases-loop-rest : goal.decreases-loop-rest
+decreases-loop-rest l = length l.rest

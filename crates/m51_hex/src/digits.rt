@@ -1,0 +1,90 @@
+//! Hexadecimal digits, two for each byte.
+ghost use Rattle.std.specs.Prelude.{◌≡◌, ◌<◌, ◌++◌, true, flat_map, IsTrue, IfOk, OnOk};
+ghost use Rattle.std.specs.Char.{digit_value};
+ghost use Rattle.std.specs.Fmt.{digit_glyph};
+ghost use Rattle.std.specs.List.{list_all};
+ghost use Rattle.m51_cells.specs.Hex.{hex2};
+ghost use Rattle.m51_hex.specs.Line.{is_hex_digit, bytes_of};
+
+use m51_cells::NoMemory;
+use std::alloc::Global;
+
+// The digit of a number below 16, in upper case.
+fn digit_of(number: u8) -> u8
+    requires { number < 16 }
+    ensures { result ≡ digit_glyph true number }
+{
+    if number < 10 {
+        b'0' + number
+    } else {
+        b'A' + (number - 10)
+    }
+}
+
+/// Appends the two digits of a byte, in upper case.
+///
+/// Source: Intel HEX.
+pub fn push_byte(text: &mut Vec<u8>, byte: u8) -> Result<(), NoMemory>
+    ensures { OnOk result (text.new.items ≡ text.old.items ++ hex2 byte) }
+{
+    text.push(digit_of(byte / 16))?;
+    text.push(digit_of(byte % 16))?;
+    Ok(())
+}
+
+/// Appends the digits of each byte.
+///
+/// Source: Intel HEX.
+pub fn push_bytes(text: &mut Vec<u8>, bytes: &[u8]) -> Result<(), NoMemory>
+    ensures { OnOk result (text.new.items ≡ text.old.items ++ flat_map hex2 bytes.now) }
+{
+    for byte in bytes {
+        push_byte(text, *byte)?;
+    }
+    Ok(())
+}
+
+// Whether a character is a hexadecimal digit of either case.
+fn is_hex_digit(character: u8) -> bool
+    ensures { result ≡ is_hex_digit character }
+{
+    char::from(character).is_digit(16)
+}
+
+/// Whether each character is a hexadecimal digit of either case.
+///
+/// Source: Intel HEX.
+pub fn are_hex_digits(text: &[u8]) -> bool
+    ensures { result ≡ list_all is_hex_digit text.now }
+{
+    text.iter().all(|character| is_hex_digit(*character))
+}
+
+// The value of a digit.
+fn value_of(digit: u8) -> u8
+    requires { IsTrue (is_hex_digit digit) }
+    ensures value { result ≡ digit_value digit }
+    ensures small { result < 16 }
+{
+    match digit {
+        b'0'..=b'9' => digit - b'0',
+        b'A'..=b'F' => digit - b'A' + 10,
+        _ => digit - b'a' + 10,
+    }
+}
+
+/// The bytes that digits write; a last one that is single writes none.
+///
+/// Source: Intel HEX.
+pub fn bytes_of(alloc: Global, digits: &[u8]) -> Result<Vec<u8>, NoMemory>
+    requires { IsTrue (list_all is_hex_digit digits.now) }
+    ensures { IfOk result (λ bytes. bytes.items ≡ bytes_of digits.now) }
+{
+    let mut bytes = Vec::new(alloc);
+    let mut rest = digits;
+    while let [high, low, more @ ..] = rest {
+        bytes.push(16 * value_of(*high) + value_of(*low))?;
+        rest = more;
+    }
+    Ok(bytes)
+}

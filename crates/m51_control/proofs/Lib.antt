@@ -1,0 +1,10 @@
+pub mod Cuts
+pub mod Numbered
+pub mod Runs
+pub mod Passing
+pub mod CutLaws
+pub mod PartLaws
+pub mod NameLaws
+pub mod ReserveLaws
+pub mod FormLaws
+pub mod LineLaws

@@ -1,0 +1,187 @@
+-- Reserves are read where they are written.
+use Rattle.std.proofs.Common.{◌≡◌, ℕ, ◌-◌, true, not, cond, nat_lt, nat_le, List, [], ◌∷◌, ◌++◌, Some, None, refl, sym, ap, ◌∙◌, subst, arith}
+use Rattle.std.specs.Char.{is_ascii_alphanumeric}
+use Rattle.std.specs.Option.{option_and_then}
+use Rattle.std.specs.List.{list_all}
+use Rattle.std.proofs.lemmas.Option.{cond_some}
+use Rattle.std.proofs.lemmas.Bool.Decides.{nat_tests}
+use Rattle.m51_cells.specs.declared.cell.Space.{Space}
+use Rattle.m51_cells.specs.declared.cell.Space.TheVariants as space
+use Rattle.m51_lex.specs.Tokens.{tokens_of}
+use Rattle.m51_control.specs.declared.control.Control.{Control}
+use Rattle.m51_control.specs.declared.control.Control.TheVariants.{Reserve}
+use Rattle.m51_control.specs.Parts.{opening, closing, hyphen, is_blank, is_sign, cut_at, part_of, word_in}
+use Rattle.m51_control.specs.Reserve.{number_of_tokens, number_of, number_in, bounds_of, space_of, is_range, IsRange, reserve_of, closed, memory_of, reserve}
+use Rattle.m51_control.specs.Written.{AreBlanks, WritesWord, WritesNumber}
+use Rattle.m51_control.proofs.Passing.{both, pass_both, guarded, goes_on, weaker, pass_append, less, passes_less, at_most, passes_at_most}
+use Rattle.m51_control.proofs.CutLaws.{Lacks, cut_sound, cut_complete}
+use Rattle.m51_control.proofs.PartLaws.{is_part_byte, is_field_byte, IsPart, part_sound, part_complete, field_bytes, field_lacks}
+use Rattle.m51_control.proofs.NameLaws.{word_sound, word_complete, word_field}
+
+digit_byte : (b : ℕ) → is_ascii_alphanumeric b ≡ true → is_part_byte b ≡ true
+digit_byte b h = grind (arith, nat_tests, h)
+
+number_part : (part : List ℕ) (number : ℕ) → number_of part ≡ Some number → IsPart part
+number_part [] number h = absurd (cc)
+number_part (b ∷ bs) number h =
+    let tests = guarded (list_all is_ascii_alphanumeric (b ∷ bs)) (number_of_tokens (tokens_of (b ∷ bs))) number h in
+    record { some = omega arith; each = weaker is_ascii_alphanumeric is_part_byte digit_byte (b ∷ bs) tests.0 }
+
+number_sound : (text : List ℕ) (number : ℕ) → number_in text ≡ Some number → WritesNumber text number
+number_sound text number h =
+    let step = goes_on number_of (part_of text) number h in
+    record { part = step.value; surrounds = part_sound text step.value step.found; is = step.goes }
+
+number_complete : (text : List ℕ) (number : ℕ) → WritesNumber text number → number_in text ≡ Some number
+number_complete text number w = ap (λ o. option_and_then number_of o) (part_complete text w.part w.surrounds (number_part w.part number w.is)) ∙ w.is
+
+number_field : (text : List ℕ) (number : ℕ) → WritesNumber text number → list_all is_field_byte text ≡ true
+number_field text number w = field_bytes text w.part w.surrounds (number_part w.part number w.is)
+
+-- the value of an option that has one
+pub same_value : {A : Type 0} (x y : A) → Some x ≡ Some y → x ≡ y
+same_value x y h = cc
+
+-- two numbers with a hyphen between them
+pub record WritesBounds (text : List ℕ) (bounds : ℕ × ℕ) : Type 0 where
+  pub lo : List ℕ
+  pub hi : List ℕ
+  pub low : WritesNumber lo bounds.0
+  pub high : WritesNumber hi bounds.1
+  pub is : text ≡ lo ++ hyphen ∷ hi
+
+pub bounds_sound : (text : List ℕ) (bounds : ℕ × ℕ) → bounds_of text ≡ Some bounds → WritesBounds text bounds
+bounds_sound text bounds h =
+    let cut = goes_on _ (cut_at hyphen text) bounds h in
+    let low = goes_on _ (number_in cut.value.0) bounds cut.goes in
+    let high = goes_on _ (number_in cut.value.1) bounds low.goes in
+    let whole : WritesBounds text (low.value, high.value) = record {
+      lo = cut.value.0;
+      hi = cut.value.1;
+      low = number_sound cut.value.0 low.value low.found;
+      high = number_sound cut.value.1 high.value high.found;
+      is = cut_sound hyphen text cut.value cut.found;
+    } in
+    subst (λ (b : ℕ × ℕ). WritesBounds text b) (same_value (low.value, high.value) bounds high.goes) whole
+
+pub bounds_complete : (text : List ℕ) (bounds : ℕ × ℕ) → WritesBounds text bounds → bounds_of text ≡ Some bounds
+bounds_complete text bounds w =
+    ap bounds_of w.is
+    ∙ ap (λ o. option_and_then (λ (cut : List ℕ × List ℕ). option_and_then (λ low. option_and_then (λ high. Some (low, high)) (number_in cut.1)) (number_in cut.0)) o) (cut_complete hyphen w.lo w.hi (field_lacks hyphen refl w.lo (number_field w.lo bounds.0 w.low)))
+    ∙ ap (λ o. option_and_then (λ low. option_and_then (λ high. Some (low, high)) (number_in w.hi)) o) (number_complete w.lo bounds.0 w.low)
+    ∙ ap (λ o. option_and_then (λ high. Some (bounds.0, high)) o) (number_complete w.hi bounds.1 w.high)
+
+lacks_append : (sign : ℕ) (a b : List ℕ) → Lacks sign a → Lacks sign b → Lacks sign (a ++ b)
+lacks_append sign a b h k = pass_append (λ c. not (is_sign sign c)) a b h k
+
+bounds_lack : (text : List ℕ) (bounds : ℕ × ℕ) → WritesBounds text bounds → Lacks closing text
+bounds_lack text bounds w =
+    ap (list_all (λ c. not (is_sign closing c))) w.is
+    ∙ lacks_append closing w.lo (hyphen ∷ w.hi) (field_lacks closing refl w.lo (number_field w.lo bounds.0 w.low)) (field_lacks closing refl w.hi (number_field w.hi bounds.1 w.high))
+
+pub closed_sound : (text inside : List ℕ) → closed text ≡ Some inside → (blanks : List ℕ) × AreBlanks blanks × (text ≡ inside ++ closing ∷ blanks)
+closed_sound text inside h =
+    let cut = goes_on _ (cut_at closing text) inside h in
+    let tests = cond_some (list_all is_blank cut.value.1) cut.value.0 inside cut.goes in
+    (cut.value.1, tests.0, cut_sound closing text cut.value cut.found ∙ ap (λ l. l ++ closing ∷ cut.value.1) tests.1)
+
+pub closed_complete : (inside blanks : List ℕ) → Lacks closing inside → AreBlanks blanks → closed (inside ++ closing ∷ blanks) ≡ Some inside
+closed_complete inside blanks lacks blank =
+    ap (λ o. option_and_then (λ (cut : List ℕ × List ℕ). cond (list_all is_blank cut.1) (Some cut.0) None) o) (cut_complete closing inside blanks lacks)
+    ∙ ap (λ t. cond t (Some inside) None) blank
+
+range_fact : (memory : Space) (low high : ℕ) → is_range memory low high ≡ true → IsRange memory low high
+range_fact space.Ram low high h =
+    let tests = both (nat_le low high) (nat_le high 0xFF) h in
+    (at_most low high tests.0, at_most high 0xFF tests.1)
+range_fact space.Xram low high h =
+    let tests = both (nat_le low high) (nat_lt (high - low) 65535) h in
+    (at_most low high tests.0, less (high - low) 65535 tests.1)
+range_fact space.Code low high h = absurd (cc)
+
+range_test : (memory : Space) (low high : ℕ) → IsRange memory low high → is_range memory low high ≡ true
+range_test space.Ram low high h = pass_both (nat_le low high) (nat_le high 0xFF) (passes_at_most low high h.0) (passes_at_most high 0xFF h.1)
+range_test space.Xram low high h = pass_both (nat_le low high) (nat_lt (high - low) 65535) (passes_at_most low high h.0) (passes_less (high - low) 65535 h.1)
+range_test space.Code low high h = absurd h
+
+-- what a reserve is written of
+pub record WritesReserve (inside : List ℕ) (control : Control) : Type 0 where
+  pub text : List ℕ
+  pub word : List ℕ
+  pub range : List ℕ
+  pub blanks : List ℕ
+  pub memory : Space
+  pub bounds : ℕ × ℕ
+  pub is_word : WritesWord text word
+  pub is_memory : space_of word ≡ Some memory
+  pub is_range : WritesBounds range bounds
+  pub fits : IsRange memory bounds.0 bounds.1
+  pub blank : AreBlanks blanks
+  pub is : inside ≡ text ++ opening ∷ (range ++ closing ∷ blanks)
+  pub says : control ≡ Reserve memory bounds.0 bounds.1
+
+pub record WritesMemory (inside : List ℕ) (memory : Space × List ℕ) : Type 0 where
+  pub text : List ℕ
+  pub word : List ℕ
+  pub blanks : List ℕ
+  pub is_word : WritesWord text word
+  pub is_memory : space_of word ≡ Some memory.0
+  pub blank : AreBlanks blanks
+  pub is : inside ≡ text ++ opening ∷ (memory.1 ++ closing ∷ blanks)
+
+memory_sound : (inside : List ℕ) (memory : Space × List ℕ) → memory_of inside ≡ Some memory → WritesMemory inside memory
+memory_sound inside memory h =
+    let cut = goes_on _ (cut_at opening inside) memory h in
+    let word = goes_on _ (word_in cut.value.0) memory cut.goes in
+    let named = goes_on _ (space_of word.value) memory word.goes in
+    let range = goes_on _ (closed cut.value.1) memory named.goes in
+    let behind = closed_sound cut.value.1 range.value range.found in
+    let whole : WritesMemory inside (named.value, range.value) = record {
+      text = cut.value.0;
+      word = word.value;
+      blanks = behind.0;
+      is_word = word_sound cut.value.0 word.value word.found;
+      is_memory = named.found;
+      blank = behind.1;
+      is = cut_sound opening inside cut.value cut.found ∙ ap (λ l. cut.value.0 ++ opening ∷ l) behind.2;
+    } in
+    subst (λ (m : Space × List ℕ). WritesMemory inside m) (same_value (named.value, range.value) memory range.goes) whole
+
+pub reserve_sound : (inside : List ℕ) (control : Control) → reserve inside ≡ Some control → WritesReserve inside control
+reserve_sound inside control h =
+    let memory = goes_on _ (memory_of inside) control h in
+    let bounds = goes_on _ (bounds_of memory.value.1) control memory.goes in
+    let tests = cond_some (is_range memory.value.0 bounds.value.0 bounds.value.1) (Reserve memory.value.0 bounds.value.0 bounds.value.1) control bounds.goes in
+    let written = memory_sound inside memory.value memory.found in
+    record {
+      text = written.text;
+      word = written.word;
+      range = memory.value.1;
+      blanks = written.blanks;
+      memory = memory.value.0;
+      bounds = bounds.value;
+      is_word = written.is_word;
+      is_memory = written.is_memory;
+      is_range = bounds_sound memory.value.1 bounds.value bounds.found;
+      fits = range_fact memory.value.0 bounds.value.0 bounds.value.1 tests.0;
+      blank = written.blank;
+      is = written.is;
+      says = sym tests.1;
+    }
+
+memory_complete : (inside : List ℕ) (memory : Space × List ℕ) → Lacks closing memory.1 → WritesMemory inside memory → memory_of inside ≡ Some memory
+memory_complete inside memory lacks w =
+    let behind = memory.1 ++ closing ∷ w.blanks in
+    ap memory_of w.is
+    ∙ ap (λ o. option_and_then (λ (cut : List ℕ × List ℕ). option_and_then (λ word. option_and_then (λ m. option_and_then (λ i. Some (m, i)) (closed cut.1)) (space_of word)) (word_in cut.0)) o) (cut_complete opening w.text behind (field_lacks opening refl w.text (word_field w.text w.word w.is_word)))
+    ∙ ap (λ o. option_and_then (λ word. option_and_then (λ m. option_and_then (λ i. Some (m, i)) (closed behind)) (space_of word)) o) (word_complete w.text w.word w.is_word)
+    ∙ ap (λ o. option_and_then (λ m. option_and_then (λ i. Some (m, i)) (closed behind)) o) w.is_memory
+    ∙ ap (λ o. option_and_then (λ i. Some (memory.0, i)) o) (closed_complete memory.1 w.blanks lacks w.blank)
+
+pub reserve_complete : (inside : List ℕ) (control : Control) → WritesReserve inside control → reserve inside ≡ Some control
+reserve_complete inside control w =
+    let parts : WritesMemory inside (w.memory, w.range) = record { text = w.text; word = w.word; blanks = w.blanks; is_word = w.is_word; is_memory = w.is_memory; blank = w.blank; is = w.is } in
+    ap (λ o. option_and_then (λ (m : Space × List ℕ). option_and_then (reserve_of m.0) (bounds_of m.1)) o) (memory_complete inside (w.memory, w.range) (bounds_lack w.range w.bounds w.is_range) parts)
+    ∙ ap (λ o. option_and_then (reserve_of w.memory) o) (bounds_complete w.range w.bounds w.is_range)
+    ∙ ap (λ t. cond t (Some (Reserve w.memory w.bounds.0 w.bounds.1)) None) (range_test w.memory w.bounds.0 w.bounds.1 w.fits)
+    ∙ ap Some (sym w.says)

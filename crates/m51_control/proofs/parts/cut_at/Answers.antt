@@ -1,0 +1,11 @@
+use Rattle.std.proofs.Common.{arith, ◌+◌}
+use Rattle.std.proofs.lemmas.List.{take_rest}
+use Rattle.m51_control.specs.Parts.{is_sign}
+use Rattle.m51_control.proofs.Cuts.{cut_here, whole}
+use Rattle.m51_control.proofs.parts.cut_at.Goals as goal
+
+pub returns-then-place-text-clause-parts : goal.returns-then-place-text-clause-parts
+returns-then-place-text-clause-parts c = cut_here (is_sign c.args.sign) c.sign_place-place.result c.args.text.now _ c.sign_place-place.ensures.len c.if-place-text.true (take_rest c.args.text.now (c.sign_place-place.result + 1))
+
+pub returns-else-place-text-clause-parts : goal.returns-else-place-text-clause-parts
+returns-else-place-text-clause-parts c = whole (is_sign c.args.sign) c.args.text.now (omega (arith, c.sign_place-place.ensures.len, c.if-place-text.false))

@@ -1,0 +1,6 @@
+pub mod Parts
+pub mod Naming
+pub mod Reserve
+pub mod Grammar
+pub mod Controls
+pub mod Written

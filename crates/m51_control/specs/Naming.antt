@@ -1,0 +1,52 @@
+-- How control lines name units and segments.
+use Rattle.std.specs.Prelude.{ℕ, ◌+◌, ◌*◌, ◌==◌, nat_lt, if◌then◌else◌, List, [], ◌∷◌, Option, Some, None}
+use Rattle.std.specs.Char.{digit_value}
+use Rattle.std.specs.List.{slice_split}
+use Rattle.m51_cells.specs.Name.{name_of, title_at}
+use Rattle.m51_control.specs.declared.naming.Role.{Role}
+use Rattle.m51_control.specs.declared.naming.Role.TheVariants as role
+use Rattle.m51_control.specs.Parts.{◌>>=◌, at_sign, comma, is_sign, part_of}
+
+-- the value of a hexadecimal digit, in either case
+abbrev pub hex_value : ℕ → Option ℕ
+hex_value byte = if nat_lt (digit_value byte) 16 then Some (digit_value byte) else None
+
+-- the number of four hexadecimal digits
+abbrev pub hex4_value : ℕ → ℕ → ℕ → ℕ → Option ℕ
+hex4_value a b c d = do
+  a ← hex_value a
+  b ← hex_value b
+  c ← hex_value c
+  d ← hex_value d
+  Some (a * 4096 + b * 256 + c * 16 + d)
+
+-- the title of an absolute segment that a text writes: @ and four hexadecimal digits
+abbrev pub title_of : List ℕ → Option (List ℕ)
+title_of (sign ∷ a ∷ b ∷ c ∷ d ∷ []) = if sign == at_sign then hex4_value a b c d >>= (λ base. Some (title_at base)) else None
+title_of _ = None
+
+-- a unit is written by its name or, if it is absolute, by its title
+abbrev pub unit_of : List ℕ → Option (List ℕ)
+unit_of (sign ∷ digits) = if sign == at_sign then title_of (sign ∷ digits) else name_of (sign ∷ digits)
+unit_of [] = None
+
+-- the name that a part writes: only a unit may be written by its title
+abbrev pub name_as : Role → List ℕ → Option (List ℕ)
+name_as role.Unit part = unit_of part
+name_as role.Segment part = name_of part
+
+-- the name of a text, with blanks before and behind it
+abbrev pub named : Role → List ℕ → Option (List ℕ)
+named r text = part_of text >>= name_as r
+
+-- what each of these texts names, where each does
+abbrev pub all_named : Role → List (List ℕ) → Option (List (List ℕ))
+all_named r [] = Some []
+all_named r (text ∷ texts) = do
+  name ← named r text
+  names ← all_named r texts
+  Some (name ∷ names)
+
+-- one or more names, with commas between them
+abbrev pub names_in : Role → List ℕ → Option (List (List ℕ))
+names_in r text = all_named r (slice_split (is_sign comma) text)

@@ -1,0 +1,65 @@
+-- The parts of a control line: words and signs, round which blanks may stand.
+use Rattle.std.specs.Prelude.{ℕ, ◌-◌, Bool, ◌||◌, ◌&&◌, ◌==◌, nat_lt, if◌then◌else◌, List, take, drop, length, Option, Some, None, option_and_then, slice_index}
+use Rattle.std.specs.List.{list_all, prefix_len, position_or_len, before_first, after_first}
+use Rattle.m51_cells.specs.Name.{name_of}
+use Rattle.m51_lex.specs.Characters.{space, tab}
+
+-- goes on with a value, where there is one
+infixl 10 ◌>>=◌
+abbrev pub ◌>>=◌ : {A B : Type 0} → Option A → (A → Option B) → Option B
+found >>= go = option_and_then go found
+
+-- the signs by name
+abbrev pub opening : ℕ
+opening = 0x28
+
+abbrev pub closing : ℕ
+closing = 0x29
+
+abbrev pub comma : ℕ
+comma = 0x2C
+
+abbrev pub hyphen : ℕ
+hyphen = 0x2D
+
+abbrev pub greater : ℕ
+greater = 0x3E
+
+abbrev pub at_sign : ℕ
+at_sign = 0x40
+
+abbrev pub tilde : ℕ
+tilde = 0x7E
+
+-- a space or a tab
+abbrev pub is_blank : ℕ → Bool
+is_blank byte = byte == space || byte == tab
+
+-- the byte is this sign
+abbrev pub is_sign : ℕ → ℕ → Bool
+is_sign sign byte = byte == sign
+
+-- what stands before the first of these signs, and what stands behind it
+abbrev pub cut_at : ℕ → List ℕ → Option (List ℕ × List ℕ)
+cut_at sign text =
+    if nat_lt (position_or_len (is_sign sign) text) (length text) then Some (before_first (is_sign sign) text, after_first (is_sign sign) text)
+    else None
+
+-- what stands before this sign, where it is the last byte
+abbrev pub before_last : ℕ → List ℕ → Option (List ℕ)
+before_last sign text =
+    if nat_lt 0 (length text) && is_sign sign (slice_index text (length text - 1)) then Some (take (length text - 1) text) else None
+
+-- the part that comes first, behind which blanks alone stand
+abbrev pub before_blanks : List ℕ → Option (List ℕ)
+before_blanks text =
+    let len = position_or_len is_blank text in
+    if list_all is_blank (drop len text) then Some (take len text) else None
+
+-- the one part of a text, with blanks before and behind it
+abbrev pub part_of : List ℕ → Option (List ℕ)
+part_of text = before_blanks (drop (prefix_len is_blank text) text)
+
+-- the word or name of a text, in upper case, with blanks before and behind it
+abbrev pub word_in : List ℕ → Option (List ℕ)
+word_in text = part_of text >>= name_of

@@ -1,0 +1,18 @@
+//! Reads the control lines of a link: calls, reserves and orders that its user declares.
+#![tactic(auto)]
+
+mod control;
+mod controls;
+mod error;
+mod forms;
+mod naming;
+mod parts;
+mod reading;
+mod reserving;
+#[cfg(test)]
+mod tests;
+
+pub use control::{Class, Control};
+pub use controls::{Controls, MOST_LINES};
+pub use error::ControlError;
+pub use reading::read_controls;

@@ -14,3 +14,5 @@ pub mod Directives
 pub mod Control
 pub mod Lines
 pub mod Printing
+pub mod Laws
+pub mod Rows

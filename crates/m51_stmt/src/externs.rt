@@ -2,7 +2,7 @@
 ghost use Rattle.std.specs.Prelude.{◌≡◌, ◌≤◌, ◌<◌, ◌-◌, ◌+◌, ℕ, All, length};
 ghost use Rattle.m51_cells.specs.Outcome.{Gives};
 ghost use Rattle.m51_lex.specs.Tokens.{IsWithin};
-ghost use Rattle.m51_expr.specs.Ranks.{is_open, is_close};
+ghost use Rattle.m51_expr.specs.Ranks.{is_close};
 ghost use Rattle.m51_stmt.specs.Answer.{fault_of};
 ghost use Rattle.m51_stmt.specs.Lack.{same};
 ghost use Rattle.m51_stmt.specs.Externs.{group_at, after_group, after_name, more_externs, externs_at, region_after, is_reserved_token, is_at_name, defines_reserved};
@@ -11,7 +11,7 @@ use crate::fault::StmtError;
 use crate::kinds::extern_kind_of;
 use crate::lists::name_or_12;
 use crate::statement::Externs;
-use crate::words::{is_comma, word_at, word_of};
+use crate::words::{is_comma, is_open, word_at, word_of};
 use m51_cells::{Kind, ListOf, Name};
 use m51_expr::{Symbol, is_reserved, symbol_at};
 use m51_lex::{Token, What};
@@ -37,15 +37,6 @@ pub(crate) enum Region {
     AtName,
 }
 
-fn is_opening(symbol: &Option<Symbol>) -> bool
-    ensures { result ≡ is_open symbol.now }
-{
-    match symbol {
-        Some(Symbol::Open) => true,
-        _ => false,
-    }
-}
-
 fn is_closing(symbol: &Option<Symbol>) -> bool
     ensures { result ≡ is_close symbol.now }
 {
@@ -61,7 +52,7 @@ fn group_at(line: &[u8], tokens: &[Token], at: usize) -> Option<Kind>
     requires within { at ≤ length tokens.now + 4 }
     ensures { result ≡ group_at line.now tokens.now at }
 {
-    if !is_opening(&symbol_at(line, tokens, at + 1)) {
+    if !is_open(&symbol_at(line, tokens, at + 1)) {
         return None;
     }
     match word_at(line, tokens, at) {

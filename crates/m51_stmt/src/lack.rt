@@ -5,12 +5,11 @@ ghost use Rattle.m51_lex.specs.Tokens.{IsWithin};
 ghost use Rattle.m51_expr.specs.Reading.{expression_at};
 ghost use Rattle.m51_stmt.specs.Answer.{or_fault, fault_of};
 ghost use Rattle.m51_stmt.specs.Lack.{is_met, is_item, step_of, same, past, text_step, comma_step, after_at, at_step, step_at, all_met, met, is_closed, parenthesis, parenthesis_at, all_closed};
-ghost use Rattle.m51_expr.specs.Ranks.{is_open};
 
 use crate::fault::StmtError;
 use crate::indirect::{Behind, behind_at};
 use crate::operands::expression;
-use crate::words::{begins_expression, begins_operand, is_operator, is_text};
+use crate::words::{begins_expression, begins_operand, is_open, is_operator, is_text};
 use m51_expr::{Symbol, symbol_at};
 use m51_lex::{Token, What};
 use std::alloc::Global;
@@ -55,16 +54,10 @@ pub(crate) fn is_met(want: Want, symbol: &Option<Symbol>) -> bool
 fn step_of(symbol: &Option<Symbol>) -> Step
     ensures { result ≡ step_of symbol.now }
 {
+    if begins_expression(symbol) {
+        return Step::Expression;
+    }
     match symbol {
-        Some(
-            Symbol::Number(_)
-            | Symbol::Name(_)
-            | Symbol::Here
-            | Symbol::Open
-            | Symbol::Plus
-            | Symbol::Minus
-            | Symbol::Prefix(_),
-        ) => Step::Expression,
         Some(Symbol::Hash | Symbol::Infix(_)) => Step::Behind,
         Some(Symbol::Text) => Step::Text,
         Some(Symbol::Comma) => Step::Comma,
@@ -234,15 +227,6 @@ fn parenthesis(alloc: Global, line: &str, tokens: &[Token], at: usize) -> Result
         Ok(_) if is_closed(&tokens[at + 1..], 0) => Ok(()),
         Ok(_) => Err(NO_EXPRESSION),
         Err(error) => Err(error),
-    }
-}
-
-fn is_open(symbol: &Option<Symbol>) -> bool
-    ensures { result ≡ is_open symbol.now }
-{
-    match symbol {
-        Some(Symbol::Open) => true,
-        _ => false,
     }
 }
 

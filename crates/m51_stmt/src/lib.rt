@@ -12,6 +12,7 @@ mod groups;
 mod indirect;
 mod kinds;
 mod lack;
+mod laws;
 mod lists;
 mod operands;
 mod printing;
@@ -24,6 +25,7 @@ mod tests;
 mod words;
 
 pub use fault::StmtError;
+pub use laws::{forms_are_rows, printed_reads_back};
 pub use reading::read_line;
 pub use statement::{Body, Externs, Item, Items, Operand, Operands, Stmt};
 pub use statement_printing::print_stmt;

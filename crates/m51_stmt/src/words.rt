@@ -3,6 +3,7 @@ ghost use Rattle.std.specs.Prelude.{◌≡◌, ◌<◌, All, IsSome, length};
 ghost use Rattle.std.specs.List.{list_any};
 ghost use Rattle.std.specs.Str.{bytes_eq};
 ghost use Rattle.m51_lex.specs.Tokens.{IsWithin};
+ghost use Rattle.m51_expr.specs.Ranks.{is_open};
 ghost use Rattle.m51_stmt.specs.Words.{word_of, word_at, is_comma, is_colon, is_text, is_operator, register_number, is_register, begins_expression, begins_operand};
 
 use m51_cells::Name;
@@ -55,6 +56,16 @@ pub(crate) fn is_colon(symbol: &Option<Symbol>) -> bool
 {
     match symbol {
         Some(Symbol::Colon) => true,
+        _ => false,
+    }
+}
+
+/// Whether it is an opening parenthesis.
+pub(crate) fn is_open(symbol: &Option<Symbol>) -> bool
+    ensures { result ≡ is_open symbol.now }
+{
+    match symbol {
+        Some(Symbol::Open) => true,
         _ => false,
     }
 }

@@ -1,0 +1,208 @@
+-- What a line says behind its label reads back.
+use Rattle.std.proofs.Common.{◌≡◌, ℕ, Bool, true, false, List, [], ◌∷◌, ◌++◌, Option, Some, None, refl, sym, ap, ◌∙◌, append_assoc, append-nil}
+use Rattle.std.specs.Prelude.{codes}
+use Rattle.m51_cells.specs.Name.{name_of}
+use Rattle.m51_cells.specs.declared.kind.Kind.{Kind}
+use Rattle.m51_cells.specs.declared.kind.Kind.TheVariants as kind
+use Rattle.m51_cells.specs.declared.kind.Reloc.{Reloc}
+use Rattle.m51_cells.specs.declared.kind.Reloc.TheVariants as reloc
+use Rattle.m51_expr.specs.Tree.{Tree}
+use Rattle.m51_stmt.specs.declared.lack.Want.TheVariants as want
+use Rattle.m51_stmt.specs.declared.directives.Directive.TheVariants as directive
+use Rattle.m51_stmt.specs.Statement as body
+use Rattle.m51_stmt.specs.Statement.{BodyTree, OperandTree, ItemTree}
+use Rattle.m51_stmt.specs.Kinds.{kind_of, reloc_of}
+use Rattle.m51_stmt.specs.Shapes.{has_form}
+use Rattle.m51_stmt.specs.Definitions.{may_be}
+use Rattle.m51_stmt.specs.Directives.{directive_of}
+use Rattle.m51_stmt.specs.Printing.{word_text, kind_word, reloc_word, select_word, separated, expr_text, overlayable_text, segment_text, at_text, operand_text, item_text, extern_text, body_text}
+use Rattle.m51_stmt.proofs.LineCuts.{Word, laid, AreCut}
+use Rattle.m51_stmt.proofs.WordCuts.{name_word, name_cut}
+use Rattle.m51_stmt.proofs.PrintedTrees.{IsLeafName, IsTree, expr_words, expr_cut, expr_laid, one_laid}
+use Rattle.m51_stmt.proofs.AllMet.{Each, list_words, list_laid, list_cut}
+use Rattle.m51_stmt.proofs.PrintedOperands.{IsOperand, operand_words, operand_laid, operand_cut}
+use Rattle.m51_stmt.proofs.PrintedLists.{name_words, names_cut, item_words, IsItem, item_laid, item_cut}
+use Rattle.m51_stmt.proofs.PrintedExterns.{IsFree, IsExtern, kind_written, extern_words, extern_laid, extern_cut}
+
+-- a list that has a part, each of which is so
+abbrev pub OneOrMore : {A : Type 0} → (A → Type 0) → List A → Type 0
+OneOrMore P [] = ⊥
+OneOrMore P (a ∷ more) = P a × Each P more
+
+-- an instruction that can be read
+pub record IsCode (mnemonic : List ℕ) (operands : List OperandTree) : Type 0 where
+  pub written : name_of mnemonic ≡ Some mnemonic
+  pub form : has_form mnemonic operands ≡ true
+  pub each : Each IsOperand operands
+
+abbrev pub IsKind : Kind → Type 0
+IsKind k = kind_of (kind_word k) ≡ Some k
+
+pub record IsSegment (name : List ℕ) (k : Kind) (r : Reloc) (overlayable : Bool) : Type 0 where
+  pub name_is : IsFree name
+  pub kind_is : IsKind k
+  pub reloc_is : reloc_of (reloc_word r) ≡ Some r
+  pub allowed : may_be k r overlayable ≡ true
+
+abbrev pub IsSelected : Kind → Type 0
+IsSelected k = directive_of (select_word k) ≡ Some (directive.Select k)
+
+abbrev pub IsAt : Option Tree → Type 0
+IsAt None = Unit {0}
+IsAt (Some e) = IsTree e
+
+-- a body that can be read at a place: a definition at the first place alone, and no control
+abbrev pub IsBody : ℕ → BodyTree → Type 0
+IsBody at body.Empty = Unit {0}
+IsBody at body.Ignored = ⊥
+IsBody at (body.Include name) = ⊥
+IsBody at (body.Mod51 on) = ⊥
+IsBody at body.End = Unit {0}
+IsBody at (body.Code mnemonic operands) = IsCode mnemonic operands
+IsBody at (body.Db items) = OneOrMore (IsItem want.Item) items
+IsBody at (body.Dw items) = OneOrMore (IsItem want.Expression) items
+IsBody at (body.Ds e) = IsTree e
+IsBody at (body.Dbit e) = IsTree e
+IsBody at (body.Org e) = IsTree e
+IsBody at (body.Using e) = IsTree e
+IsBody at (body.Segment name k r overlayable) = (at ≡ 0) × IsSegment name k r overlayable
+IsBody at (body.Rseg name) = IsLeafName name
+IsBody at (body.Select k e) = IsSelected k × IsAt e
+IsBody at (body.Equ name e) = (at ≡ 0) × IsFree name × IsTree e
+IsBody at (body.Set name e) = (at ≡ 0) × IsFree name × IsTree e
+IsBody at (body.Address name k e) = (at ≡ 0) × IsFree name × IsKind k × IsTree e
+IsBody at (body.Public names) = OneOrMore IsLeafName names
+IsBody at (body.Extrn externs) = OneOrMore IsExtern externs
+IsBody at (body.ModuleName name) = IsLeafName name
+
+abbrev pub overlayable_words : Bool → List Word
+overlayable_words true = name_word (codes "OVERLAYABLE") ∷ []
+overlayable_words false = []
+
+abbrev pub at_words : Option Tree → List Word
+at_words (Some e) = name_word (codes "AT") ∷ expr_words e []
+at_words None = []
+
+-- the words of a body
+abbrev pub body_words : BodyTree → List Word
+body_words body.Empty = []
+body_words body.Ignored = []
+body_words (body.Include name) = []
+body_words (body.Mod51 on) = []
+body_words body.End = name_word (codes "END") ∷ []
+body_words (body.Code mnemonic operands) = name_word mnemonic ∷ list_words operand_words operands
+body_words (body.Db items) = name_word (codes "DB") ∷ list_words item_words items
+body_words (body.Dw items) = name_word (codes "DW") ∷ list_words item_words items
+body_words (body.Ds e) = name_word (codes "DS") ∷ expr_words e []
+body_words (body.Dbit e) = name_word (codes "DBIT") ∷ expr_words e []
+body_words (body.Org e) = name_word (codes "ORG") ∷ expr_words e []
+body_words (body.Using e) = name_word (codes "USING") ∷ expr_words e []
+body_words (body.Segment name k r overlayable) = name_word name ∷ name_word (codes "SEGMENT") ∷ name_word (kind_word k) ∷ name_word (reloc_word r) ∷ overlayable_words overlayable
+body_words (body.Rseg name) = name_word (codes "RSEG") ∷ name_word name ∷ []
+body_words (body.Select k e) = name_word (select_word k) ∷ at_words e
+body_words (body.Equ name e) = name_word name ∷ name_word (codes "EQU") ∷ expr_words e []
+body_words (body.Set name e) = name_word name ∷ name_word (codes "SET") ∷ expr_words e []
+body_words (body.Address name k e) = name_word name ∷ name_word (kind_word k) ∷ expr_words e []
+body_words (body.Public names) = name_word (codes "PUBLIC") ∷ list_words name_words names
+body_words (body.Extrn externs) = name_word (codes "EXTRN") ∷ list_words extern_words externs
+body_words (body.ModuleName name) = name_word (codes "NAME") ∷ name_word name ∷ []
+
+-- the text of these words
+expr_alone : (word : List ℕ) (e : Tree) → word ++ 32 ∷ laid (expr_words e []) ≡ word_text word ++ expr_text e
+expr_alone word e = one_laid word (laid (expr_words e [])) ∙ ap (λ l. word_text word ++ l) (expr_laid e [] ∙ append-nil (expr_text e))
+
+two_words : (a b : List ℕ) → a ++ 32 ∷ (b ++ 32 ∷ []) ≡ word_text a ++ word_text b
+two_words a b = one_laid a (b ++ 32 ∷ [])
+
+define_text : (name word : List ℕ) (e : Tree) → name ++ 32 ∷ (word ++ 32 ∷ laid (expr_words e [])) ≡ word_text name ++ (word_text word ++ expr_text e)
+define_text name word e = one_laid name (word ++ 32 ∷ laid (expr_words e [])) ∙ ap (λ l. word_text name ++ l) (expr_alone word e)
+
+overlayable_laid : (b : Bool) → laid (overlayable_words b) ≡ overlayable_text b
+overlayable_laid true = refl
+overlayable_laid false = refl
+
+five : (a b c d e : List ℕ) → a ++ (b ++ (c ++ (d ++ e))) ≡ (((a ++ b) ++ c) ++ d) ++ e
+five a b c d e = sym (simp append_assoc)
+
+segment_laid : (name : List ℕ) (k : Kind) (r : Reloc) (b : Bool) → name ++ 32 ∷ (codes "SEGMENT" ++ 32 ∷ (kind_word k ++ 32 ∷ (reloc_word r ++ 32 ∷ laid (overlayable_words b)))) ≡ segment_text name k r b
+segment_laid name k r b =
+    ap (λ l. name ++ 32 ∷ (codes "SEGMENT" ++ 32 ∷ (kind_word k ++ 32 ∷ (reloc_word r ++ 32 ∷ l)))) (overlayable_laid b)
+    ∙ ap (λ l. name ++ 32 ∷ (codes "SEGMENT" ++ 32 ∷ (kind_word k ++ 32 ∷ l))) (one_laid (reloc_word r) (overlayable_text b))
+    ∙ ap (λ l. name ++ 32 ∷ (codes "SEGMENT" ++ 32 ∷ l)) (one_laid (kind_word k) (word_text (reloc_word r) ++ overlayable_text b))
+    ∙ one_laid name (codes "SEGMENT" ++ 32 ∷ (word_text (kind_word k) ++ (word_text (reloc_word r) ++ overlayable_text b)))
+    ∙ five (word_text name) (word_text (codes "SEGMENT")) (word_text (kind_word k)) (word_text (reloc_word r)) (overlayable_text b)
+
+select_laid : (k : Kind) (e : Option Tree) → select_word k ++ 32 ∷ laid (at_words e) ≡ word_text (select_word k) ++ at_text e
+select_laid k None = one_laid (select_word k) []
+select_laid k (Some e) = one_laid (select_word k) (laid (at_words (Some e))) ∙ ap (λ l. word_text (select_word k) ++ l) (expr_alone (codes "AT") e)
+
+listed : {A : Type 0} (word : List ℕ) (words : A → List Word → List Word) (text : A → List ℕ) (xs : List A) → ((a : A) (rest : List Word) → laid (words a rest) ≡ text a ++ laid rest) → word ++ 32 ∷ laid (list_words words xs) ≡ word_text word ++ separated text xs
+listed word words text xs is = one_laid word (laid (list_words words xs)) ∙ ap (λ l. word_text word ++ l) (list_laid words text is xs)
+
+pub body_laid : (at : ℕ) (b : BodyTree) → IsBody at b → laid (body_words b) ≡ body_text b
+unfolding body_text
+body_laid at body.Empty is = refl
+body_laid at body.Ignored is = absurd is
+body_laid at (body.Include name) is = absurd is
+body_laid at (body.Mod51 on) is = absurd is
+body_laid at body.End is = refl
+body_laid at (body.Code mnemonic operands) is = listed mnemonic operand_words operand_text operands operand_laid
+body_laid at (body.Db items) is = listed (codes "DB") item_words item_text items item_laid
+body_laid at (body.Dw items) is = listed (codes "DW") item_words item_text items item_laid
+body_laid at (body.Ds e) is = expr_alone (codes "DS") e
+body_laid at (body.Dbit e) is = expr_alone (codes "DBIT") e
+body_laid at (body.Org e) is = expr_alone (codes "ORG") e
+body_laid at (body.Using e) is = expr_alone (codes "USING") e
+body_laid at (body.Segment name k r overlayable) is = segment_laid name k r overlayable
+body_laid at (body.Rseg name) is = two_words (codes "RSEG") name
+body_laid at (body.Select k e) is = select_laid k e
+body_laid at (body.Equ name e) is = define_text name (codes "EQU") e
+body_laid at (body.Set name e) is = define_text name (codes "SET") e
+body_laid at (body.Address name k e) is = define_text name (kind_word k) e
+body_laid at (body.Public names) is = listed (codes "PUBLIC") name_words word_text names (λ a rest. one_laid a (laid rest))
+body_laid at (body.Extrn externs) is = listed (codes "EXTRN") extern_words extern_text externs extern_laid
+body_laid at (body.ModuleName name) is = two_words (codes "NAME") name
+
+-- they are cut
+pub select_written : (k : Kind) → name_of (select_word k) ≡ Some (select_word k)
+select_written kind.Code = refl
+select_written k = refl
+
+pub reloc_written : (r : Reloc) → name_of (reloc_word r) ≡ Some (reloc_word r)
+reloc_written reloc.Abs = refl
+reloc_written r = refl
+
+overlayable_cut : (b : Bool) → AreCut (overlayable_words b)
+overlayable_cut true = (name_cut (codes "OVERLAYABLE") refl, tt)
+overlayable_cut false = tt
+
+at_cut : (e : Option Tree) → IsAt e → AreCut (at_words e)
+at_cut None is = tt
+at_cut (Some e) is = (name_cut (codes "AT") refl, expr_cut e [] is tt)
+
+pub some_each : {A : Type 0} (P : A → Type 0) (xs : List A) → OneOrMore P xs → Each P xs
+some_each P [] is = absurd is
+some_each P (a ∷ more) is = is
+
+pub body_cut : (at : ℕ) (b : BodyTree) → IsBody at b → AreCut (body_words b)
+body_cut at body.Empty is = tt
+body_cut at body.Ignored is = tt
+body_cut at (body.Include name) is = tt
+body_cut at (body.Mod51 on) is = tt
+body_cut at body.End is = (name_cut (codes "END") refl, tt)
+body_cut at (body.Code mnemonic operands) is = (name_cut mnemonic is.written, list_cut IsOperand operand_words operand_cut operands is.each)
+body_cut at (body.Db items) is = (name_cut (codes "DB") refl, list_cut (IsItem want.Item) item_words (item_cut want.Item) items (some_each (IsItem want.Item) items is))
+body_cut at (body.Dw items) is = (name_cut (codes "DW") refl, list_cut (IsItem want.Expression) item_words (item_cut want.Expression) items (some_each (IsItem want.Expression) items is))
+body_cut at (body.Ds e) is = (name_cut (codes "DS") refl, expr_cut e [] is tt)
+body_cut at (body.Dbit e) is = (name_cut (codes "DBIT") refl, expr_cut e [] is tt)
+body_cut at (body.Org e) is = (name_cut (codes "ORG") refl, expr_cut e [] is tt)
+body_cut at (body.Using e) is = (name_cut (codes "USING") refl, expr_cut e [] is tt)
+body_cut at (body.Segment name k r overlayable) is = (name_cut name is.1.name_is.leaf.written, (name_cut (codes "SEGMENT") refl, (name_cut (kind_word k) (kind_written k), (name_cut (reloc_word r) (reloc_written r), overlayable_cut overlayable))))
+body_cut at (body.Rseg name) is = (name_cut (codes "RSEG") refl, (name_cut name is.written, tt))
+body_cut at (body.Select k e) is = (name_cut (select_word k) (select_written k), at_cut e is.1)
+body_cut at (body.Equ name e) is = (name_cut name is.1.leaf.written, (name_cut (codes "EQU") refl, expr_cut e [] is.2 tt))
+body_cut at (body.Set name e) is = (name_cut name is.1.leaf.written, (name_cut (codes "SET") refl, expr_cut e [] is.2 tt))
+body_cut at (body.Address name k e) is = (name_cut name is.1.leaf.written, (name_cut (kind_word k) (kind_written k), expr_cut e [] is.3 tt))
+body_cut at (body.Public names) is = (name_cut (codes "PUBLIC") refl, list_cut IsLeafName name_words names_cut names (some_each IsLeafName names is))
+body_cut at (body.Extrn externs) is = (name_cut (codes "EXTRN") refl, list_cut IsExtern extern_words extern_cut externs (some_each IsExtern externs is))
+body_cut at (body.ModuleName name) is = (name_cut (codes "NAME") refl, (name_cut name is.written, tt))

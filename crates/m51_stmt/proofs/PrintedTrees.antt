@@ -1,0 +1,217 @@
+-- A printed expression reads back.
+use Rattle.std.proofs.Common.{◌≡◌, ℕ, zero, suc, ◌+◌, ◌-◌, ◌<◌, ◌≤◌, List, [], ◌∷◌, ◌++◌, length, Option, Some, None, refl, sym, ap, ◌∙◌, arith, subst, append_assoc}
+use Rattle.std.specs.Prelude.{codes}
+use Rattle.m51_cells.specs.Name.{name_of}
+use Rattle.m51_lex.specs.declared.token.Token.{Token}
+use Rattle.m51_lex.specs.declared.token.What.{What}
+use Rattle.m51_lex.specs.declared.token.What.TheVariants as what
+use Rattle.m51_lex.specs.Characters.{space}
+use Rattle.m51_expr.specs.declared.tree.Unary.{Unary}
+use Rattle.m51_expr.specs.declared.tree.Unary.TheVariants as op1
+use Rattle.m51_expr.specs.declared.tree.Binary.{Binary}
+use Rattle.m51_expr.specs.declared.tree.Binary.TheVariants as op2
+use Rattle.m51_expr.specs.declared.symbol.Symbol.{Symbol}
+use Rattle.m51_expr.specs.declared.symbol.Symbol.TheVariants as symbols
+use Rattle.m51_expr.specs.Symbol.{symbol_at, operator_of, word_or_other, word_symbol}
+use Rattle.m51_expr.specs.Tree as tree
+use Rattle.m51_expr.specs.Tree.{Tree}
+use Rattle.m51_expr.specs.Ranks.{prefix_rank, infix_rank, prefix_of, infix_of, infix_operator, of_rank, is_open, is_close, leaf_of}
+use Rattle.m51_expr.specs.Reading.{Line, expression_at}
+use Rattle.m51_expr.specs.Grammar.{Writes, Leaf, Parens, Before, Between, Tighter}
+use Rattle.m51_expr.proofs.Complete.{expression_is}
+use Rattle.m51_stmt.specs.Printing.{word_text, number_text, unary_word, binary_word, expr_text}
+use Rattle.m51_stmt.proofs.LineCuts.{Word, laid, IsCut, AreCut}
+use Rattle.m51_stmt.proofs.Standing.{symbol, first, Stands, symbol_here, behind}
+use Rattle.m51_stmt.proofs.WordCuts.{name_word, number_word, sign_word, name_cut, number_cut, open_cut, close_cut, plus_cut, minus_cut, times_cut, over_cut, dot_cut, here_cut}
+
+-- a name that an expression may have
+pub record IsLeafName (name : List ℕ) : Type 0 where
+  pub written : name_of name ≡ Some name
+  pub leaf : word_symbol name ≡ symbols.Name name
+
+-- a tree that an expression can be read as: its numbers have 16 bits, and its names are written ones
+abbrev pub IsTree : Tree → Type 0
+IsTree (tree.Number n) = n < 65536
+IsTree (tree.Name name) = IsLeafName name
+IsTree tree.Here = Unit {0}
+IsTree (tree.One op e) = IsTree e
+IsTree (tree.Two op left right) = IsTree left × IsTree right
+
+abbrev pub open_word : Word
+open_word = sign_word 0x28
+
+abbrev pub close_word : Word
+close_word = sign_word 0x29
+
+abbrev pub unary_what : Unary → What
+unary_what op1.Plus = what.Sign 0x2B
+unary_what op1.Minus = what.Sign 0x2D
+unary_what op = what.Name
+
+abbrev pub before_word : Unary → Word
+before_word op = record { what = unary_what op; text = unary_word op }
+
+abbrev pub binary_what : Binary → What
+binary_what op2.Mul = what.Sign 0x2A
+binary_what op2.Div = what.Sign 0x2F
+binary_what op2.Add = what.Sign 0x2B
+binary_what op2.Sub = what.Sign 0x2D
+binary_what op2.Dot = what.Sign 0x2E
+binary_what op = what.Name
+
+abbrev pub between_word : Binary → Word
+between_word op = record { what = binary_what op; text = binary_word op }
+
+-- the words of an expression, before other words
+abbrev pub expr_words : Tree → List Word → List Word
+expr_words (tree.Number n) rest = number_word n ∷ rest
+expr_words (tree.Name name) rest = name_word name ∷ rest
+expr_words tree.Here rest = sign_word 0x24 ∷ rest
+expr_words (tree.One op e) rest = open_word ∷ before_word op ∷ expr_words e (close_word ∷ rest)
+expr_words (tree.Two op left right) rest = open_word ∷ expr_words left (between_word op ∷ expr_words right (close_word ∷ rest))
+
+-- a word and a blank, before others
+pub one_laid : (text rest : List ℕ) → text ++ space ∷ rest ≡ word_text text ++ rest
+one_laid text rest = sym (append_assoc text (space ∷ []) rest)
+
+five : (a l b m c r : List ℕ) → a ++ (l ++ (b ++ (m ++ (c ++ r)))) ≡ ((((a ++ l) ++ b) ++ m) ++ c) ++ r
+five a l b m c r = sym (simp append_assoc)
+
+around : (l b m r : List ℕ) → 0x28 ∷ space ∷ (l ++ (b ++ space ∷ (m ++ 0x29 ∷ space ∷ r))) ≡ ((((word_text (codes "(") ++ l) ++ word_text b) ++ m) ++ word_text (codes ")")) ++ r
+around l b m r =
+    ap (λ x. 0x28 ∷ space ∷ (l ++ x)) (sym (append_assoc b (space ∷ []) (m ++ 0x29 ∷ space ∷ r)))
+    ∙ five (word_text (codes "(")) l (word_text b) m (word_text (codes ")")) r
+
+-- these words are the printed text
+pub expr_laid : (e : Tree) (rest : List Word) → laid (expr_words e rest) ≡ expr_text e ++ laid rest
+expr_laid (tree.Number n) rest = one_laid (number_text n) (laid rest)
+expr_laid (tree.Name name) rest = one_laid name (laid rest)
+expr_laid tree.Here rest = refl
+expr_laid (tree.One op e) rest =
+    ap (λ l. 0x28 ∷ space ∷ (unary_word op ++ space ∷ l)) (expr_laid e (close_word ∷ rest)) ∙ simp append_assoc
+expr_laid (tree.Two op left right) rest =
+    ap (λ l. 0x28 ∷ space ∷ l) (expr_laid left (between_word op ∷ expr_words right (close_word ∷ rest)))
+    ∙ ap (λ l. 0x28 ∷ space ∷ (expr_text left ++ (binary_word op ++ space ∷ l))) (expr_laid right (close_word ∷ rest)) ∙ around (expr_text left) (binary_word op) (expr_text right) (laid rest)
+
+before_cut : (op : Unary) → IsCut (before_word op)
+before_cut op1.Plus = plus_cut
+before_cut op1.Minus = minus_cut
+before_cut op1.High = name_cut (codes "HIGH") refl
+before_cut op1.Low = name_cut (codes "LOW") refl
+before_cut op1.Not = name_cut (codes "NOT") refl
+
+between_cut : (op : Binary) → IsCut (between_word op)
+between_cut op2.Mul = times_cut
+between_cut op2.Div = over_cut
+between_cut op2.Add = plus_cut
+between_cut op2.Sub = minus_cut
+between_cut op2.Dot = dot_cut
+between_cut op2.Rem = name_cut (codes "MOD") refl
+between_cut op2.Shl = name_cut (codes "SHL") refl
+between_cut op2.Shr = name_cut (codes "SHR") refl
+between_cut op2.Eq = name_cut (codes "EQ") refl
+between_cut op2.Ne = name_cut (codes "NE") refl
+between_cut op2.Lt = name_cut (codes "LT") refl
+between_cut op2.Le = name_cut (codes "LE") refl
+between_cut op2.Gt = name_cut (codes "GT") refl
+between_cut op2.Ge = name_cut (codes "GE") refl
+between_cut op2.And = name_cut (codes "AND") refl
+between_cut op2.Or = name_cut (codes "OR") refl
+between_cut op2.Xor = name_cut (codes "XOR") refl
+
+pub expr_cut : (e : Tree) (rest : List Word) → IsTree e → AreCut rest → AreCut (expr_words e rest)
+expr_cut (tree.Number n) rest h more = (number_cut n h, more)
+expr_cut (tree.Name name) rest h more = (name_cut name h.written, more)
+expr_cut tree.Here rest h more = (here_cut, more)
+expr_cut (tree.One op e) rest h more = (open_cut, (before_cut op, expr_cut e (close_word ∷ rest) h (close_cut, more)))
+expr_cut (tree.Two op left right) rest h more = (open_cut, expr_cut left (between_word op ∷ expr_words right (close_word ∷ rest)) h.0 (between_cut op, expr_cut right (close_word ∷ rest) h.1 (close_cut, more)))
+
+before_is : (op : Unary) → prefix_of (Some (symbol (before_word op))) (prefix_rank op) ≡ Some op
+unfolding operator_of
+before_is op1.Plus = refl
+before_is op = refl
+
+between_is : (op : Binary) → infix_of (Some (symbol (between_word op))) (infix_rank op) ≡ Some op
+unfolding operator_of
+between_is op2.Mul = refl
+between_is op = refl
+
+prefix_low : (op : Unary) → prefix_rank op ≤ 8
+prefix_low op1.Not = omega arith
+prefix_low op = omega arith
+
+infix_low : (op : Binary) → infix_rank op + 1 ≤ 8
+infix_low op2.Mul = omega arith
+infix_low op = omega arith
+
+loosen : (d : ℕ) {line : Line} {at : ℕ} {e : Tree} {to : ℕ} (tight rank : ℕ) → rank + d ≡ tight → tight ≤ 8 → Writes line tight at e to → Writes line rank at e to
+loosen zero {line} {at} {e} {to} tight rank h le w = let same : tight ≡ rank = omega (arith, h) in subst (λ r. Writes line r at e to) same w
+loosen (suc d) tight rank h le w = Tighter (omega (arith, h, le)) (loosen d tight (rank + 1) (omega (arith, h)) le w)
+
+-- what has a rank is an expression of any looser rank
+looser : {line : Line} {at : ℕ} {e : Tree} {to : ℕ} (tight rank : ℕ) → rank ≤ tight → tight ≤ 8 → Writes line tight at e to → Writes line rank at e to
+looser tight rank le high w = loosen (tight - rank) tight rank (omega (arith, le)) high w
+
+record Written (line : List ℕ) (tokens : List Token) (at : ℕ) (e : Tree) (rest : List Word) : Type 0 where
+  next : ℕ
+  writes : Writes (symbol_at line tokens) 8 at e next
+  then : Stands line tokens next rest
+
+leaf_written : (line : List ℕ) (tokens : List Token) (at : ℕ) (e : Tree) (w : Word) (rest : List Word) → leaf_of (Some (symbol w)) ≡ Some e → Stands line tokens at (w ∷ rest) → Written line tokens at e rest
+leaf_written line tokens at e w rest leaf h = record { next = at + 1; writes = Leaf refl (ap leaf_of (symbol_here h) ∙ leaf) refl; then = behind h }
+
+-- what is printed of a tree is an operand of the grammar
+written : (line : List ℕ) (tokens : List Token) (at : ℕ) (e : Tree) (rest : List Word) → IsTree e → Stands line tokens at (expr_words e rest) → Written line tokens at e rest
+written line tokens at (tree.Number n) rest is h = leaf_written line tokens at (tree.Number n) (number_word n) rest refl h
+written line tokens at (tree.Name name) rest is h = leaf_written line tokens at (tree.Name name) (name_word name) rest (ap (λ o. leaf_of (Some (word_or_other o))) is.written ∙ ap (λ s. leaf_of (Some s)) is.leaf) h
+written line tokens at tree.Here rest is h = leaf_written line tokens at tree.Here (sign_word 0x24) rest refl h
+written line tokens at (tree.One op e) rest is h =
+    let inner = written line tokens (at + 1 + 1) e (close_word ∷ rest) is (behind (behind h)) in
+    let s = symbol_at line tokens in
+    let r = prefix_rank op in
+    let low : r ≤ 8 = prefix_low op in
+    let sign : prefix_of (s (at + 1)) r ≡ Some op = ap (λ o. prefix_of o r) (symbol_here (behind h)) ∙ before_is op in
+    let ranked : Writes s r (at + 1) (tree.One op e) inner.next = Before sign (looser 8 r low (omega arith) inner.writes) in
+    record { next = inner.next + 1; writes = Parens refl (ap is_open (symbol_here h)) (looser r 0 (omega arith) low ranked) (ap is_close (symbol_here inner.then)) refl; then = behind inner.then }
+written line tokens at (tree.Two op left right) rest is h =
+    let l = written line tokens (at + 1) left (between_word op ∷ expr_words right (close_word ∷ rest)) is.0 (behind h) in
+    let m = written line tokens (l.next + 1) right (close_word ∷ rest) is.1 (behind l.then) in
+    let s = symbol_at line tokens in
+    let r = infix_rank op in
+    let low : r + 1 ≤ 8 = infix_low op in
+    let sign : infix_of (s l.next) r ≡ Some op = ap (λ o. infix_of o r) (symbol_here l.then) ∙ between_is op in
+    let ranked : Writes s r (at + 1) (tree.Two op left right) m.next = Between (looser 8 r (omega (arith, low)) (omega arith) l.writes) sign (looser 8 (r + 1) low (omega arith) m.writes) in
+    record { next = m.next + 1; writes = Parens refl (ap is_open (symbol_here h)) (looser r 0 (omega arith) (omega (arith, low)) ranked) (ap is_close (symbol_here m.then)) refl; then = behind m.then }
+
+-- an expression that stands at a place, with the place behind it
+pub record IsRead (line : List ℕ) (tokens : List Token) (at : ℕ) (e : Tree) (rest : List Word) : Type 0 where
+  pub next : ℕ
+  pub reads : expression_at line tokens at ≡ Some (e, next)
+  pub then : Stands line tokens next rest
+
+no_operator : (s : Option Symbol) (r : ℕ) → infix_operator s ≡ None → infix_of s r ≡ None
+no_operator s r h = ap (of_rank infix_rank r) h
+
+-- a printed expression is read, where no operator stands behind it
+pub expr_read : (line : List ℕ) (tokens : List Token) (at : ℕ) (e : Tree) (rest : List Word) → IsTree e → infix_operator (first rest) ≡ None → Stands line tokens at (expr_words e rest) → IsRead line tokens at e rest
+expr_read line tokens at e rest is end h =
+    let w = written line tokens at e rest is h in
+    record {
+      next = w.next;
+      reads = expression_is line tokens at e w.next (record { writes = looser 8 0 (omega arith) (omega arith) w.writes; ends = λ r le. ap (λ o. infix_of o r) (symbol_here w.then) ∙ no_operator (first rest) r end });
+      then = w.then;
+    }
+
+-- a word that is a tree alone is read, where no operator stands behind it
+pub leaf_read : (line : List ℕ) (tokens : List Token) (at : ℕ) (e : Tree) (w : Word) (rest : List Word) → leaf_of (Some (symbol w)) ≡ Some e → infix_operator (first rest) ≡ None → Stands line tokens at (w ∷ rest) → expression_at line tokens at ≡ Some (e, at + 1)
+leaf_read line tokens at e w rest leaf end h =
+    let s = symbol_at line tokens in
+    let writes : Writes s 8 at e (at + 1) = Leaf refl (ap leaf_of (symbol_here h) ∙ leaf) refl in
+    expression_is line tokens at e (at + 1) (record { writes = looser 8 0 (omega arith) (omega arith) writes; ends = λ r le. ap (λ o. infix_of o r) (symbol_here (behind h)) ∙ no_operator (first rest) r end })
+
+pub expr_long : (e : Tree) (rest : List Word) → suc (length rest) ≤ length (expr_words e rest)
+expr_long (tree.Number n) rest = omega arith
+expr_long (tree.Name name) rest = omega arith
+expr_long tree.Here rest = omega arith
+expr_long (tree.One op e) rest = omega (arith, expr_long e (close_word ∷ rest))
+expr_long (tree.Two op left right) rest = omega (arith, expr_long left (between_word op ∷ expr_words right (close_word ∷ rest)), expr_long right (close_word ∷ rest))

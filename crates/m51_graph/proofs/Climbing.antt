@@ -1,0 +1,196 @@
+-- Levels that climb along the edges until each edge leads to a higher one.
+use Rattle.std.proofs.Common.{◌≡◌, ◌≢◌, ◌⊎◌, inl, inr, ℕ, zero, suc, ◌+◌, ◌*◌, ◌<◌, ◌≤◌, true, false, Bool, ◌||◌, List, [], ◌∷◌, ◌++◌, length, take, set, get_or, sum, refl, sym, ap, subst, ◌∙◌, arith, length-append}
+use Rattle.std.proofs.Math.Nat.{mul-suc}
+use Rattle.std.proofs.lemmas.List.{take_more, get_or-set_same, get_or-set_other, length-set}
+use Rattle.std.proofs.lemmas.List.Elements.{Contains-push_cases, Contains-get_or}
+use Rattle.std.proofs.lemmas.List.Sums.{sum_by-set, sum_by-cons}
+use Rattle.std.proofs.lemmas.Bool.{false≢true}
+use Rattle.m51_module.specs.Walks.{Edges, HasEdge, IsWalk, last_of, Reaches}
+use Rattle.m51_module.proofs.Owning.{none_in_empty}
+use Rattle.m51_module.proofs.Units.{same_or_not}
+use Rattle.m51_module.proofs.Reach.{reach_edge, reach_on}
+use Rattle.m51_graph.specs.Leading.{leads}
+use Rattle.m51_graph.specs.Levels.{EndsWalk, IsLevel, AreWalked, AreSettled, IsClimbing, Lifts}
+use Rattle.m51_graph.specs.Marks.{LeadWithin}
+use Rattle.m51_graph.proofs.Deciding.{leads_tells}
+
+abbrev one_if : Bool → ℕ
+one_if true = 1
+one_if false = 0
+
+-- how many numbers below n pass a test
+abbrev tally : (ℕ → Bool) → ℕ → ℕ
+tally p zero = 0
+tally p (suc n) = one_if (p n) + tally p n
+
+tally_le : (p : ℕ → Bool) (n : ℕ) → tally p n ≤ n
+tally_le p zero = omega arith
+tally_le p (suc n) = let h = tally_le p n in elim (p n) as (λ b. one_if b + tally p n ≤ suc n) [ true ↦ omega (arith, h) | false ↦ omega (arith, h) ]
+
+-- a number counts no more under a weaker test
+one_le : (a b : Bool) → (a ≡ true → b ≡ true) → one_if a ≤ one_if b
+one_le true b h = subst (λ c. 1 ≤ one_if c) (sym (h refl)) (omega arith)
+one_le false b h = omega arith
+
+tally_mono : (p q : ℕ → Bool) (n : ℕ) → ((w : ℕ) → p w ≡ true → q w ≡ true) → tally p n ≤ tally q n
+tally_mono p q zero h = omega arith
+tally_mono p q (suc n) h = omega (arith, tally_mono p q n h, one_le (p n) (q n) (h n))
+
+-- nor does it where it passes the weaker one alone: it counts more
+tally_lt : (p q : ℕ → Bool) (n w : ℕ) → w < n → ((u : ℕ) → p u ≡ true → q u ≡ true) → p w ≡ false → q w ≡ true → tally p n < tally q n
+tally_lt p q zero w below h lacks passes = absurd (omega (arith, below))
+tally_lt p q (suc n) w below h lacks passes = elim (same_or_not w n) as (λ _. tally p (suc n) < tally q (suc n)) [
+  | inl e ↦
+      let none : one_if (p n) ≡ 0 = ap one_if (subst (λ m. p m ≡ false) e lacks) in
+      let one : one_if (q n) ≡ 1 = ap one_if (subst (λ m. q m ≡ true) e passes) in
+      omega (arith, tally_mono p q n h, none, one)
+  | inr ne ↦ let less = tally_lt p q n w (omega (arith, below, ne)) h lacks passes in omega (arith, less, one_le (p n) (q n) (h n))
+]
+
+module _ (n : ℕ) (edges : Edges) (within : LeadWithin n edges) (no_cycle : (u : ℕ) → Reaches edges u u → ⊥) where
+  -- how many units reach a unit
+  abbrev rank : ℕ → ℕ
+  rank v = tally (λ w. leads edges w v) n
+
+  not_itself : (u : ℕ) → leads edges u u ≡ false
+  not_itself u = elim (leads edges u u) as (λ b. (b ≡ true → ⊥) → b ≡ false) [ true ↦ λ h. absurd (h refl) | false ↦ λ h. refl ] (λ h. no_cycle u ((leads_tells edges u u).0 h))
+
+  -- more of them along an edge
+  rank_edge : (u v : ℕ) → HasEdge edges u v → rank u < rank v
+  rank_edge u v e = tally_lt (λ w. leads edges w u) (λ w. leads edges w v) n u (within.within u v e).0
+      (λ w h. (leads_tells edges w v).1 (reach_on edges w u v ((leads_tells edges w u).0 h) e))
+      (not_itself u) ((leads_tells edges u v).1 (reach_edge edges u v e))
+
+  rank_walk : (u : ℕ) (more : List ℕ) → IsWalk edges u more → rank u + length more ≤ rank (last_of u more)
+  rank_walk u [] walk = omega arith
+  rank_walk u (v ∷ more) walk = omega (arith, rank_edge u v walk.0, rank_walk v more walk.1)
+
+  -- no walk is longer than there are units
+  pub walk_short : (unit count : ℕ) → EndsWalk edges unit count → count ≤ n
+  walk_short unit count h = omega (arith, rank_walk h.first h.more h.walk, tally_le (λ w. leads edges w (last_of h.first h.more)) n, h.count_is)
+
+walk_on : (edges : Edges) (u : ℕ) (vs : List ℕ) (w : ℕ) → IsWalk edges u vs → HasEdge edges (last_of u vs) w → IsWalk edges u (vs ++ w ∷ [])
+walk_on edges u [] w p h = (h, tt)
+walk_on edges u (v ∷ vs) w p h = (p.0, walk_on edges v vs w p.1 h)
+
+last_on : (u : ℕ) (vs : List ℕ) (w : ℕ) → last_of u (vs ++ w ∷ []) ≡ w
+last_on u [] w = refl
+last_on u (v ∷ vs) w = last_on v vs w
+
+-- a walk that ends in a unit, and then an edge
+ends_on : (edges : Edges) (u v count : ℕ) → EndsWalk edges u count → HasEdge edges u v → EndsWalk edges v (count + 1)
+ends_on edges u v count h e = record {
+  first = h.first;
+  more = h.more ++ v ∷ [];
+  walk = walk_on edges h.first h.more v h.walk (subst (λ x. HasEdge edges x v) (sym h.ends) e);
+  ends = last_on h.first h.more v;
+  count_is = omega (arith, length-append h.more (v ∷ []), h.count_is);
+}
+
+-- at first each level is 0, of the walk without an edge
+pub walked_first : (edges : Edges) (levels : List ℕ) → ((u : ℕ) → u < length levels → get_or levels u 0 ≡ 0) → AreWalked edges levels
+walked_first edges levels zeros = record { walked = λ u below. record { first = u; more = []; walk = tt; ends = refl; count_is = sym (zeros u below) } }
+
+pub climbs_none : (edges : Edges) (levels : List ℕ) → AreWalked edges levels → IsClimbing edges [] levels levels false
+climbs_none edges levels walked = record {
+  len = refl;
+  walked = walked;
+  settled = λ h. record { higher = λ u v e. absurd (none_in_empty (u, v) e) };
+  not_less = omega arith;
+  more = λ h. absurd (false≢true h);
+}
+
+-- a level that rises
+pub climbs_edge : (edges done : Edges) (u v : ℕ) (old new : List ℕ) (rose : Bool) → HasEdge edges u v → u < length new → v < length new
+    → get_or new v 0 < get_or new u 0 + 1 → IsClimbing edges done old new rose
+    → IsClimbing edges (done ++ (u, v) ∷ []) old (set new v (get_or new u 0 + 1)) true
+climbs_edge edges done u v old new rose e in_u in_v less c =
+    let level : ℕ = get_or new u 0 + 1 in
+    let longer : sum (set new v level) + get_or new v 0 ≡ sum new + level = sum_by-set (λ (x : ℕ). x) new v level 0 in_v in
+    let same : length (set new v level) ≡ length new = length-set new v level in
+    record {
+      len = same ∙ c.len;
+      walked = record {
+        walked = λ w below. elim (same_or_not w v) as (λ _. EndsWalk edges w (get_or (set new v level) w 0)) [
+          | inl here ↦ subst (λ x. EndsWalk edges x (get_or (set new v level) x 0)) (sym here) (subst (λ k. EndsWalk edges v k) (sym (get_or-set_same new v level 0 in_v)) (ends_on edges u v (get_or new u 0) (c.walked.walked u in_u) e))
+          | inr other ↦ subst (λ k. EndsWalk edges w k) (sym (get_or-set_other new v w level 0 other)) (c.walked.walked w (omega (arith, below, same)))
+        ];
+      };
+      settled = λ h. absurd (false≢true (sym h));
+      not_less = omega (arith, longer, c.not_less, less);
+      more = λ h. omega (arith, longer, c.not_less, less);
+    }
+
+-- a level that is high enough
+pub climbs_pass : (edges done : Edges) (u v : ℕ) (old new : List ℕ) (rose : Bool) → get_or new u 0 + 1 ≤ get_or new v 0
+    → IsClimbing edges done old new rose → IsClimbing edges (done ++ (u, v) ∷ []) old new rose
+climbs_pass edges done u v old new rose high c = record {
+  len = c.len;
+  walked = c.walked;
+  settled = λ h. record {
+    higher = λ x y e. elim (Contains-push_cases done (u, v) (x, y) e) as (λ _. get_or new x 0 < get_or new y 0) [
+      | inl before ↦ (c.settled h).higher x y before
+      | inr here ↦
+          let from : u ≡ x = ap (λ (p : ℕ × ℕ). p.0) here in
+          let to : v ≡ y = ap (λ (p : ℕ × ℕ). p.1) here in
+          omega (arith, high, ap (λ w. get_or new w 0) from, ap (λ w. get_or new w 0) to)
+    ];
+  };
+  not_less = c.not_less;
+  more = c.more;
+}
+
+-- the next edge of a list
+pub climbs_more : (edges : Edges) (i : ℕ) (d : ℕ × ℕ) (old now new : List ℕ) (rose lifted : Bool) → LeadWithin (length now) edges → i < length edges
+    → Lifts (get_or edges i d).0 (get_or edges i d).1 now new lifted → IsClimbing edges (take i edges) old now rose
+    → IsClimbing edges (take (i + 1) edges) old new (lifted || rose)
+climbs_more edges i d old now new rose true within below h c =
+    let edge : ℕ × ℕ = get_or edges i d in
+    let is : HasEdge edges edge.0 edge.1 = Contains-get_or edges i d below in
+    let inside = within.within edge.0 edge.1 is in
+    subst (λ levels. IsClimbing edges (take (i + 1) edges) old levels true) (sym h.1)
+    (subst (λ (es : Edges). IsClimbing edges es old (set now edge.1 (get_or now edge.0 0 + 1)) true) (sym (take_more edges i d below))
+    (climbs_edge edges (take i edges) edge.0 edge.1 old now rose is inside.0 inside.1 h.0 c))
+climbs_more edges i d old now new rose false within below h c =
+    let edge : ℕ × ℕ = get_or edges i d in
+    subst (λ levels. IsClimbing edges (take (i + 1) edges) old levels rose) (sym h.1)
+    (subst (λ (es : Edges). IsClimbing edges es old now rose) (sym (take_more edges i d below))
+    (climbs_pass edges (take i edges) edge.0 edge.1 old now rose (omega (arith, h.0)) c))
+
+-- a sum of numbers that have a bound
+sum_most : (most : ℕ) (xs : List ℕ) → ((i : ℕ) → i < length xs → get_or xs i 0 ≤ most) → sum xs ≤ most * length xs
+sum_most most [] h = omega arith
+sum_most most (x ∷ xs) h =
+    let rest = sum_most most xs (λ i below. h (suc i) (omega arith)) in
+    let whole : sum (x ∷ xs) ≡ x + sum xs = sum_by-cons (λ (y : ℕ). y) x xs in
+    omega (arith, rest, whole, h 0 (omega arith), mul-suc most (length xs))
+
+module _ (edges : Edges) (levels : List ℕ) (within : LeadWithin (length levels) edges) (no_cycle : (u : ℕ) → Reaches edges u u → ⊥) (walked : AreWalked edges levels) where
+  -- levels are no higher than there are units
+  pub level_most : (unit : ℕ) → unit < length levels → get_or levels unit 0 ≤ length levels
+  level_most unit below = walk_short (length levels) edges within no_cycle unit (get_or levels unit 0) (walked.walked unit below)
+
+  pub levels_most : sum levels ≤ length levels * length levels
+  levels_most = sum_most (length levels) levels level_most
+
+-- where each edge leads to a higher level, no walk has more edges than the level of its end
+module _ (edges : Edges) (levels : List ℕ) (settled : AreSettled edges levels) where
+  climbed : (u : ℕ) (more : List ℕ) → IsWalk edges u more → get_or levels u 0 + length more ≤ get_or levels (last_of u more) 0
+  climbed u [] walk = omega arith
+  climbed u (v ∷ more) walk = omega (arith, settled.higher u v walk.0, climbed v more walk.1)
+
+  pub level_is : (unit : ℕ) → AreWalked edges levels → unit < length levels → IsLevel edges unit (get_or levels unit 0)
+  level_is unit walked below = record {
+    longest = walked.walked unit below;
+    most = λ count h. omega (arith, climbed h.first h.more h.walk, h.count_is, ap (λ u. get_or levels u 0) h.ends);
+  }
+
+-- both ends of an edge of the list are within
+pub record Ends (count : ℕ) (edge : ℕ × ℕ) : Type 0 where
+  pub from : edge.0 < count
+  pub to : edge.1 < count
+
+pub ends_within : (count i : ℕ) (d : ℕ × ℕ) (edges : Edges) → LeadWithin count edges → i < length edges → Ends count (get_or edges i d)
+ends_within count i d edges within below =
+    let both = within.within (get_or edges i d).0 (get_or edges i d).1 (Contains-get_or edges i d below) in
+    record { from = both.0; to = both.1 }

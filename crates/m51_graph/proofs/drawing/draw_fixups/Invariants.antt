@@ -1,0 +1,9 @@
+use Rattle.std.proofs.Common.{◌≡◌, drop}
+use Rattle.std.specs.List.{filter_map}
+use Rattle.m51_graph.specs.Drawing.{fixup_edge, with_edges}
+use Rattle.m51_graph.proofs.drawing.draw_fixups.Given as goal
+
+abbrev pub invariant-loop-fixup : goal.invariant-loop-fixup
+invariant-loop-fixup l =
+    with_edges l.edges.items (filter_map (fixup_edge l.joined l.«module») (drop l.fixup-index l.fixup-items))
+    ≡ with_edges l.fn.edges.items (filter_map (fixup_edge l.joined l.«module») l.parts.fixups)

@@ -1,0 +1,12 @@
+pub mod Bounded
+pub mod Drawing
+pub mod Graph
+pub mod Graphs
+pub mod Laws
+pub mod Leading
+pub mod Levels
+pub mod Lines
+pub mod Locals
+pub mod Marks
+pub mod Relating
+pub mod Units

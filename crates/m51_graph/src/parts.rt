@@ -1,0 +1,23 @@
+//! The parts of a graph.
+use m51_cells::ListOf;
+use m51_module::{Pairs, Units};
+
+/// For each joined segment the unit that owns it, where it is overlaid.
+///
+/// Source: own choice ("Lists in types").
+pub type SegmentOwners = ListOf<Option<u16>>;
+
+/// The parts of a graph. Units and joined segments are counted from 0.
+///
+/// Source: RL51 guide.
+#[derive(Drop)]
+pub struct GraphParts {
+    /// The joined number of each unit, ascending.
+    pub units: Units,
+    /// Each edge: the unit that it leaves and the unit that it leads to.
+    pub edges: Pairs,
+    /// Each root: the address of its vector, and the unit.
+    pub roots: Pairs,
+    /// For each joined segment its unit, where it is overlaid.
+    pub owners: SegmentOwners,
+}

@@ -1,0 +1,135 @@
+//! The units of joined segments: their numbers, their titles and the roots among them.
+ghost use Rattle.std.specs.Prelude.{◌≡◌, ◌<◌, ◌≤◌, IfOk, IfSome, length, nat_eq};
+ghost use Rattle.std.specs.List.{list_any};
+ghost use Rattle.m51_module.specs.Roots.{vectors};
+ghost use Rattle.m51_graph.specs.Units.{is_absolute, is_code, is_root, named, roots_of, unit_titles, units_of};
+
+use crate::relating::VECTORS;
+use m51_cells::{Kind, Name, NoMemory, Reloc};
+use m51_resolve::JoinedSegment;
+use std::alloc::{AllocError, Global};
+
+// Whether the kind is CODE.
+fn is_code(kind: Kind) -> bool
+    ensures { result ≡ is_code kind }
+{
+    match kind {
+        Kind::Code => true,
+        _ => false,
+    }
+}
+
+/// Whether the type is that of absolute segments.
+///
+/// Source: RL51 guide.
+pub fn is_absolute(reloc: Reloc) -> bool
+    ensures { result ≡ is_absolute reloc }
+{
+    match reloc {
+        Reloc::Abs => true,
+        _ => false,
+    }
+}
+
+/// The joined number of each unit: the segments of program memory are the units, in joined order.
+///
+/// Source: RL51 guide.
+pub fn unit_numbers(alloc: Global, segments: &[JoinedSegment]) -> Result<Vec<u16>, NoMemory>
+    requires { length segments.now ≤ 2000 }
+    ensures { IfOk result (λ units. units.items ≡ units_of segments.now) }
+{
+    let mut units = Vec::new(alloc);
+    for (number, segment) in segments.iter().enumerate() {
+        if is_code(segment.kind) {
+            units.push(number as u16)?;
+        }
+    }
+    Ok(units)
+}
+
+// The titles of those that are units.
+fn code_titles(alloc: Global, segments: &[JoinedSegment]) -> Result<Vec<Name>, AllocError>
+    ensures { IfOk result (λ titles. titles.items ≡ unit_titles segments.now) }
+{
+    segments
+        .iter()
+        .filter(|segment| is_code(segment.kind))
+        .map(|segment| segment.title)
+        .collect(alloc)
+}
+
+/// The title of each unit.
+///
+/// Source: RL51 guide.
+pub fn unit_titles(alloc: Global, segments: &[JoinedSegment]) -> Result<Vec<Name>, NoMemory>
+    ensures { IfOk result (λ titles. titles.items ≡ unit_titles segments.now) }
+{
+    Ok(code_titles(alloc, segments)?)
+}
+
+/// A place among units or their titles, as the number of the unit.
+///
+/// Source: own choice ("Units").
+pub fn as_unit(place: Option<usize>) -> Option<u16>
+    requires { IfSome place (λ p. p < 65536) }
+    ensures { result ≡ place }
+{
+    match place {
+        Some(unit) => Some(unit as u16),
+        None => None,
+    }
+}
+
+// The place of the first of the titles that is this one.
+fn place_named(titles: &[Name], name: &Name) -> Option<usize>
+    ensures place { result ≡ named titles.now name.now }
+    ensures inside { IfSome result (λ place. place < length titles.now) }
+{
+    titles
+        .iter()
+        .position(|title| title.bytes() == name.bytes())
+}
+
+/// The first unit of that title.
+///
+/// Source: own choice ("Units").
+pub fn named(titles: &[Name], name: &Name) -> Option<u16>
+    requires { length titles.now ≤ 1000 }
+    ensures { result ≡ named titles.now name.now }
+{
+    as_unit(place_named(titles, name))
+}
+
+// Whether the reset or an interrupt begins at the address.
+fn is_vector(address: u16) -> bool
+    ensures { result ≡ list_any (nat_eq address) vectors }
+{
+    VECTORS.iter().any(|vector| address == *vector)
+}
+
+// Whether the segment, which is a unit, is a root.
+fn is_root(segment: &JoinedSegment) -> bool
+    ensures { result ≡ is_root segment.now }
+{
+    is_absolute(segment.reloc) && is_vector(segment.base)
+}
+
+/// The vector and the unit of each root.
+///
+/// Source: own choice ("Roots").
+pub fn roots(alloc: Global, segments: &[JoinedSegment]) -> Result<Vec<(u16, u16)>, NoMemory>
+    requires { length segments.now ≤ 2000 }
+    ensures { IfOk result (λ roots. roots.items ≡ roots_of segments.now) }
+{
+    let mut roots = Vec::new(alloc);
+    let mut unit = 0;
+    for segment in segments {
+        if is_code(segment.kind) {
+            if is_root(segment) {
+                roots.push((segment.base, unit))?;
+            }
+            unit += 1;
+        }
+    }
+    Ok(roots)
+}

@@ -1,0 +1,4 @@
+pub mod Accepting
+pub mod Answering
+pub mod Following
+pub mod LibraryLaws

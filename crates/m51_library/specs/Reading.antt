@@ -1,0 +1,53 @@
+-- Reading a library, with the first refusal.
+use Rattle.std.specs.Prelude.{ℕ, zero, suc, ◌+◌, nat_le, List, [], ◌∷◌, length, Result, Ok, Err}
+use Rattle.m51_module.specs.declared.library_error.LibError.{LibError}
+use Rattle.m51_module.specs.declared.library_error.LibError.TheVariants.{Object, Memory}
+use Rattle.m51_module.specs.declared.object_error.ObjError.{ObjError}
+use Rattle.m51_module.specs.declared.object_error.ObjError.TheVariants.{O3, Memory as NoRoom}
+use Rattle.m51_module.specs.declared.parts.ModuleParts.{ModuleParts}
+use Rattle.m51_module.specs.Library.{and_then, built}
+use Rattle.m51_records.specs.Fields.{◌>>=◌, place, pair_at, checked, ended}
+use Rattle.m51_records.specs.Reading.{one_at, module_at}
+use Rattle.m51_records.specs.Spelling.{records_in}
+
+-- the contents of the first record: the number of modules, at most 255
+unfoldable pub count_in : ℕ → List ℕ → Result ℕ ObjError
+count_in end contents = do
+  count ← pair_at end contents
+  few ← checked (nat_le count.0 255) end contents count.0
+  ended end count.1 few
+
+-- So many modules, one after another, and the bytes after them. They end with the file, at its total length, and the next
+-- record has that number.
+unfoldable pub modules_at : ℕ → ℕ → ℕ → List ℕ → Result (List ModuleParts × List ℕ) ObjError
+modules_at zero total number bytes = Ok ([], bytes)
+modules_at (suc more) total number bytes = do
+  one ← module_at total number bytes
+  others ← modules_at more total (number + records_in one.0) one.1
+  Ok (one.0 ∷ others.0, others.1)
+
+-- nothing follows: else O3 at the first byte that does
+abbrev pub at_end : {A : Type 0} → ℕ → List ℕ → A → Result A ObjError
+at_end total [] value = Ok value
+at_end total (byte ∷ rest) value = Err (O3 (place total (byte ∷ rest)))
+
+-- the modules of a file: their number, and then they and nothing else
+unfoldable pub modules_of : List ℕ → Result (List ModuleParts) ObjError
+modules_of file = do
+  count ← one_at 0x2C count_in (length file) 0 file
+  modules ← modules_at count.0 (length file) 1 count.1
+  at_end (length file) modules.1 modules.0
+
+-- an error of the bytes as one of the library: want of memory stays what it is
+abbrev pub refused_by : ObjError → LibError
+refused_by NoRoom = Memory
+refused_by refusal = Object refusal
+
+-- what refuses the bytes refuses the library
+abbrev pub or_object : {A : Type 0} → Result A ObjError → Result A LibError
+or_object (Ok value) = Ok value
+or_object (Err refusal) = Err (Object refusal)
+
+-- each refusal of the bytes comes first; then the modules make a library as if they were added one by one
+abbrev pub library_of : List ℕ → Result (List ModuleParts) LibError
+library_of file = and_then (or_object (modules_of file)) built

@@ -1,0 +1,35 @@
+-- Names that differ from those before, as a test and as a fact.
+use Rattle.std.proofs.Common.{◌≡◌, ◌≢◌, ℕ, ◌<◌, Bool, true, false, List, [], ◌∷◌, get_or, length, refl, sym, ap, ◌∙◌, All}
+use Rattle.std.specs.Prelude.{not}
+use Rattle.std.specs.List.{list_any}
+use Rattle.std.proofs.lemmas.List.Folds.{list_any_none, list_any_at}
+use Rattle.m51_cells.specs.Name.{IsWritten}
+use Rattle.m51_records.specs.Fields.{same}
+use Rattle.m51_records.proofs.FieldLaws.{same_is, same_of}
+
+pub false_of : (b : Bool) → b ≢ true → b ≡ false
+false_of true ne = absurd (ne refl)
+false_of false ne = refl
+
+pub not_true : (b : Bool) → not b ≡ true → b ≢ true
+not_true true e = λ h. cc
+not_true false e = λ h. cc
+
+pub not_of : (b : Bool) → b ≢ true → not b ≡ true
+not_of b ne = ap not (false_of b ne)
+
+module _ {X : Type 0} (name_in : X → List ℕ) (name : List ℕ) where
+  -- the element has the name
+  abbrev pub has : X → Bool
+  has x = same (name_in x) name
+
+  pub all_other : (xs : List X) → not (list_any has xs) ≡ true → All (λ x. name_in x ≢ name) xs
+  all_other xs h k d below = λ e. not_true (list_any has xs) h (list_any_at has xs k d below (same_of (name_in (get_or xs k d)) name e))
+
+  pub none_has : (xs : List X) → All (λ x. name_in x ≢ name) xs → not (list_any has xs) ≡ true
+  none_has xs h = ap not (list_any_none has xs (λ k d below. false_of (has (get_or xs k d)) (λ e. h k d below (same_is (name_in (get_or xs k d)) name e))))
+
+-- a written name has a byte
+pub some_byte : (name : List ℕ) → IsWritten name → name ≢ []
+some_byte [] h = λ e. cc
+some_byte (b ∷ name) h = λ e. cc

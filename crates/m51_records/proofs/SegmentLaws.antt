@@ -1,0 +1,210 @@
+-- The record of a segment: what is read is written so, what is written is read, and both are valid together.
+use Rattle.std.proofs.Common.{◌≡◌, ◌≢◌, ℕ, zero, suc, ◌+◌, ◌*◌, ◌/◌, ◌%◌, ◌<◌, ◌≤◌, Bool, true, false, cond, eqb, ltb, List, [], ◌∷◌, ◌++◌, length, get_or, Option, Some, None, Result, Ok, Err, refl, sym, ap, subst, ◌∙◌, append_assoc, arith, All, AllPairs, length-append}
+use Rattle.std.specs.Prelude.{not, ◌&&◌, ◌||◌, nat_le, nat_lt}
+use Rattle.std.specs.List.{list_any}
+use Rattle.std.proofs.lemmas.Bool.{eqb-true, eq-eqb, leb-true, le-leb, lt-ltb, ltb-true}
+use Rattle.std.proofs.lemmas.List.{append-nil}
+use Rattle.std.proofs.lemmas.List.Folds.{list_any_none, list_any_at}
+use Rattle.m51_cells.specs.declared.kind.Kind.{Kind}
+use Rattle.m51_cells.specs.declared.kind.Kind.TheVariants.{Code, Xdata, Direct, Idata, Bits, Number}
+use Rattle.m51_cells.specs.declared.kind.Reloc.{Reloc}
+use Rattle.m51_cells.specs.declared.kind.Reloc.TheVariants.{Abs, Unit as UnitType, Bitaddressable, Inpage, Inblock as InblockType, Page}
+use Rattle.m51_cells.specs.Fits.{allows, Fits}
+use Rattle.m51_cells.specs.Name.{IsWritten, name_of}
+use Rattle.m51_module.specs.declared.object_error.ObjError.{ObjError}
+use Rattle.m51_module.specs.declared.segment.Segment.{Segment}
+use Rattle.m51_module.specs.Validity.{largest, IsAbsolute, IsRelocatable, IsSegmentValid, Differ}
+use Rattle.m51_records.specs.Codes.{kind_number, kind_of, reloc_number, reloc_of, same_kind, is_absolute}
+use Rattle.m51_records.specs.Fields.{◌>>=◌, checked, or_broken, byte_at, pair, pair_at, text_field, text_at, same, upper_name, ended}
+use Rattle.m51_records.specs.Segments.{flags_of, flag_of, segment_contents, segment_kind_at, reloc_at, may_overlay, overlay_at, base_at, limit, is_placed, is_size, size_at, names_segment, no_text, segment_name, is_new, segment_name_at, segment_in}
+use Rattle.m51_records.proofs.Placing.{ends_from_fits, fits_from_ends}
+use Rattle.m51_records.proofs.Tools.{bind_ok, on_ok, ok_is, some_is, checked_ok, broken_ok, ended_ok, both, all_push, all_front, all_last, pairs_push, pairs_front, pairs_last}
+use Rattle.m51_records.proofs.FieldLaws.{IsBytes, pair_read, pair_takes, text_read, text_takes, same_is, same_of, upper_takes, upper_read, kind_takes, kind_read, reloc_takes, reloc_read, same_kind_is, same_kind_of}
+
+-- what the tests of the reader say of a segment, behind those before it
+pub record IsTested (before : List Segment) (s : Segment) : Type 0 where
+  pub few : nat_lt (length before) 254 ≡ true
+  pub kind : not (same_kind s.kind Number) ≡ true
+  pub reloc : allows s.kind s.reloc ≡ true
+  pub overlay : (not s.overlay || may_overlay s.kind s.reloc) ≡ true
+  pub base : (is_absolute s.reloc || eqb s.base 0) ≡ true
+  pub size : is_size s.kind s.reloc s.base s.size ≡ true
+  pub name : segment_name s.reloc s.name ≡ Some s.name
+  pub new : is_new before s.reloc s.name ≡ true
+
+-- ---- fields
+
+kind_field : (end : ℕ) (bytes : List ℕ) (y : Kind × List ℕ) → segment_kind_at end bytes ≡ Ok y → (bytes ≡ kind_number y.0 ∷ y.1) × (not (same_kind y.0 Number) ≡ true)
+unfolding segment_kind_at
+kind_field end [] y e = absurd cc
+kind_field end (n ∷ rest) y e =
+    let a = bind_ok (or_broken (kind_of n) end (n ∷ rest)) (λ kind. checked (not (same_kind kind Number)) end (n ∷ rest) (kind, rest)) y e in
+    let b = checked_ok (not (same_kind a.0 Number)) end (n ∷ rest) (a.0, rest) y a.2 in
+    subst (λ (y : Kind × List ℕ). (n ∷ rest ≡ kind_number y.0 ∷ y.1) × (not (same_kind y.0 Number) ≡ true)) b.1
+    (ap (λ m. m ∷ rest) (kind_takes n a.0 (broken_ok (kind_of n) end (n ∷ rest) a.0 a.1)), b.0)
+
+kind_again : (end : ℕ) (k : Kind) (rest : List ℕ) → not (same_kind k Number) ≡ true → segment_kind_at end (kind_number k ∷ rest) ≡ Ok (k, rest)
+unfolding segment_kind_at
+kind_again end k rest h = rw (kind_read k, h) refl
+
+reloc_field : (kind : Kind) (end : ℕ) (bytes : List ℕ) (y : Reloc × List ℕ) → reloc_at kind end bytes ≡ Ok y → (bytes ≡ reloc_number y.0 ∷ y.1) × (allows kind y.0 ≡ true)
+unfolding reloc_at
+reloc_field kind end [] y e = absurd cc
+reloc_field kind end (n ∷ rest) y e =
+    let a = bind_ok (or_broken (reloc_of n) end (n ∷ rest)) (λ reloc. checked (allows kind reloc) end (n ∷ rest) (reloc, rest)) y e in
+    let b = checked_ok (allows kind a.0) end (n ∷ rest) (a.0, rest) y a.2 in
+    subst (λ (y : Reloc × List ℕ). (n ∷ rest ≡ reloc_number y.0 ∷ y.1) × (allows kind y.0 ≡ true)) b.1
+    (ap (λ m. m ∷ rest) (reloc_takes n a.0 (broken_ok (reloc_of n) end (n ∷ rest) a.0 a.1)), b.0)
+
+reloc_again : (kind : Kind) (end : ℕ) (r : Reloc) (rest : List ℕ) → allows kind r ≡ true → reloc_at kind end (reloc_number r ∷ rest) ≡ Ok (r, rest)
+unfolding reloc_at
+reloc_again kind end r rest h = rw (reloc_read r, h) refl
+
+flag_takes : (n : ℕ) (o : Bool) → flag_of n ≡ Some o → n ≡ flags_of o
+flag_takes zero o e = ap flags_of (some_is false o e)
+flag_takes (suc zero) o e = ap flags_of (some_is true o e)
+flag_takes (suc (suc n)) o e = absurd cc
+
+flag_read : (o : Bool) → flag_of (flags_of o) ≡ Some o
+flag_read true = refl
+flag_read false = refl
+
+overlay_field : (kind : Kind) (reloc : Reloc) (end : ℕ) (bytes : List ℕ) (y : Bool × List ℕ) → overlay_at kind reloc end bytes ≡ Ok y → (bytes ≡ flags_of y.0 ∷ y.1) × ((not y.0 || may_overlay kind reloc) ≡ true)
+unfolding overlay_at
+overlay_field kind reloc end [] y e = absurd cc
+overlay_field kind reloc end (n ∷ rest) y e =
+    let a = bind_ok (or_broken (flag_of n) end (n ∷ rest)) (λ o. checked (not o || may_overlay kind reloc) end (n ∷ rest) (o, rest)) y e in
+    let b = checked_ok (not a.0 || may_overlay kind reloc) end (n ∷ rest) (a.0, rest) y a.2 in
+    subst (λ (y : Bool × List ℕ). (n ∷ rest ≡ flags_of y.0 ∷ y.1) × ((not y.0 || may_overlay kind reloc) ≡ true)) b.1
+    (ap (λ m. m ∷ rest) (flag_takes n a.0 (broken_ok (flag_of n) end (n ∷ rest) a.0 a.1)), b.0)
+
+overlay_again : (kind : Kind) (reloc : Reloc) (end : ℕ) (o : Bool) (rest : List ℕ) → (not o || may_overlay kind reloc) ≡ true → overlay_at kind reloc end (flags_of o ∷ rest) ≡ Ok (o, rest)
+unfolding overlay_at
+overlay_again kind reloc end o rest h = rw (flag_read o, h) refl
+
+-- a number of two bytes that is tested
+pub pair_field : (test : ℕ → Bool) (end : ℕ) (bytes : List ℕ) (y : ℕ × List ℕ) → IsBytes bytes → (pair_at end bytes >>= λ n. checked (test n.0) end bytes n) ≡ Ok y → (bytes ≡ pair y.0 ++ y.1) × IsBytes y.1 × (test y.0 ≡ true)
+pair_field test end bytes y fits e =
+    let a = bind_ok (pair_at end bytes) (λ n. checked (test n.0) end bytes n) y e in
+    let b = checked_ok (test a.0.0) end bytes a.0 y a.2 in
+    let p = pair_takes end bytes a.0 fits a.1 in
+    subst (λ (y : ℕ × List ℕ). (bytes ≡ pair y.0 ++ y.1) × IsBytes y.1 × (test y.0 ≡ true)) b.1 (p.0, p.1, b.0)
+
+pub pair_tested : (test : ℕ → Bool) (end n : ℕ) (rest : List ℕ) → test n ≡ true → (pair_at end (pair n ++ rest) >>= λ m. checked (test m.0) end (pair n ++ rest) m) ≡ Ok (n, rest)
+pair_tested test end n rest h = ap (λ r. r >>= λ m. checked (test m.0) end (pair n ++ rest) m) (pair_read end n rest) ∙ rw h refl
+
+base_field : (reloc : Reloc) (end : ℕ) (bytes : List ℕ) (y : ℕ × List ℕ) → IsBytes bytes → base_at reloc end bytes ≡ Ok y → (bytes ≡ pair y.0 ++ y.1) × IsBytes y.1 × ((is_absolute reloc || eqb y.0 0) ≡ true)
+unfolding base_at
+base_field reloc end bytes y fits e = pair_field (λ n. is_absolute reloc || eqb n 0) end bytes y fits e
+
+base_again : (reloc : Reloc) (end n : ℕ) (rest : List ℕ) → (is_absolute reloc || eqb n 0) ≡ true → base_at reloc end (pair n ++ rest) ≡ Ok (n, rest)
+unfolding base_at
+base_again reloc end n rest h = pair_tested (λ n. is_absolute reloc || eqb n 0) end n rest h
+
+size_field : (kind : Kind) (reloc : Reloc) (base end : ℕ) (bytes : List ℕ) (y : ℕ × List ℕ) → IsBytes bytes → size_at kind reloc base end bytes ≡ Ok y → (bytes ≡ pair y.0 ++ y.1) × IsBytes y.1 × (is_size kind reloc base y.0 ≡ true)
+unfolding size_at
+size_field kind reloc base end bytes y fits e = pair_field (λ n. is_size kind reloc base n) end bytes y fits e
+
+size_again : (kind : Kind) (reloc : Reloc) (base end n : ℕ) (rest : List ℕ) → is_size kind reloc base n ≡ true → size_at kind reloc base end (pair n ++ rest) ≡ Ok (n, rest)
+unfolding size_at
+size_again kind reloc base end n rest h = pair_tested (λ n. is_size kind reloc base n) end n rest h
+
+-- the last field is a name that is tested twice: by a table, and by those before it
+pub name_field : (table : List ℕ → Option (List ℕ)) (test : List ℕ → Bool) (end : ℕ) (bytes name : List ℕ) → ((text name : List ℕ) → table text ≡ Some name → text ≡ name)
+    → (text_at end bytes >>= λ text. or_broken (table text.0) end bytes >>= λ name. checked (test name) end bytes name >>= λ new. ended end text.1 new) ≡ Ok name
+    → (bytes ≡ text_field name) × (table name ≡ Some name) × (test name ≡ true)
+name_field table test end bytes name itself e =
+    let a = bind_ok (text_at end bytes) (λ text. or_broken (table text.0) end bytes >>= λ name. checked (test name) end bytes name >>= λ new. ended end text.1 new) name e in
+    let b = bind_ok (or_broken (table a.0.0) end bytes) (λ name. checked (test name) end bytes name >>= λ new. ended end a.0.1 new) name a.2 in
+    let c = bind_ok (checked (test b.0) end bytes b.0) (λ new. ended end a.0.1 new) name b.2 in
+    let d = checked_ok (test b.0) end bytes b.0 c.0 c.1 in
+    let f = ended_ok end a.0.1 c.0 name c.2 in
+    let written : table a.0.0 ≡ Some b.0 = broken_ok (table a.0.0) end bytes b.0 b.1 in
+    let text : a.0.0 ≡ b.0 = itself a.0.0 b.0 written in
+    let whole : bytes ≡ text_field b.0 = text_takes end bytes a.0 a.1 ∙ ap (λ (r : List ℕ). text_field a.0.0 ++ r) f.0 ∙ append-nil (text_field a.0.0) ∙ ap text_field text in
+    subst (λ n. (bytes ≡ text_field n) × (table n ≡ Some n) × (test n ≡ true)) (d.1 ∙ f.1) (whole, subst (λ t. table t ≡ Some b.0) text written, d.0)
+
+pub name_tested : (table : List ℕ → Option (List ℕ)) (test : List ℕ → Bool) (end : ℕ) (name : List ℕ) → table name ≡ Some name → test name ≡ true
+    → (text_at end (text_field name) >>= λ text. or_broken (table text.0) end (text_field name) >>= λ n. checked (test n) end (text_field name) n >>= λ new. ended end text.1 new) ≡ Ok name
+name_tested table test end name h k =
+    let read : text_at end (text_field name) ≡ Ok (name, []) = ap (text_at end) (sym (append-nil (text_field name))) ∙ text_read end name [] in
+    ap (λ r. r >>= λ text. or_broken (table text.0) end (text_field name) >>= λ n. checked (test n) end (text_field name) n >>= λ new. ended end text.1 new) read ∙ rw (h, k) refl
+
+no_text_takes : (text name : List ℕ) → no_text text ≡ Some name → text ≡ name
+no_text_takes [] name e = some_is [] name e
+no_text_takes (b ∷ text) name e = absurd cc
+
+segment_name_takes : (reloc : Reloc) (text name : List ℕ) → segment_name reloc text ≡ Some name → text ≡ name
+segment_name_takes Abs text name e = no_text_takes text name e
+segment_name_takes UnitType text name e = (upper_takes text name e).0
+segment_name_takes Bitaddressable text name e = (upper_takes text name e).0
+segment_name_takes Inpage text name e = (upper_takes text name e).0
+segment_name_takes InblockType text name e = (upper_takes text name e).0
+segment_name_takes Page text name e = (upper_takes text name e).0
+
+segment_name_field : (before : List Segment) (reloc : Reloc) (end : ℕ) (bytes name : List ℕ) → segment_name_at before reloc end bytes ≡ Ok name → (bytes ≡ text_field name) × (segment_name reloc name ≡ Some name) × (is_new before reloc name ≡ true)
+unfolding segment_name_at
+segment_name_field before reloc end bytes name e = name_field (segment_name reloc) (is_new before reloc) end bytes name (segment_name_takes reloc) e
+
+segment_name_again : (before : List Segment) (reloc : Reloc) (end : ℕ) (name : List ℕ) → segment_name reloc name ≡ Some name → is_new before reloc name ≡ true → segment_name_at before reloc end (text_field name) ≡ Ok name
+unfolding segment_name_at
+segment_name_again before reloc end name h k = name_tested (segment_name reloc) (is_new before reloc) end name h k
+
+-- ---- the record
+
+-- what is shown of what was read
+abbrev Taken : List Segment → List ℕ → Segment → Type 0
+Taken before bytes s = (bytes ≡ segment_contents s) × IsTested before s
+
+segment_built : (before : List Segment) (end : ℕ) (bytes : List ℕ) (kind : Kind) (r1 : List ℕ) (reloc : Reloc) (r2 : List ℕ) (overlay : Bool) (r3 : List ℕ) (base : ℕ) (r4 : List ℕ) (size : ℕ) (r5 : List ℕ) (name : List ℕ)
+    → IsBytes bytes → nat_lt (length before) 254 ≡ true → segment_kind_at end bytes ≡ Ok (kind, r1) → reloc_at kind end r1 ≡ Ok (reloc, r2) → overlay_at kind reloc end r2 ≡ Ok (overlay, r3)
+    → base_at reloc end r3 ≡ Ok (base, r4) → size_at kind reloc base end r4 ≡ Ok (size, r5) → segment_name_at before reloc end r5 ≡ Ok name
+    → Taken before bytes (record { name = name; kind = kind; reloc = reloc; overlay = overlay; base = base; size = size })
+segment_built before end bytes kind r1 reloc r2 overlay r3 base r4 size r5 name fits few e1 e2 e3 e4 e5 e6 =
+    let kf = kind_field end bytes (kind, r1) e1 in
+    let fits1 : (kind_number kind < 256) × IsBytes r1 = subst IsBytes kf.0 fits in
+    let rf = reloc_field kind end r1 (reloc, r2) e2 in
+    let fits2 : (reloc_number reloc < 256) × IsBytes r2 = subst IsBytes rf.0 fits1.1 in
+    let vf = overlay_field kind reloc end r2 (overlay, r3) e3 in
+    let fits3 : (flags_of overlay < 256) × IsBytes r3 = subst IsBytes vf.0 fits2.1 in
+    let bf = base_field reloc end r3 (base, r4) fits3.1 e4 in
+    let zf = size_field kind reloc base end r4 (size, r5) bf.1 e5 in
+    let nf = segment_name_field before reloc end r5 name e6 in
+    let t5 : r4 ≡ pair size ++ text_field name = zf.0 ∙ ap (λ (t : List ℕ). pair size ++ t) nf.0 in
+    let t4 : r3 ≡ pair base ++ (pair size ++ text_field name) = bf.0 ∙ ap (λ (t : List ℕ). pair base ++ t) t5 in
+    let t3 : r2 ≡ flags_of overlay ∷ (pair base ++ (pair size ++ text_field name)) = vf.0 ∙ ap (λ (t : List ℕ). flags_of overlay ∷ t) t4 in
+    let t2 : r1 ≡ reloc_number reloc ∷ flags_of overlay ∷ (pair base ++ (pair size ++ text_field name)) = rf.0 ∙ ap (λ (t : List ℕ). reloc_number reloc ∷ t) t3 in
+    let whole : bytes ≡ kind_number kind ∷ reloc_number reloc ∷ flags_of overlay ∷ (pair base ++ (pair size ++ text_field name)) = kf.0 ∙ ap (λ (t : List ℕ). kind_number kind ∷ t) t2 in
+    (whole, record { few = few; kind = kf.1; reloc = rf.1; overlay = vf.1; base = bf.2; size = zf.2; name = nf.1; new = nf.2 })
+
+pub segment_takes : (before : List Segment) (end : ℕ) (bytes : List ℕ) (s : Segment) → IsBytes bytes → segment_in before end bytes ≡ Ok s → (bytes ≡ segment_contents s) × IsTested before s
+unfolding segment_in
+segment_takes before end bytes s fits e =
+    on_ok (checked (nat_lt (length before) 254) end bytes bytes) _ s (Taken before bytes s) (λ all e0 h0.
+    let few = checked_ok (nat_lt (length before) 254) end bytes bytes all e0 in
+    on_ok (segment_kind_at end all) _ s (Taken before bytes s) (λ kind e1 h1.
+    on_ok (reloc_at kind.0 end kind.1) _ s (Taken before bytes s) (λ reloc e2 h2.
+    on_ok (overlay_at kind.0 reloc.0 end reloc.1) _ s (Taken before bytes s) (λ overlay e3 h3.
+    on_ok (base_at reloc.0 end overlay.1) _ s (Taken before bytes s) (λ base e4 h4.
+    on_ok (size_at kind.0 reloc.0 base.0 end base.1) _ s (Taken before bytes s) (λ size e5 h5.
+    on_ok (segment_name_at before reloc.0 end size.1) _ s (Taken before bytes s) (λ name e6 h6.
+    let made : Segment = record { name = name; kind = kind.0; reloc = reloc.0; overlay = overlay.0; base = base.0; size = size.0 } in
+    subst (Taken before bytes) (ok_is made s h6)
+    (segment_built before end bytes kind.0 kind.1 reloc.0 reloc.1 overlay.0 overlay.1 base.0 base.1 size.0 size.1 name fits few.0
+    (ap (segment_kind_at end) few.1 ∙ e1) e2 e3 e4 e5 e6)) h5) h4) h3) h2) h1) h0) e
+
+pub segment_again : (before : List Segment) (end : ℕ) (s : Segment) → IsTested before s → segment_in before end (segment_contents s) ≡ Ok s
+unfolding segment_in
+segment_again before end s t =
+    let names = text_field s.name in
+    let sizes = pair s.size ++ names in
+    let bases = pair s.base ++ sizes in
+    rw (
+      t.few,
+      kind_again end s.kind (reloc_number s.reloc ∷ flags_of s.overlay ∷ bases) t.kind,
+      reloc_again s.kind end s.reloc (flags_of s.overlay ∷ bases) t.reloc,
+      overlay_again s.kind s.reloc end s.overlay bases t.overlay,
+      base_again s.reloc end s.base sizes t.base,
+      size_again s.kind s.reloc s.base end s.size names t.size,
+      segment_name_again before s.reloc end s.name t.name t.new,
+    ) refl

@@ -1,0 +1,11 @@
+pub mod Codes
+pub mod Fields
+pub mod Frame
+pub mod Ends
+pub mod Segments
+pub mod Externals
+pub mod Publics
+pub mod Contents
+pub mod Fixups
+pub mod Spelling
+pub mod Reading

@@ -1,0 +1,29 @@
+//! Writes modules as object files, and reads them again.
+#![tactic(auto)]
+
+mod codes;
+mod end;
+mod external;
+mod fields;
+mod fixup;
+mod frame;
+mod header;
+mod laws;
+mod names;
+mod numbered;
+mod piece;
+mod public;
+mod reading;
+mod sections;
+mod segment;
+mod writing;
+
+pub use fields::{broken, pair_at, place, put_pair};
+pub use frame::{checksum_place, put_record, record_at};
+pub use laws::{one_number, one_spelling};
+pub use m51_module::ObjError;
+pub use reading::{module_at, read_module};
+pub use writing::write_module;
+
+#[cfg(test)]
+mod tests;

@@ -1,0 +1,116 @@
+//! Reads a module: its records in their order.
+ghost use Rattle.std.specs.Prelude.{◌≡◌, ◌<◌, ◌≤◌, ◌+◌, ◌-◌, ◌^◌, ◌++◌, ℕ, List, IfOk, Ok, length, take, drop};
+ghost use Rattle.m51_module.specs.declared.parts.ModuleParts.{ModuleParts};
+ghost use Rattle.m51_module.specs.Validity.{IsValid};
+ghost use Rattle.m51_records.specs.Fields.{Reads};
+ghost use Rattle.m51_records.specs.Reading.{module_at, read_of};
+ghost use Rattle.m51_records.specs.Spelling.{bytes_of, records_in};
+
+use crate::end::{END, read_end};
+use crate::fixup::Surroundings;
+use crate::frame::{checksum_place, record_at};
+use crate::header::{HEADER, read_header};
+use crate::sections::{externals_at, fixups_at, pieces_at, publics_at, segments_at};
+use m51_cells::{ListOf, Name};
+use m51_module::{Module, ModuleParts, ObjError};
+use std::alloc::Global;
+
+// The parts of the module at the front of the bytes, the number of the record after it, and the bytes after it.
+#[tactic(auto, unfolding(crate::specs::Reading::module_at, crate::specs::Reading::one_at))]
+fn parts_at(
+    alloc: Global,
+    total: u32,
+    number: u32,
+    bytes: &[u8],
+) -> Result<(ModuleParts, u32, &[u8]), ObjError>
+    requires { number + length bytes.now < 2 ^ 32 }
+    ensures value { Reads (λ x. (x.0, x.2.now)) result (module_at total number bytes.now) }
+    ensures counted { IfOk result (λ x. x.1 ≡ number + records_in x.0) }
+    ensures few { IfOk result (λ x. x.1 + length x.2.now ≤ number + length bytes.now) }
+    ensures shorter { IfOk result (λ x. length x.2.now < length bytes.now) }
+{
+    let (contents, rest) = record_at(HEADER, total, number, bytes)?;
+    let name = read_header(checksum_place(total, rest), contents)?;
+    let number = number + 1;
+    let (segments, rest) = segments_at(alloc, total, number, rest)?;
+    let number = number + segments.len() as u32;
+    let (externals, rest) = externals_at(alloc, total, number, rest)?;
+    let number = number + externals.len() as u32;
+    let (publics, rest) = publics_at(alloc, &segments, total, number, rest)?;
+    let number = number + publics.len() as u32;
+    let (pieces, rest) = pieces_at(alloc, &segments, total, number, rest)?;
+    let number = number + pieces.len() as u32;
+    let around = Surroundings {
+        segments: &segments,
+        externals: &externals,
+        pieces: &pieces,
+    };
+    let (fixups, rest) = fixups_at(alloc, &around, total, number, rest)?;
+    let number = number + fixups.len() as u32;
+    let (contents, rest) = record_at(END, total, number, rest)?;
+    let banks = read_end(&name, checksum_place(total, rest), contents)?;
+    let parts = ModuleParts {
+        name,
+        segments: ListOf::of(segments),
+        publics: ListOf::of(publics),
+        externals: ListOf::of(externals),
+        pieces: ListOf::of(pieces),
+        fixups: ListOf::of(fixups),
+        banks,
+    };
+    Ok((parts, number + 1, rest))
+}
+
+/// The module at the front of the bytes, the bytes after it, and the number of the record after it. The bytes end with the
+/// file, at its total length, and the first record of the module has that number.
+///
+/// Errors: O1 to O5, the first test that fails, record by record and in a record field by field, with its place in the
+/// file; want of memory.
+///
+/// Source: OMF-51.
+pub fn module_at(
+    alloc: Global,
+    total: u32,
+    number: u32,
+    bytes: &[u8],
+) -> Result<(Module, &[u8], u32), ObjError>
+    requires { number + length bytes.now < 2 ^ 32 }
+    // The module and the bytes after it, or the first refusal.
+    ensures value { Reads (λ x. (x.0, x.1.now)) result (module_at total number bytes.now) }
+    // What is read is spelled so.
+    ensures spelled { IfOk result (λ x. IsValid x.0 × (bytes.now ≡ bytes_of x.0 ++ x.1.now)) }
+    // The number goes on by the records of the module, and a record has more than one byte.
+    ensures next { IfOk result (λ x. x.2 ≡ number + records_in x.0) }
+    ensures few { IfOk result (λ x. x.2 + length x.1.now ≤ number + length bytes.now) }
+    ensures shorter { IfOk result (λ x. length x.1.now < length bytes.now) }
+{
+    let (parts, next, rest) = parts_at(alloc, total, number, bytes)?;
+    Ok((Module::make(parts), rest, next))
+}
+
+// The module at the front of a file, and the length of its spelling.
+fn front_of(alloc: Global, bytes: &[u8]) -> Result<(Module, usize), ObjError>
+    requires { length bytes.now < 2 ^ 32 }
+    ensures exact { Reads (λ x. x) result (read_of bytes.now) }
+    ensures found { IfOk result (λ x. IsValid x.0 × (take x.1 bytes.now ≡ bytes_of x.0)) }
+{
+    let (module, rest, _) = module_at(alloc, bytes.len() as u32, 0, bytes)?;
+    Ok((module, bytes.len() - rest.len()))
+}
+
+/// The module at the front of an object file, and the length of its spelling; bytes may follow it.
+///
+/// Errors: O1 to O5, the first test that fails, record by record and in a record field by field; want of memory.
+///
+/// Source: OMF-51.
+pub fn read_module(alloc: Global, bytes: &[u8]) -> Result<(Module, usize), ObjError>
+    requires { length bytes.now < 2 ^ 32 }
+    // The module and the length of its spelling, or the first refusal.
+    ensures exact { Reads (λ x. x) result (read_of bytes.now) }
+    // What is read is spelled so.
+    ensures found { IfOk result (λ x. IsValid x.0 × (take x.1 bytes.now ≡ bytes_of x.0)) }
+    // What is spelled so is read.
+    ensures only { (m : ModuleParts) (rest : List ℕ) → IsValid m → bytes.now ≡ bytes_of m ++ rest → Reads (λ x. x) result (Ok (m, length (bytes_of m))) }
+{
+    front_of(alloc, bytes)
+}

@@ -1,0 +1,91 @@
+-- Segments that are parts of one.
+use Rattle.std.proofs.Common.{◌≡◌, Bool, true, false, cond, ◌&&◌, ◌||◌, List, [], ◌∷◌, ◌++◌, refl, sym, ap, ◌∙◌}
+use Rattle.std.specs.List.{filter, list_any}
+use Rattle.std.specs.Str.{bytes_eq}
+use Rattle.std.proofs.lemmas.List.Folds.{list_any-append}
+use Rattle.std.proofs.lemmas.Slice.Eq.{bytes_eq-Decides}
+use Rattle.m51_module.specs.declared.segment.Segment.{Segment}
+use Rattle.m51_resolve.specs.Joining.{are_parts, is_relocatable}
+
+-- what is not true is false
+pub not_true : (x : Bool) → (x ≡ true → ⊥) → x ≡ false
+not_true true h = absurd (h refl)
+not_true false h = refl
+
+pub or_true : (x : Bool) → (x || true) ≡ true
+or_true true = refl
+or_true false = refl
+
+-- neither is true
+pub none_of : (x y : Bool) → (x || y) ≡ false → (x ≡ false) × (y ≡ false)
+none_of true y h = cc
+none_of false y h = (refl, h)
+
+-- both are relocatable, and they have one name
+pub record HaveOneName (a b : Segment) : Type 0 where
+  pub first : is_relocatable a.reloc ≡ true
+  pub second : is_relocatable b.reloc ≡ true
+  pub name : a.name ≡ b.name
+
+all_true : (x y z : Bool) → (x && y && z) ≡ true → (x ≡ true) × (y ≡ true) × (z ≡ true)
+all_true true true true h = (refl, refl, refl)
+all_true true true false h = cc
+all_true true false z h = cc
+all_true false y z h = cc
+
+pub parts_have : (a b : Segment) → are_parts a b ≡ true → HaveOneName a b
+parts_have a b h =
+    let p = all_true (is_relocatable a.reloc) (is_relocatable b.reloc) (bytes_eq a.name b.name) h in
+    record { first = p.0; second = p.1; name = (bytes_eq-Decides a.name b.name).0 p.2 }
+
+-- a relocatable segment is a part of the same as itself
+pub part_self : (a : Segment) → is_relocatable a.reloc ≡ true → are_parts a a ≡ true
+part_self a h =
+    let same : bytes_eq a.name a.name ≡ true = (bytes_eq-Decides a.name a.name).1 refl in
+    ap (λ b. b && b && bytes_eq a.name a.name) h ∙ same
+
+-- parts of one are parts with the same segments
+pub same_parts : (a b : Segment) → are_parts a b ≡ true → (y : Segment) → are_parts a y ≡ are_parts b y
+same_parts a b h y =
+    let p = parts_have a b h in
+    ap (λ r. r && is_relocatable y.reloc && bytes_eq a.name y.name) (p.first ∙ sym p.second)
+    ∙ ap (λ n. is_relocatable b.reloc && is_relocatable y.reloc && bytes_eq n y.name) p.name
+
+pub parts_back : (a b : Segment) → are_parts a b ≡ true → are_parts b a ≡ true
+parts_back a b h = sym (same_parts a b h a) ∙ part_self a (parts_have a b h).first
+
+pub apart_back : (a b : Segment) → are_parts a b ≡ false → are_parts b a ≡ false
+apart_back a b h = not_true (are_parts b a) (λ e. let k = parts_back b a e in cc)
+
+-- so they find the same among any
+pub any_same : (a b : Segment) → are_parts a b ≡ true → (ys : List Segment) → list_any (are_parts a) ys ≡ list_any (are_parts b) ys
+any_same a b h [] = refl
+any_same a b h (y ∷ ys) = ap (λ r. r || list_any (are_parts a) ys) (same_parts a b h y) ∙ ap (λ r. are_parts b y || r) (any_same a b h ys)
+
+pub filter_same : (a b : Segment) → are_parts a b ≡ true → (ys : List Segment) → filter (are_parts a) ys ≡ filter (are_parts b) ys
+filter_same a b h [] = refl
+filter_same a b h (y ∷ ys) =
+    ap (λ r. cond r (y ∷ filter (are_parts a) ys) (filter (are_parts a) ys)) (same_parts a b h y)
+    ∙ ap (λ r. cond (are_parts b y) (y ∷ r) r) (filter_same a b h ys)
+
+-- an absolute segment is a part with none
+pub absolute_apart : (a : Segment) → is_relocatable a.reloc ≡ false → (y : Segment) → are_parts a y ≡ false
+absolute_apart a h y = ap (λ r. r && is_relocatable y.reloc && bytes_eq a.name y.name) h
+
+pub absolute_none : (a : Segment) → is_relocatable a.reloc ≡ false → (ys : List Segment) → list_any (are_parts a) ys ≡ false
+absolute_none a h [] = refl
+absolute_none a h (y ∷ ys) = ap (λ r. r || list_any (are_parts a) ys) (absolute_apart a h y) ∙ absolute_none a h ys
+
+-- where none passes, none is left
+pub filter_none : (p : Segment → Bool) (ys : List Segment) → list_any p ys ≡ false → filter p ys ≡ []
+filter_none p [] h = refl
+filter_none p (y ∷ ys) h =
+    let k = none_of (p y) (list_any p ys) h in
+    ap (λ r. cond r (y ∷ filter p ys) (filter p ys)) k.0 ∙ filter_none p ys k.1
+
+-- one passes that passed before, or the last
+pub any_more : (p : Segment → Bool) (xs ys : List Segment) → list_any p xs ≡ true → list_any p (xs ++ ys) ≡ true
+any_more p xs ys h = list_any-append p xs ys ∙ ap (λ b. b || list_any p ys) h
+
+pub any_last : (p : Segment → Bool) (xs : List Segment) (x : Segment) → p x ≡ true → list_any p (xs ++ x ∷ []) ≡ true
+any_last p xs x h = list_any-append p xs (x ∷ []) ∙ ap (λ b. list_any p xs || (b || false)) h ∙ or_true (list_any p xs)

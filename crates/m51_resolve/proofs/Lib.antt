@@ -1,0 +1,16 @@
+pub mod Alike
+pub mod Answering
+pub mod Entries
+pub mod FirstSight
+pub mod JoinLoop
+pub mod JoinSteps
+pub mod Lookups
+pub mod OneOfEach
+pub mod Numbering
+pub mod Outcomes
+pub mod Positions
+pub mod Sharing
+pub mod Starts
+pub mod Tables
+pub mod Taking
+pub mod Within

@@ -1,0 +1,22 @@
+-- Where none is found.
+use Rattle.std.proofs.Common.{◌≡◌, ℕ, suc, ◌+◌, ◌<◌, Bool, true, false, cond, not, ◌||◌, List, [], ◌∷◌, length, ap, arith, Some, None}
+use Rattle.std.specs.Prelude.{nat_lt, position}
+use Rattle.std.specs.List.{list_any, position_or_len}
+use Rattle.std.proofs.lemmas.Bool.Decides.{Decides-ltb}
+use Rattle.m51_resolve.proofs.Alike.{not_true}
+
+within_by : (b r : Bool) (n l : ℕ) → (b || r) ≡ true → (r ≡ true → n < l) → cond (not b) (1 + n) 0 < suc l
+within_by true r n l h k = omega arith
+within_by false r n l h k = let q = k h in omega arith
+
+within : {X : Type 0} (p : X → Bool) (xs : List X) → list_any p xs ≡ true → position_or_len p xs < length xs
+within p [] h = cc
+within p (x ∷ xs) h = within_by (p x) (list_any p xs) (position_or_len p xs) (length xs) h (within p xs)
+
+-- where none is found, none passes
+pub none_found : {X : Type 0} (p : X → Bool) (xs : List X) → position p xs ≡ None → list_any p xs ≡ false
+none_found p xs h = not_true (list_any p xs) (λ e.
+    let n = position_or_len p xs in
+    let inside : nat_lt n (length xs) ≡ true = (Decides-ltb n (length xs)).1 (within p xs e) in
+    let found : position p xs ≡ Some n = ap (λ b. cond b (Some n) None) inside in
+    cc)

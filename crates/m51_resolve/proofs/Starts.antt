@@ -1,0 +1,63 @@
+-- The items of all modules in one list.
+use Rattle.std.proofs.Common.{◌≡◌, ◌⊎◌, inl, inr, ℕ, zero, suc, ◌+◌, ◌*◌, ◌<◌, ◌≤◌, List, [], ◌∷◌, ◌++◌, length, take, get_or, refl, sym, ap, ◌∙◌, arith, length-append}
+use Rattle.std.specs.Prelude.{flat_map, slice_index}
+use Rattle.std.proofs.lemmas.List.{append-nil, take_more}
+use Rattle.std.proofs.lemmas.List.Concat.{flat_map-append}
+use Rattle.std.proofs.Math.ListN.{get_or-append}
+use Rattle.std.proofs.Math.Seq.{get_or-append_seam}
+use Rattle.m51_module.specs.declared.parts.ModuleParts.{ModuleParts}
+use Rattle.m51_module.specs.declared.segment.Segment.{Segment}
+use Rattle.m51_resolve.specs.Kept.{AreStarts}
+
+-- the items of so many of the modules are there, and where those of each begin
+pub record AreFlat {A : Type 0} (items : ModuleParts → List A) (modules : List ModuleParts) (count : ℕ) (all : List A) (starts : List ℕ) : Type 0 where
+  pub few : count ≤ length modules
+  pub flat : all ≡ flat_map items (take count modules)
+  pub len : length starts ≡ count
+  pub each : (m : ℕ) → m < count → slice_index starts m ≡ length (flat_map items (take m modules))
+
+pub record AreSegmentsOf (modules : List ModuleParts) (count : ℕ) (all : List Segment) (starts : List ℕ) : Type 0 where
+  pub are : AreFlat (λ m. m.segments) modules count all starts
+  pub most : length all ≤ 254 * count
+
+below_or_last : (m count : ℕ) → m < count + 1 → (m < count) ⊎ (m ≡ count)
+below_or_last m zero h = inr (omega (arith, h))
+below_or_last zero (suc count) h = inl (omega arith)
+below_or_last (suc m) (suc count) h = elim (below_or_last m count (omega (arith, h))) as (λ d. (suc m < suc count) ⊎ (suc m ≡ suc count)) [
+  | inl below ↦ inl (omega (arith, below))
+  | inr last ↦ inr (ap suc last)
+]
+
+pub flat_start : {A : Type 0} (items : ModuleParts → List A) (modules : List ModuleParts) → AreFlat items modules 0 [] []
+flat_start items modules = record { few = omega arith; flat = refl; len = refl; each = λ m below. absurd (omega (arith, below)) }
+
+-- the items of one module more
+pub flat_more : {A : Type 0} (items : ModuleParts → List A) (modules : List ModuleParts) (count : ℕ) (all : List A) (starts : List ℕ) (m : ModuleParts) (start : ℕ)
+    → AreFlat items modules count all starts → count < length modules → m ≡ get_or modules count m → start ≡ length all
+    → AreFlat items modules (count + 1) (all ++ items m) (starts ++ start ∷ [])
+flat_more {A} items modules count all starts m start h below is start_is =
+    let more : take (count + 1) modules ≡ take count modules ++ m ∷ [] = take_more modules count m below ∙ ap (λ x. take count modules ++ x ∷ []) (sym is) in
+    record {
+      few = omega arith;
+      flat = ap (λ xs. xs ++ items m) h.flat ∙ ap (λ xs. flat_map items (take count modules) ++ xs) (sym (append-nil (items m)))
+          ∙ sym (flat_map-append items (take count modules) (m ∷ [])) ∙ ap (flat_map items) (sym more);
+      len = omega (arith, h.len, length-append starts (start ∷ []));
+      each = λ k inside. elim (below_or_last k count inside) as (λ _. slice_index (starts ++ start ∷ []) k ≡ length (flat_map items (take k modules))) [
+        | inl less ↦ get_or-append starts (start ∷ []) 0 k (omega (arith, less, h.len)) ∙ h.each k less
+        | inr last ↦ ap (λ n. slice_index (starts ++ start ∷ []) n) (last ∙ sym h.len) ∙ get_or-append_seam starts start [] 0
+            ∙ start_is ∙ ap length h.flat ∙ ap (λ n. length (flat_map items (take n modules))) (sym last)
+      ];
+    }
+
+take_whole : {A : Type 0} (xs : List A) → take (length xs) xs ≡ xs
+take_whole [] = refl
+take_whole (x ∷ xs) = ap (λ ys. x ∷ ys) (take_whole xs)
+
+-- all of them
+pub flat_all : {A : Type 0} (items : ModuleParts → List A) (modules : List ModuleParts) (count : ℕ) (all : List A) (starts : List ℕ) → AreFlat items modules count all starts
+    → length modules ≤ count → (all ≡ flat_map items modules) × AreStarts items modules starts
+flat_all items modules count all starts h past =
+    let whole : count ≡ length modules = omega (arith, h.few, past) in (
+      h.flat ∙ ap (λ n. flat_map items (take n modules)) whole ∙ ap (flat_map items) (take_whole modules),
+      record { len = h.len ∙ whole; each = λ m below. h.each m (omega (arith, below, whole)) },
+    )

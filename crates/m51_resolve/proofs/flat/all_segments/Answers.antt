@@ -1,0 +1,29 @@
+use Rattle.std.proofs.Common.{arith, ◌<◌, ◌≤◌, ◌≡◌, ◌*◌, ◌+◌, ◌++◌, length, length-append}
+use Rattle.m51_resolve.proofs.Starts.{flat_all, flat_more, flat_start}
+use Rattle.m51_resolve.proofs.flat.all_segments.Goals as goal
+
+pub loop-module-init : goal.loop-module-init
+loop-module-init c =
+    rw (c.new-items.ensures.items, c.new-starts.ensures.items) (record { are = flat_start (λ m. m.segments) c.args.modules.now; most = omega arith })
+
+pub loop-module-preserved : goal.loop-module-preserved
+loop-module-preserved c =
+    let there : c.loop-module.module-index < length c.args.modules.now = omega arith in
+    let start : c.len.result ≡ length c.loop-module.items.items = omega arith in
+    let most : length (c.loop-module.items.items ++ c.module-item.result.segments) ≤ 254 * (c.loop-module.module-index + 1) =
+    omega (arith, length-append c.loop-module.items.items c.module-item.result.segments, c.loop-module.invariant.most, c.segments.ensures.valid.few_segments) in
+    rw (c.in_ok-extend_from_slice.ensures.items, c.segments.ensures.list, c.in_ok-push.ensures.items)
+    (record {
+      are = flat_more (λ m. m.segments) c.args.modules.now c.loop-module.module-index c.loop-module.items.items c.loop-module.starts.items c.module-item.result c.len.result
+          c.loop-module.invariant.are there c.module-item.is start;
+      most = most;
+    })
+
+pub returns-clause-all : goal.returns-clause-all
+returns-clause-all c = (flat_all _ _ _ _ _ c.loop-module.invariant.are c.loop-module-test.false).0
+
+pub returns-clause-starts : goal.returns-clause-starts
+returns-clause-starts c = (flat_all _ _ _ _ _ c.loop-module.invariant.are c.loop-module-test.false).1
+
+pub returns-clause-few : goal.returns-clause-few
+returns-clause-few c = omega (arith, c.loop-module.invariant.most, c.loop-module.invariant.are.few)

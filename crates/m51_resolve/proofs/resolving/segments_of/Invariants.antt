@@ -1,0 +1,6 @@
+use Rattle.std.proofs.Common.{◌≡◌, map, take}
+use Rattle.m51_resolve.specs.Growth.{joined_as}
+use Rattle.m51_resolve.proofs.resolving.segments_of.Given as goal
+
+abbrev pub invariant-loop-joined : goal.invariant-loop-joined
+invariant-loop-joined l = l.segments.items ≡ map joined_as (take l.joined-index l.growing)

@@ -1,0 +1,141 @@
+-- The rules that the chosen modules must meet, and the refusal of the first that they do not.
+use Rattle.std.specs.Prelude.{◌≡◌, ℕ, ◌≤◌, Bool, true, false, not, ◌&&◌, if◌then◌else◌, nat_lt, List, [], ◌∷◌, ◌++◌, length, filter, find, is_none, Option, Some, None, option_map, Result, Ok, Err}
+use Rattle.std.specs.List.{list_all}
+use Rattle.std.specs.Option.{option_or}
+use Rattle.m51_cells.specs.declared.kind.Kind.{Kind}
+use Rattle.m51_cells.specs.declared.kind.Kind.TheVariants.{Code, Direct, Idata, Bits}
+use Rattle.m51_cells.specs.declared.kind.Reloc.{Reloc}
+use Rattle.m51_cells.specs.declared.kind.Reloc.TheVariants.{Abs, Unit as UnitType, Bitaddressable, Inpage, Inblock, Page}
+use Rattle.m51_module.specs.declared.linked.Quantity.{Quantity}
+use Rattle.m51_module.specs.declared.linked.Quantity.TheVariants.{Modules, Segments, Units}
+use Rattle.m51_module.specs.declared.linked.Refusal.{Refusal}
+use Rattle.m51_module.specs.declared.linked.Refusal.TheVariants.{L1, L2, L3, L4, L5, Limit, Memory}
+use Rattle.m51_module.specs.declared.parts.ModuleParts.{ModuleParts}
+use Rattle.m51_module.specs.declared.segment.Segment.{Segment}
+use Rattle.m51_module.specs.declared.symbol.External.{External}
+use Rattle.m51_module.specs.Library.{defines}
+use Rattle.m51_resolve.specs.Choice.{chosen_of, members_of}
+use Rattle.m51_resolve.specs.Joining.{all_segments, firsts, parts_with, segments_of}
+use Rattle.m51_resolve.specs.Publics.{all_externals, definition_of, kinds_agree, same_kind}
+use Rattle.m51_resolve.specs.declared.publics.Definition.{Definition}
+use Rattle.m51_resolve.specs.declared.segment.JoinedSegment.{JoinedSegment}
+
+-- L1: the first public of the modules behind these that another chosen module, before or after, defines too
+abbrev pub shared_behind : List ModuleParts → List ModuleParts → Option (List ℕ)
+shared_behind before [] = None
+shared_behind before (m ∷ after) =
+    option_or (option_map (λ p. p.name) (find (λ p. defines (before ++ after) p.name) m.publics)) (shared_behind (before ++ m ∷ []) after)
+
+abbrev pub shared_public : List ModuleParts → Option (List ℕ)
+shared_public modules = shared_behind [] modules
+
+-- L2: the first external that no chosen module defines
+abbrev pub is_undefined : List ModuleParts → External → Bool
+is_undefined modules e = is_none (definition_of modules e.name)
+
+abbrev pub undefined_external : List ModuleParts → Option (List ℕ)
+undefined_external modules = option_map (λ e. e.name) (find (is_undefined modules) (all_externals modules))
+
+-- L3: the first external whose kind does not agree with that of its public
+abbrev pub is_against : Kind → Option Definition → Bool
+is_against kind None = false
+is_against kind (Some found) = not (kinds_agree kind found.kind)
+
+abbrev pub is_contrary : List ModuleParts → External → Bool
+is_contrary modules e = is_against e.kind (definition_of modules e.name)
+
+abbrev pub contrary_external : List ModuleParts → Option (List ℕ)
+contrary_external modules = option_map (λ e. e.name) (find (is_contrary modules) (all_externals modules))
+
+-- whether the types are the same, and whether the marks OVERLAYABLE are
+abbrev pub same_reloc : Reloc → Reloc → Bool
+same_reloc Abs Abs = true
+same_reloc UnitType UnitType = true
+same_reloc Bitaddressable Bitaddressable = true
+same_reloc Inpage Inpage = true
+same_reloc Inblock Inblock = true
+same_reloc Page Page = true
+same_reloc _ _ = false
+
+abbrev pub same_mark : Bool → Bool → Bool
+same_mark true two = two
+same_mark false two = not two
+
+-- two parts agree in kind, type and OVERLAYABLE
+abbrev pub parts_agree : Segment → Segment → Bool
+parts_agree one two = same_kind one.kind two.kind && same_reloc one.reloc two.reloc && same_mark one.overlay two.overlay
+
+-- L4: the first joined segment whose parts differ: not all agree with the one that is seen first
+abbrev pub is_mixed : List Segment → Segment → Bool
+is_mixed all s = not (list_all (parts_agree s) (parts_with all s))
+
+abbrev pub mixed_segment : List ModuleParts → Option (List ℕ)
+mixed_segment modules = option_map (λ s. s.name) (find (is_mixed (all_segments modules)) (firsts (all_segments modules)))
+
+-- the most bytes, for BIT bits, that a joined segment has
+abbrev pub most_of : Kind → Reloc → ℕ
+most_of Direct Bitaddressable = 16
+most_of Direct _ = 128
+most_of Bits _ = 128
+most_of Idata _ = 256
+most_of _ Inpage = 256
+most_of _ Inblock = 2048
+most_of _ _ = 65535
+
+-- L5: the first joined segment that is larger
+abbrev pub is_too_large : JoinedSegment → Bool
+is_too_large j = nat_lt (most_of j.kind j.reloc) j.size
+
+abbrev pub large_segment : List ModuleParts → Option (List ℕ)
+large_segment modules = option_map (λ j. j.title) (find is_too_large (segments_of modules))
+
+-- the units: the joined segments of program memory
+abbrev pub units_of : List ModuleParts → List JoinedSegment
+units_of modules = filter (λ j. same_kind j.kind Code) (segments_of modules)
+
+-- there are more than so many
+abbrev pub more_than : ℕ → Quantity → ℕ → Option Refusal
+more_than most what count = if nat_lt most count then Some (Limit what) else None
+
+-- the first refusal of these
+abbrev pub first_of : List (Option Refusal) → Option Refusal
+first_of [] = None
+first_of (rule ∷ more) = option_or rule (first_of more)
+
+-- The rules in their order.
+abbrev pub refusal_of : List ModuleParts → Option Refusal
+refusal_of modules = first_of (
+    more_than 255 Modules (length modules)
+    ∷ option_map L1 (shared_public modules)
+    ∷ option_map L2 (undefined_external modules)
+    ∷ option_map L3 (contrary_external modules)
+    ∷ option_map L4 (mixed_segment modules)
+    ∷ more_than 2000 Segments (length (segments_of modules))
+    ∷ more_than 1000 Units (length (units_of modules))
+    ∷ option_map L5 (large_segment modules)
+    ∷ [])
+
+-- the refusal, or the modules where there is none
+abbrev pub unless_refused : List ModuleParts → Option Refusal → Result (List ModuleParts) Refusal
+unless_refused modules None = Ok modules
+unless_refused modules (Some refusal) = Err refusal
+
+-- What resolving answers: the chosen modules, or the refusal of the first rule that fails.
+abbrev pub resolved_of : List ModuleParts → List (List ModuleParts) → Result (List ModuleParts) Refusal
+resolved_of given libraries = let chosen = chosen_of given (members_of libraries) in unless_refused chosen (refusal_of chosen)
+
+-- an error as the refusal that it is, or none for want of memory
+abbrev pub but_memory : Refusal → Option Refusal
+but_memory Memory = None
+but_memory refusal = Some refusal
+
+-- the modules meet each rule
+pub record AreResolved (modules : List ModuleParts) : Type 0 where
+  pub few_modules : length modules ≤ 255
+  pub publics : shared_public modules ≡ None
+  pub externals : undefined_external modules ≡ None
+  pub kinds : contrary_external modules ≡ None
+  pub parts : mixed_segment modules ≡ None
+  pub few_segments : length (segments_of modules) ≤ 2000
+  pub few_units : length (units_of modules) ≤ 1000
+  pub sizes : large_segment modules ≡ None

@@ -1,0 +1,86 @@
+//! Modules that are chosen and joined.
+ghost use Rattle.std.specs.Prelude.{◌≡◌, IsSome};
+ghost use Rattle.m51_resolve.specs.Joining.{segments_of, segment_at, part_of};
+ghost use Rattle.m51_resolve.specs.Publics.{external_at, public_of};
+ghost use Rattle.m51_resolve.specs.Rules.{AreResolved};
+
+use crate::JoinedSegment;
+use crate::joining::Part;
+use crate::publics::Definition;
+use m51_module::Module;
+use std::marker::Model;
+
+/// The chosen modules of a link, which meet its first rules, and their joined segments. Contracts see the list of the
+/// chosen modules; what else there is, is a function of it.
+///
+/// Source: RL51 guide.
+#[derive(Drop)]
+pub struct Joined {
+    pub(crate) modules: Vec<Module>,
+    pub(crate) segments: Vec<JoinedSegment>,
+    pub(crate) segment_starts: Vec<usize>,
+    pub(crate) parts: Vec<Part>,
+    pub(crate) external_starts: Vec<usize>,
+    pub(crate) publics: Vec<Definition>,
+}
+
+impl Model for Joined {
+    ghost use Rattle.std.specs.Prelude.{List};
+    ghost use Rattle.m51_module.specs.declared.parts.ModuleParts.{ModuleParts};
+    ghost use Rattle.m51_resolve.specs.Kept.{AreKept};
+
+    ghost Value = { List ModuleParts };
+
+    ghost view = { λ j. j.modules.items };
+
+    ghost invariant = { λ j. AreKept j.modules.items j.segments.items j.segment_starts.items j.parts.items j.external_starts.items j.publics.items };
+}
+
+impl Joined {
+    /// The chosen modules, in order of choice: at most 255.
+    ///
+    /// Source: RL51 guide.
+    pub fn modules(&self) -> &[Module]
+        ensures list { result.now ≡ self.now }
+        ensures resolved { AreResolved self.now }
+    {
+        &self.modules
+    }
+
+    /// The joined segments, in order of first sight over modules and their segments: at most 2,000, of which at most 1,000
+    /// are of program memory.
+    ///
+    /// Source: RL51 guide.
+    pub fn segments(&self) -> &[JoinedSegment]
+        ensures list { result.now ≡ segments_of self.now }
+        ensures resolved { AreResolved self.now }
+    {
+        &self.segments
+    }
+
+    /// The part of a joined segment that a segment is: the number of the joined segment, from 0, and the offset of the
+    /// part in it, in bytes, for BIT in bits. The module is counted from 0, the segment from 1, and both are there.
+    ///
+    /// Source: RL51 guide.
+    pub fn part(&self, module: u8, segment: u8) -> (u16, u16)
+        requires { IsSome (segment_at self.now «module» segment) }
+        ensures { result ≡ part_of self.now «module» segment }
+    {
+        let start = self.segment_starts[usize::from(module)];
+        let part = &self.parts[start + usize::from(segment) - 1];
+        (part.number as u16, part.offset as u16)
+    }
+
+    /// The public that resolves an external: its module, from 0, and its place among the publics there, from 0. The module
+    /// of the external is counted from 0, the external from 1, and both are there.
+    ///
+    /// Source: RL51 guide.
+    pub fn public_of(&self, module: u8, external: u8) -> (u8, usize)
+        requires { IsSome (external_at self.now «module» external) }
+        ensures { result ≡ public_of self.now «module» external }
+    {
+        let start = self.external_starts[usize::from(module)];
+        let found = &self.publics[start + usize::from(external) - 1];
+        (found.number as u8, found.place)
+    }
+}

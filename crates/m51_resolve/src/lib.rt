@@ -1,0 +1,23 @@
+//! Chooses the modules of a link, and joins their segments.
+#![tactic(auto)]
+
+mod choosing;
+mod flat;
+mod joined;
+mod joining;
+mod laws;
+mod numbers;
+mod publics;
+mod resolving;
+mod rules;
+#[cfg(test)]
+mod sample;
+mod segment;
+
+pub use joined::Joined;
+pub use laws::choices_are_one;
+pub use resolving::resolve;
+pub use segment::JoinedSegment;
+
+#[cfg(test)]
+mod tests;

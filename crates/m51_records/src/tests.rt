@@ -10,7 +10,8 @@ const SMALL: &str = "020400014101B70E09000000000000050000E406090001000075905580F
 
 // A module with a record of each type: an instruction of three bytes at 0000H, whose operands are an external and a byte
 // of its own.
-const WHOLE: &str = "020400014D01AB0E09000000000000030000E60E0A000201010000010001449E180400020158891607000202000001449A0607000100008500006D080A00010100010001010000E9080A00010200010000020000E8040400014D01A9";
+const WHOLE: &str =
+    "020400014D01AB0E09000000000000030000E60E0A000201010000010001449E180400020158891607000202000001449A0607000100008500006D080A00010100010001010000E9080A00010200010000020000E8040400014D01A9";
 
 // Bytes that break a rule, after the place of the field that breaks it:
 // a name with a small letter;
@@ -175,7 +176,11 @@ fn a_broken_rule_is_refused_at_its_field(rt: HostRuntime) -> Result<(), Fail> {
         let (place, digits) = line.split_once(' ').ok_or("a place and bytes")?;
         let at = place.parse::<u32>()?;
         let bytes = bytes_of(rt.alloc(), digits)?;
-        assert_eq!(rt; refusal(rt.alloc(), &bytes), Some(ObjError::O4 { at }), "{line}");
+        assert_eq!(rt;
+            refusal(rt.alloc(), &bytes),
+            Some(ObjError::O4 { at }),
+            "{line}"
+        );
     }
     Ok(())
 }
@@ -186,7 +191,11 @@ fn what_is_not_there_is_refused_at_its_number(rt: HostRuntime) -> Result<(), Fai
         let (place, digits) = line.split_once(' ').ok_or("a place and bytes")?;
         let at = place.parse::<u32>()?;
         let bytes = bytes_of(rt.alloc(), digits)?;
-        assert_eq!(rt; refusal(rt.alloc(), &bytes), Some(ObjError::O5 { at }), "{line}");
+        assert_eq!(rt;
+            refusal(rt.alloc(), &bytes),
+            Some(ObjError::O5 { at }),
+            "{line}"
+        );
     }
     Ok(())
 }

@@ -1,13 +1,11 @@
 -- The first and the last record: what is read is written so, and what is written is read.
-use Rattle.std.proofs.Common.{◌≡◌, ℕ, ◌%◌, ◌<◌, Bool, true, false, eqb, List, [], ◌∷◌, ◌++◌, Option, Some, None, Result, Ok, Err, refl, sym, ap, subst, ◌∙◌, arith}
-use Rattle.std.specs.Prelude.{◌&&◌, nat_lt}
+use Rattle.std.proofs.Common.{◌≡◌, ℕ, ◌%◌, ◌<◌, true, eqb, List, [], ◌∷◌, ◌++◌, Some, Ok, refl, sym, ap, subst, ◌∙◌}
+use Rattle.std.specs.Prelude.{nat_lt}
 use Rattle.std.proofs.lemmas.Bool.{eqb-true, eq-eqb, lt-ltb, ltb-true}
-use Rattle.std.proofs.lemmas.List.{append-nil}
 use Rattle.m51_cells.specs.Name.{IsWritten}
-use Rattle.m51_module.specs.declared.object_error.ObjError.{ObjError}
-use Rattle.m51_records.specs.Fields.{◌>>=◌, checked, or_broken, byte_at, text_field, text_at, same, upper_name, ended}
+use Rattle.m51_records.specs.Fields.{◌>>=◌, checked, or_broken, text_field, text_at, same, upper_name, ended}
 use Rattle.m51_records.specs.Ends.{header_contents, version_at, header_in, end_contents, again_at, are_banks, banks_at, end_in}
-use Rattle.m51_records.proofs.Tools.{on_ok, ok_is, checked_ok, broken_ok, ended_ok, both}
+use Rattle.m51_records.proofs.Tools.{on_ok, checked_ok, broken_ok, ended_ok, both}
 use Rattle.m51_records.proofs.FieldLaws.{text_read, text_takes, same_is, same_of, upper_takes, upper_read}
 use Rattle.m51_records.proofs.SegmentsValid.{both_of}
 use Rattle.m51_records.proofs.FixupLaws.{byte_tested}

@@ -1,21 +1,20 @@
 -- The records of externals and publics: what is read is written so, what is written is read, and both are valid together.
-use Rattle.std.proofs.Common.{◌≡◌, ◌≢◌, ℕ, zero, suc, ◌+◌, ◌<◌, ◌≤◌, Bool, true, false, List, [], ◌∷◌, ◌++◌, length, Option, Some, None, Result, Ok, Err, refl, sym, ap, subst, ◌∙◌, arith, All, AllPairs, length-append}
+use Rattle.std.proofs.Common.{◌≡◌, ◌≢◌, ℕ, zero, suc, ◌<◌, ◌≤◌, true, List, [], ◌∷◌, ◌++◌, length, Some, Ok, refl, ap, subst, ◌∙◌, arith, All, AllPairs, length-append}
 use Rattle.std.specs.Prelude.{not, nat_lt}
 use Rattle.std.proofs.lemmas.Bool.{lt-ltb, ltb-true}
 use Rattle.m51_cells.specs.declared.kind.Base.{Base}
 use Rattle.m51_cells.specs.declared.kind.Base.TheVariants.{None as NoBase, Segment as InSegment, External as OfExternal}
 use Rattle.m51_cells.specs.declared.kind.Kind.{Kind}
 use Rattle.m51_cells.specs.Name.{IsWritten}
-use Rattle.m51_module.specs.declared.object_error.ObjError.{ObjError}
 use Rattle.m51_module.specs.declared.segment.Segment.{Segment}
 use Rattle.m51_module.specs.declared.symbol.External.{External}
 use Rattle.m51_module.specs.declared.symbol.Public.{Public}
 use Rattle.m51_module.specs.Validity.{numbered, IsPublicBase, IsPublicValid}
 use Rattle.m51_records.specs.Codes.{kind_number, kind_of, same_kind}
-use Rattle.m51_records.specs.Fields.{◌>>=◌, checked, or_broken, or_absent, byte_at, pair, pair_at, text_field, text_at, upper_name, ended}
+use Rattle.m51_records.specs.Fields.{◌>>=◌, checked, or_broken, or_absent, pair, pair_at, text_field, upper_name}
 use Rattle.m51_records.specs.Externals.{external_contents, kind_at, names_external, external_name_at, external_in}
 use Rattle.m51_records.specs.Publics.{base_number, public_contents, base_of, public_base_at, names_public, public_name_at, public_in}
-use Rattle.m51_records.proofs.Tools.{on_ok, bind_ok, ok_is, some_is, checked_ok, broken_ok, absent_ok, all_push, all_front, all_last, pairs_push, pairs_front, pairs_last}
+use Rattle.m51_records.proofs.Tools.{on_ok, bind_ok, ok_is, checked_ok, broken_ok, absent_ok, all_push, all_front, all_last, pairs_push, pairs_front, pairs_last}
 use Rattle.m51_records.proofs.FieldLaws.{IsBytes, pair_read, pair_takes, upper_takes, upper_read, kind_takes, kind_read, same_kind_is, same_kind_of}
 use Rattle.m51_records.proofs.NameLaws.{all_other, none_has}
 use Rattle.m51_records.proofs.SegmentLaws.{name_field, name_tested}

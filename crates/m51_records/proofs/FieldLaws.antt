@@ -1,7 +1,7 @@
 -- A field that is read is the field that was written, and what was written is read again.
-use Rattle.std.proofs.Common.{◌≡◌, ◌≢◌, ◌⊎◌, inl, inr, ℕ, zero, suc, ◌+◌, ◌-◌, ◌*◌, ◌/◌, ◌%◌, ◌<◌, ◌≤◌, Bool, true, false, cond, List, [], ◌∷◌, ◌++◌, length, get_or, take, drop, Option, Some, None, Result, Ok, Err, refl, sym, ap, subst, ◌∙◌, append_assoc, arith, length-append}
-use Rattle.std.specs.Prelude.{nat_le, nat_eq, slice_get}
-use Rattle.std.specs.Cmp.Lexicographic.{pointwise, bytes_decides}
+use Rattle.std.proofs.Common.{◌≡◌, ℕ, zero, suc, ◌+◌, ◌*◌, ◌/◌, ◌%◌, ◌<◌, ◌≤◌, Bool, true, false, cond, List, [], ◌∷◌, ◌++◌, length, get_or, take, drop, Option, Some, None, Ok, Err, refl, sym, ap, subst, ◌∙◌, arith, length-append}
+use Rattle.std.specs.Prelude.{nat_le}
+use Rattle.std.specs.Cmp.Lexicographic.{bytes_decides}
 use Rattle.std.proofs.lemmas.Bool.{leb-true, le-leb, eqb-true}
 use Rattle.std.proofs.lemmas.List.{take_at, drop_at, take-append-drop, length-take}
 use Rattle.m51_cells.specs.declared.kind.Kind.{Kind}
@@ -13,8 +13,8 @@ use Rattle.m51_module.specs.declared.content.Form.{Form}
 use Rattle.m51_module.specs.declared.content.Form.TheVariants.{Low, Byte, Relative, High, Word, Inblock, Bit, Conv}
 use Rattle.m51_module.specs.declared.object_error.ObjError.{ObjError}
 use Rattle.m51_records.specs.Codes.{kind_number, kind_of, reloc_number, reloc_of, form_number, form_of, same_kind}
-use Rattle.m51_records.specs.Fields.{◌>>=◌, place, checked, byte_at, pair, pair_at, text_field, text_at, same, if_same, upper_name}
-use Rattle.m51_records.proofs.Tools.{bind_ok, ok_is, some_is, checked_ok}
+use Rattle.m51_records.specs.Fields.{place, pair, pair_at, text_field, text_at, same, if_same, upper_name}
+use Rattle.m51_records.proofs.Tools.{ok_is, some_is}
 
 -- each is a byte
 abbrev pub IsBytes : List ℕ → Type 0

@@ -1,29 +1,22 @@
 -- The record of a fixup: what is read is written so, what is written is read, and both are valid together.
-use Rattle.std.proofs.Common.{◌≡◌, ◌≢◌, ◌⊎◌, inl, inr, ℕ, zero, suc, ◌+◌, ◌-◌, ◌<◌, ◌≤◌, Bool, true, false, cond, eqb, ltb, List, [], ◌∷◌, ◌++◌, length, get_or, Option, Some, None, Result, Ok, Err, refl, sym, ap, subst, ◌∙◌, arith, All, AllPairs, length-append}
-use Rattle.std.specs.Prelude.{not, ◌&&◌, ◌||◌, nat_le, nat_lt}
-use Rattle.std.specs.List.{list_any, Contains}
-use Rattle.std.proofs.lemmas.Bool.{eqb-true, eq-eqb, leb-true, le-leb, lt-ltb, ltb-true}
-use Rattle.std.proofs.lemmas.List.Folds.{Any-from_list_any, list_any_at}
+use Rattle.std.proofs.Common.{◌≡◌, ℕ, zero, suc, ◌<◌, Bool, true, List, [], ◌∷◌, ◌++◌, length, Option, Some, Ok, refl, ap, subst, ◌∙◌, arith}
+use Rattle.std.specs.Prelude.{nat_le, nat_lt}
+use Rattle.std.proofs.lemmas.Bool.{leb-true}
 use Rattle.m51_cells.specs.declared.kind.Base.{Base}
 use Rattle.m51_cells.specs.declared.kind.Base.TheVariants.{None as NoBase, Segment as InSegment, External as OfExternal}
 use Rattle.m51_module.specs.declared.content.Fixup.{Fixup}
 use Rattle.m51_module.specs.declared.content.Form.{Form}
-use Rattle.m51_module.specs.declared.content.Form.TheVariants.{Low, Byte, Relative, High, Word, Inblock, Bit, Conv}
 use Rattle.m51_module.specs.declared.content.Piece.{Piece}
-use Rattle.m51_module.specs.declared.object_error.ObjError.{ObjError}
 use Rattle.m51_module.specs.declared.segment.Segment.{Segment}
 use Rattle.m51_module.specs.declared.symbol.External.{External}
-use Rattle.m51_module.specs.Validity.{numbered, field_len, IsBitNumber, IsTarget, IsHeld, IsPieceValid, IsFixupValid, FieldBefore, EarlierSegmentOf, BeforeIn}
+use Rattle.m51_module.specs.Validity.{numbered, IsTarget}
 use Rattle.m51_records.specs.Codes.{form_number, form_of}
 use Rattle.m51_records.specs.Contents.{latest}
 use Rattle.m51_records.specs.Fields.{◌>>=◌, checked, or_broken, or_absent, byte_at, pair, pair_at, ended}
-use Rattle.m51_records.specs.Fixups.{target_fields, fixup_contents, field_segment_follows, fixup_segment_at, field_follows, fixup_offset_at, holds, is_held, is_inside, form_at, is_bit, bit_at, target_of, tag_at, target_at, addend_at, fixup_in}
-use Rattle.m51_records.proofs.Tools.{on_ok, bind_ok, ok_is, checked_ok, broken_ok, absent_ok, ended_ok, both, all_push, all_front, all_last, pairs_push, pairs_front, pairs_last}
+use Rattle.m51_records.specs.Fixups.{target_fields, fixup_contents, field_segment_follows, fixup_segment_at, field_follows, fixup_offset_at, is_inside, form_at, is_bit, bit_at, target_of, tag_at, target_at, addend_at, fixup_in}
+use Rattle.m51_records.proofs.Tools.{on_ok, ok_is, checked_ok, broken_ok, absent_ok, ended_ok}
 use Rattle.m51_records.proofs.FieldLaws.{IsBytes, pair_read, pair_takes, form_takes, form_read}
-use Rattle.m51_records.proofs.NameLaws.{false_of, not_true, not_of}
 use Rattle.m51_records.proofs.SegmentLaws.{pair_field, pair_tested}
-use Rattle.m51_records.proofs.SegmentsValid.{both_of}
-use Rattle.m51_records.proofs.Latest.{Follows, last_follows, all_follow}
 
 -- a byte that is tested
 pub byte_tested : (test : ℕ → Bool) (end : ℕ) (bytes : List ℕ) (y : ℕ × List ℕ) → (byte_at end bytes >>= λ n. checked (test n.0) end bytes n) ≡ Ok y → (bytes ≡ y.0 ∷ y.1) × (test y.0 ≡ true)

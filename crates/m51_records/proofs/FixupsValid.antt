@@ -1,20 +1,19 @@
 -- The fixups of a module are valid where each passes the tests of the reader behind those before it.
-use Rattle.std.proofs.Common.{◌≡◌, ◌≢◌, ℕ, zero, suc, ◌+◌, ◌-◌, ◌<◌, ◌≤◌, Bool, true, false, cond, eqb, ltb, List, [], ◌∷◌, ◌++◌, length, get_or, Option, Some, None, refl, sym, ap, subst, ◌∙◌, arith, All, AllPairs, length-append}
+use Rattle.std.proofs.Common.{◌≡◌, ◌≢◌, ℕ, zero, suc, ◌+◌, ◌-◌, ◌<◌, ◌≤◌, Bool, true, false, eqb, List, [], ◌∷◌, ◌++◌, length, Option, Some, None, refl, sym, ap, subst, ◌∙◌, arith, All, AllPairs, length-append}
 use Rattle.std.specs.Prelude.{not, ◌&&◌, ◌||◌, nat_le, nat_lt}
-use Rattle.std.specs.List.{list_any, Contains}
 use Rattle.std.proofs.lemmas.Bool.{eqb-true, eq-eqb, leb-true, le-leb, lt-ltb, ltb-true}
 use Rattle.std.proofs.lemmas.List.Folds.{Any-from_list_any, list_any_at}
 use Rattle.m51_module.specs.declared.content.Fixup.{Fixup}
 use Rattle.m51_module.specs.declared.content.Form.{Form}
-use Rattle.m51_module.specs.declared.content.Form.TheVariants.{Low, Byte, Relative, High, Word, Inblock, Bit, Conv}
+use Rattle.m51_module.specs.declared.content.Form.TheVariants.{Word, Inblock, Conv}
 use Rattle.m51_module.specs.declared.content.Piece.{Piece}
 use Rattle.m51_module.specs.declared.segment.Segment.{Segment}
 use Rattle.m51_module.specs.declared.symbol.External.{External}
-use Rattle.m51_module.specs.Validity.{numbered, field_len, IsBitNumber, IsTarget, IsHeld, IsPieceValid, IsFixupValid, FieldBefore, EarlierSegmentOf, BeforeIn}
+use Rattle.m51_module.specs.Validity.{numbered, field_len, IsBitNumber, IsHeld, IsPieceValid, IsFixupValid, FieldBefore, EarlierSegmentOf, BeforeIn}
 use Rattle.m51_records.specs.Contents.{latest}
 use Rattle.m51_records.specs.Fixups.{field_segment_follows, field_follows, holds, is_held, is_inside, is_bit}
 use Rattle.m51_records.proofs.Tools.{both, all_push, all_front, all_last, pairs_push, pairs_front, pairs_last}
-use Rattle.m51_records.proofs.NameLaws.{false_of, not_true, not_of}
+use Rattle.m51_records.proofs.NameLaws.{false_of}
 use Rattle.m51_records.proofs.SegmentsValid.{both_of}
 use Rattle.m51_records.proofs.PieceLaws.{test_split, eqb_no}
 use Rattle.m51_records.proofs.Latest.{Follows, last_follows, all_follow}

@@ -1,14 +1,8 @@
 -- A valid module that is spelled is read, whatever follows; so no spelling begins another.
-use Rattle.std.proofs.Common.{◌≡◌, ℕ, zero, suc, ◌+◌, ◌-◌, ◌<◌, ◌≤◌, Bool, true, false, List, [], ◌∷◌, ◌++◌, length, take, Result, Ok, Err, refl, sym, ap, subst, ◌∙◌, append_assoc, arith, length-append}
+use Rattle.std.proofs.Common.{◌≡◌, ℕ, ◌+◌, ◌-◌, false, List, ◌++◌, length, take, Ok, refl, sym, ap, ◌∙◌, arith, length-append}
 use Rattle.std.specs.List.{flat_map}
 use Rattle.std.proofs.lemmas.List.{take_at}
-use Rattle.m51_module.specs.declared.content.Fixup.{Fixup}
-use Rattle.m51_module.specs.declared.content.Piece.{Piece}
-use Rattle.m51_module.specs.declared.object_error.ObjError.{ObjError}
 use Rattle.m51_module.specs.declared.parts.ModuleParts.{ModuleParts}
-use Rattle.m51_module.specs.declared.segment.Segment.{Segment}
-use Rattle.m51_module.specs.declared.symbol.External.{External}
-use Rattle.m51_module.specs.declared.symbol.Public.{Public}
 use Rattle.m51_module.specs.Validity.{IsValid}
 use Rattle.m51_records.specs.Fields.{◌>>=◌}
 use Rattle.m51_records.specs.Frame.{begins, checksum_place}
@@ -20,9 +14,8 @@ use Rattle.m51_records.specs.Contents.{piece_contents, piece_in}
 use Rattle.m51_records.specs.Fixups.{fixup_contents, fixup_in}
 use Rattle.m51_records.specs.Spelling.{segment_record, external_record, public_record, piece_record, fixup_record, header_record, end_record, bytes_of}
 use Rattle.m51_records.specs.Reading.{header_at, segments_at, externals_at, publics_at, pieces_at, fixups_at, end_at, module_at, read_of}
-use Rattle.m51_records.proofs.Tools.{on_ok, ok_is}
-use Rattle.m51_records.proofs.FieldLaws.{IsBytes}
-use Rattle.m51_records.proofs.EndLaws.{header_again, AreBanks, end_again}
+use Rattle.m51_records.proofs.Tools.{ok_is}
+use Rattle.m51_records.proofs.EndLaws.{header_again, end_again}
 use Rattle.m51_records.proofs.SegmentLaws.{IsTested, segment_again}
 use Rattle.m51_records.proofs.SegmentsValid.{AreSegments, segments_last, segments_front}
 use Rattle.m51_records.proofs.ExternalLaws.{IsExternalTested, external_again, AreExternals, externals_last, externals_front, IsPublicTested, public_again, ArePublics, publics_last, publics_front}
@@ -30,7 +23,7 @@ use Rattle.m51_records.proofs.PieceLaws.{IsPieceTested, piece_again, ArePieces, 
 use Rattle.m51_records.proofs.FixupLaws.{IsFixupTested, fixup_again}
 use Rattle.m51_records.proofs.FixupsValid.{AreFixups, fixups_last, fixups_front}
 use Rattle.m51_records.proofs.SectionLaws.{one_again, other_comes, all_again}
-use Rattle.m51_records.proofs.ModuleLaws.{regroup, IsRead, module_takes}
+use Rattle.m51_records.proofs.ModuleLaws.{regroup}
 
 -- what follows each section, the last record and the rest being the same
 module _ (m : ModuleParts) (rest : List ℕ) where

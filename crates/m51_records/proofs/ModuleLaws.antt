@@ -1,18 +1,14 @@
 -- A module that is read is spelled so and valid, and a valid module that is spelled is read, whatever follows.
-use Rattle.std.proofs.Common.{◌≡◌, ℕ, zero, suc, ◌+◌, ◌-◌, ◌<◌, ◌≤◌, Bool, true, false, List, [], ◌∷◌, ◌++◌, length, take, Result, Ok, Err, refl, sym, ap, subst, ◌∙◌, append_assoc, arith, length-append}
+use Rattle.std.proofs.Common.{◌≡◌, ℕ, ◌+◌, List, [], ◌++◌, length, Ok, sym, ap, subst, ◌∙◌, append_assoc, arith}
 use Rattle.std.specs.List.{flat_map}
-use Rattle.std.proofs.lemmas.List.{take_at}
 use Rattle.m51_cells.specs.Name.{IsWritten}
 use Rattle.m51_module.specs.declared.content.Fixup.{Fixup}
 use Rattle.m51_module.specs.declared.content.Piece.{Piece}
-use Rattle.m51_module.specs.declared.object_error.ObjError.{ObjError}
 use Rattle.m51_module.specs.declared.parts.ModuleParts.{ModuleParts}
 use Rattle.m51_module.specs.declared.segment.Segment.{Segment}
 use Rattle.m51_module.specs.declared.symbol.External.{External}
 use Rattle.m51_module.specs.declared.symbol.Public.{Public}
 use Rattle.m51_module.specs.Validity.{IsValid}
-use Rattle.m51_records.specs.Fields.{◌>>=◌}
-use Rattle.m51_records.specs.Frame.{record_of}
 use Rattle.m51_records.specs.Ends.{header_contents, header_in, end_contents, end_in}
 use Rattle.m51_records.specs.Segments.{segment_contents, segment_in}
 use Rattle.m51_records.specs.Externals.{external_contents, external_in}
@@ -20,17 +16,17 @@ use Rattle.m51_records.specs.Publics.{public_contents, public_in}
 use Rattle.m51_records.specs.Contents.{piece_contents, piece_in}
 use Rattle.m51_records.specs.Fixups.{fixup_contents, fixup_in}
 use Rattle.m51_records.specs.Spelling.{segment_record, external_record, public_record, piece_record, fixup_record, header_record, end_record, bytes_of}
-use Rattle.m51_records.specs.Reading.{header_at, segments_at, externals_at, publics_at, pieces_at, fixups_at, end_at, module_at, read_of}
+use Rattle.m51_records.specs.Reading.{header_at, segments_at, externals_at, publics_at, pieces_at, fixups_at, end_at, module_at}
 use Rattle.m51_records.proofs.Tools.{on_ok, ok_is}
 use Rattle.m51_records.proofs.FieldLaws.{IsBytes}
-use Rattle.m51_records.proofs.EndLaws.{header_takes, header_again, AreBanks, end_takes, end_again}
-use Rattle.m51_records.proofs.SegmentLaws.{IsTested, segment_takes, segment_again}
-use Rattle.m51_records.proofs.SegmentsValid.{AreSegments, segments_push, segments_last, segments_front}
-use Rattle.m51_records.proofs.ExternalLaws.{IsExternalTested, external_takes, external_again, AreExternals, externals_push, externals_last, externals_front, IsPublicTested, public_takes, public_again, ArePublics, publics_push, publics_last, publics_front}
-use Rattle.m51_records.proofs.PieceLaws.{IsPieceTested, piece_takes, piece_again, ArePieces, pieces_push, pieces_last, pieces_front}
-use Rattle.m51_records.proofs.FixupLaws.{IsFixupTested, fixup_takes, fixup_again}
-use Rattle.m51_records.proofs.FixupsValid.{AreFixups, fixups_push, fixups_last, fixups_front}
-use Rattle.m51_records.proofs.SectionLaws.{TakesOne, one_takes, one_again, other_comes, TakesMany, all_takes, all_again}
+use Rattle.m51_records.proofs.EndLaws.{header_takes, AreBanks, end_takes}
+use Rattle.m51_records.proofs.SegmentLaws.{IsTested, segment_takes}
+use Rattle.m51_records.proofs.SegmentsValid.{AreSegments, segments_push}
+use Rattle.m51_records.proofs.ExternalLaws.{IsExternalTested, external_takes, AreExternals, externals_push, IsPublicTested, public_takes, ArePublics, publics_push}
+use Rattle.m51_records.proofs.PieceLaws.{IsPieceTested, piece_takes, ArePieces, pieces_push}
+use Rattle.m51_records.proofs.FixupLaws.{IsFixupTested, fixup_takes}
+use Rattle.m51_records.proofs.FixupsValid.{AreFixups, fixups_push}
+use Rattle.m51_records.proofs.SectionLaws.{one_takes, all_takes}
 
 -- there are none at first
 no_segments : AreSegments []

@@ -1,18 +1,17 @@
 -- The record of a piece: what is read is written so, what is written is read, and both are valid together.
-use Rattle.std.proofs.Common.{◌≡◌, ◌≢◌, ◌⊎◌, inl, inr, ℕ, zero, suc, ◌+◌, ◌-◌, ◌<◌, ◌≤◌, Bool, true, false, cond, eqb, ltb, min, List, [], ◌∷◌, ◌++◌, length, get_or, drop, Option, Some, None, Result, Ok, Err, refl, sym, ap, subst, ◌∙◌, arith, All, AllPairs, length-append}
-use Rattle.std.specs.Prelude.{not, ◌&&◌, nat_le, nat_lt}
+use Rattle.std.proofs.Common.{◌≡◌, ◌≢◌, ℕ, ◌+◌, ◌-◌, ◌<◌, ◌≤◌, Bool, true, false, cond, eqb, min, List, [], ◌∷◌, ◌++◌, length, drop, Option, Some, None, Ok, refl, sym, ap, subst, ◌∙◌, arith, All, AllPairs}
+use Rattle.std.specs.Prelude.{◌&&◌, nat_le, nat_lt}
 use Rattle.std.proofs.lemmas.Bool.{eqb-true, eq-eqb, leb-true, le-leb, lt-ltb, ltb-true}
 use Rattle.std.proofs.Math.Nat.{min-eq_left}
 use Rattle.m51_cells.specs.declared.kind.Kind.TheVariants.{Code}
 use Rattle.m51_module.specs.declared.content.Piece.{Piece}
-use Rattle.m51_module.specs.declared.object_error.ObjError.{ObjError}
 use Rattle.m51_module.specs.declared.segment.Segment.{Segment}
 use Rattle.m51_module.specs.Validity.{numbered, IsPieceValid, LiesBefore, EarlierSegment, Apart, Touching}
 use Rattle.m51_records.specs.Codes.{same_kind}
-use Rattle.m51_records.specs.Fields.{◌>>=◌, checked, or_absent, byte_at, pair, pair_at}
-use Rattle.m51_records.specs.Contents.{piece_contents, latest, segment_follows, code_segment_at, ends_before, piece_follows, piece_offset_at, limited, content_at, piece_in}
-use Rattle.m51_records.proofs.Tools.{on_ok, bind_ok, ok_is, checked_ok, absent_ok, both, all_push, all_front, all_last, pairs_push, pairs_front, pairs_last}
-use Rattle.m51_records.proofs.FieldLaws.{IsBytes, pair_read, pair_takes, same_kind_is, same_kind_of}
+use Rattle.m51_records.specs.Fields.{checked, or_absent, pair}
+use Rattle.m51_records.specs.Contents.{piece_contents, latest, segment_follows, code_segment_at, ends_before, piece_follows, piece_offset_at, content_at, piece_in}
+use Rattle.m51_records.proofs.Tools.{on_ok, ok_is, checked_ok, absent_ok, both, all_push, all_front, all_last, pairs_push, pairs_front, pairs_last}
+use Rattle.m51_records.proofs.FieldLaws.{IsBytes, same_kind_is, same_kind_of}
 use Rattle.m51_records.proofs.NameLaws.{false_of}
 use Rattle.m51_records.proofs.SegmentLaws.{pair_field, pair_tested}
 use Rattle.m51_records.proofs.SegmentsValid.{both_of}

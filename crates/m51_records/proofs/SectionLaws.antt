@@ -1,10 +1,9 @@
 -- Records of one type: what is read is written so, and what is written is read again.
-use Rattle.std.proofs.Common.{◌≡◌, ◌≢◌, ℕ, zero, suc, ◌+◌, ◌<◌, ◌≤◌, Bool, true, false, cond, eqb, List, [], ◌∷◌, ◌++◌, length, Result, Ok, Err, refl, sym, ap, subst, ◌∙◌, append_assoc, arith, length-append}
+use Rattle.std.proofs.Common.{◌≡◌, ℕ, zero, suc, ◌+◌, ◌≤◌, true, false, cond, eqb, List, [], ◌∷◌, ◌++◌, length, Ok, refl, sym, ap, subst, ◌∙◌, append_assoc, arith, length-append}
 use Rattle.std.specs.List.{flat_map}
-use Rattle.std.proofs.lemmas.Bool.{eqb-true, eq-eqb}
+use Rattle.std.proofs.lemmas.Bool.{eq-eqb}
 use Rattle.std.proofs.lemmas.List.{append-nil}
 use Rattle.std.proofs.lemmas.List.Concat.{flat_map-cons}
-use Rattle.m51_module.specs.declared.object_error.ObjError.{ObjError}
 use Rattle.m51_records.specs.Fields.{◌>>=◌}
 use Rattle.m51_records.specs.Frame.{checksum_of, front_of, record_of, begins, record_at, checksum_place}
 use Rattle.m51_records.specs.Reading.{Reader, one_at, many_at, all_at}

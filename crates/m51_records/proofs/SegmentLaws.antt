@@ -1,25 +1,18 @@
 -- The record of a segment: what is read is written so, what is written is read, and both are valid together.
-use Rattle.std.proofs.Common.{◌≡◌, ◌≢◌, ℕ, zero, suc, ◌+◌, ◌*◌, ◌/◌, ◌%◌, ◌<◌, ◌≤◌, Bool, true, false, cond, eqb, ltb, List, [], ◌∷◌, ◌++◌, length, get_or, Option, Some, None, Result, Ok, Err, refl, sym, ap, subst, ◌∙◌, append_assoc, arith, All, AllPairs, length-append}
-use Rattle.std.specs.Prelude.{not, ◌&&◌, ◌||◌, nat_le, nat_lt}
-use Rattle.std.specs.List.{list_any}
-use Rattle.std.proofs.lemmas.Bool.{eqb-true, eq-eqb, leb-true, le-leb, lt-ltb, ltb-true}
+use Rattle.std.proofs.Common.{◌≡◌, ℕ, zero, suc, ◌<◌, Bool, true, false, eqb, List, [], ◌∷◌, ◌++◌, length, Option, Some, Ok, refl, sym, ap, subst, ◌∙◌}
+use Rattle.std.specs.Prelude.{not, ◌||◌, nat_lt}
 use Rattle.std.proofs.lemmas.List.{append-nil}
-use Rattle.std.proofs.lemmas.List.Folds.{list_any_none, list_any_at}
 use Rattle.m51_cells.specs.declared.kind.Kind.{Kind}
-use Rattle.m51_cells.specs.declared.kind.Kind.TheVariants.{Code, Xdata, Direct, Idata, Bits, Number}
+use Rattle.m51_cells.specs.declared.kind.Kind.TheVariants.{Number}
 use Rattle.m51_cells.specs.declared.kind.Reloc.{Reloc}
 use Rattle.m51_cells.specs.declared.kind.Reloc.TheVariants.{Abs, Unit as UnitType, Bitaddressable, Inpage, Inblock as InblockType, Page}
-use Rattle.m51_cells.specs.Fits.{allows, Fits}
-use Rattle.m51_cells.specs.Name.{IsWritten, name_of}
-use Rattle.m51_module.specs.declared.object_error.ObjError.{ObjError}
+use Rattle.m51_cells.specs.Fits.{allows}
 use Rattle.m51_module.specs.declared.segment.Segment.{Segment}
-use Rattle.m51_module.specs.Validity.{largest, IsAbsolute, IsRelocatable, IsSegmentValid, Differ}
 use Rattle.m51_records.specs.Codes.{kind_number, kind_of, reloc_number, reloc_of, same_kind, is_absolute}
-use Rattle.m51_records.specs.Fields.{◌>>=◌, checked, or_broken, byte_at, pair, pair_at, text_field, text_at, same, upper_name, ended}
-use Rattle.m51_records.specs.Segments.{flags_of, flag_of, segment_contents, segment_kind_at, reloc_at, may_overlay, overlay_at, base_at, limit, is_placed, is_size, size_at, names_segment, no_text, segment_name, is_new, segment_name_at, segment_in}
-use Rattle.m51_records.proofs.Placing.{ends_from_fits, fits_from_ends}
-use Rattle.m51_records.proofs.Tools.{bind_ok, on_ok, ok_is, some_is, checked_ok, broken_ok, ended_ok, both, all_push, all_front, all_last, pairs_push, pairs_front, pairs_last}
-use Rattle.m51_records.proofs.FieldLaws.{IsBytes, pair_read, pair_takes, text_read, text_takes, same_is, same_of, upper_takes, upper_read, kind_takes, kind_read, reloc_takes, reloc_read, same_kind_is, same_kind_of}
+use Rattle.m51_records.specs.Fields.{◌>>=◌, checked, or_broken, pair, pair_at, text_field, text_at, ended}
+use Rattle.m51_records.specs.Segments.{flags_of, flag_of, segment_contents, segment_kind_at, reloc_at, may_overlay, overlay_at, base_at, is_size, size_at, no_text, segment_name, is_new, segment_name_at, segment_in}
+use Rattle.m51_records.proofs.Tools.{bind_ok, on_ok, ok_is, some_is, checked_ok, broken_ok, ended_ok}
+use Rattle.m51_records.proofs.FieldLaws.{IsBytes, pair_read, pair_takes, text_read, text_takes, upper_takes, kind_takes, kind_read, reloc_takes, reloc_read}
 
 -- what the tests of the reader say of a segment, behind those before it
 pub record IsTested (before : List Segment) (s : Segment) : Type 0 where

@@ -1,21 +1,19 @@
 -- The segments of a module are valid where each passes the tests of the reader behind those before it.
-use Rattle.std.proofs.Common.{◌≡◌, ◌≢◌, ◌⊎◌, inl, inr, ℕ, zero, suc, ◌+◌, ◌<◌, ◌≤◌, Bool, true, false, cond, eqb, List, [], ◌∷◌, ◌++◌, length, get_or, Option, Some, None, refl, sym, ap, subst, ◌∙◌, arith, All, AllPairs, length-append}
+use Rattle.std.proofs.Common.{◌≡◌, ◌≢◌, ◌⊎◌, inl, inr, ℕ, ◌+◌, ◌<◌, ◌≤◌, Bool, true, false, cond, eqb, List, [], ◌∷◌, ◌++◌, length, Some, refl, sym, ap, subst, ◌∙◌, arith, All, AllPairs, length-append}
 use Rattle.std.specs.Prelude.{not, ◌&&◌, ◌||◌, nat_le, nat_lt}
 use Rattle.std.proofs.lemmas.Bool.{eqb-true, eq-eqb, leb-true, le-leb, lt-ltb, ltb-true}
-use Rattle.m51_cells.specs.declared.kind.Kind.{Kind}
 use Rattle.m51_cells.specs.declared.kind.Kind.TheVariants.{Code, Number}
 use Rattle.m51_cells.specs.declared.kind.Reloc.{Reloc}
 use Rattle.m51_cells.specs.declared.kind.Reloc.TheVariants.{Abs, Unit as UnitType, Bitaddressable, Inpage, Inblock as InblockType, Page}
-use Rattle.m51_cells.specs.Name.{IsWritten, name_of}
 use Rattle.m51_module.specs.declared.segment.Segment.{Segment}
 use Rattle.m51_module.specs.Validity.{largest, IsAbsolute, IsRelocatable, IsSegmentValid, Differ}
 use Rattle.m51_records.specs.Codes.{same_kind, is_absolute}
-use Rattle.m51_records.specs.Fields.{upper_name, same}
+use Rattle.m51_records.specs.Fields.{upper_name}
 use Rattle.m51_records.specs.Segments.{may_overlay, limit, is_placed, is_size, names_segment, no_text, segment_name, is_new}
 use Rattle.m51_records.proofs.Placing.{ends_from_fits, fits_from_ends}
 use Rattle.m51_records.proofs.Tools.{both, all_push, all_front, all_last, pairs_push, pairs_front, pairs_last}
 use Rattle.m51_records.proofs.FieldLaws.{upper_takes, upper_read, same_kind_is, same_kind_of}
-use Rattle.m51_records.proofs.NameLaws.{false_of, not_true, not_of, all_other, none_has, some_byte}
+use Rattle.m51_records.proofs.NameLaws.{not_true, not_of, all_other, none_has, some_byte}
 use Rattle.m51_records.proofs.SegmentLaws.{IsTested}
 
 -- what a module's validity says of its segments

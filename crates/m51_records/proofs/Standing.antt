@@ -1,7 +1,7 @@
 -- Reading records of one type one after the other, as a loop does.
 use Rattle.std.proofs.Common.{◌≡◌, ℕ, zero, suc, ◌+◌, ◌≤◌, ◌<◌, Bool, true, false, List, [], ◌∷◌, ◌++◌, length, Result, Ok, Err, refl, sym, ap, subst, ◌∙◌, arith, length-append}
 use Rattle.m51_module.specs.declared.object_error.ObjError.{ObjError}
-use Rattle.m51_module.specs.declared.object_error.ObjError.TheVariants.{Memory, O1, O2, O3, O4, O5}
+use Rattle.m51_module.specs.declared.object_error.ObjError.TheVariants.{Memory}
 use Rattle.m51_cells.specs.Outcome.{RefusesWith}
 use Rattle.m51_records.specs.Fields.{◌>>=◌, refusal_of}
 use Rattle.m51_records.specs.Frame.{begins, record_at, checksum_place}

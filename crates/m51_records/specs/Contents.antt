@@ -1,5 +1,5 @@
 -- The record of a piece of content.
-use Rattle.std.specs.Prelude.{ℕ, ◌+◌, ◌-◌, Bool, true, not, ◌&&◌, ◌||◌, ◌==◌, nat_le, nat_lt, min, if◌then◌else◌, List, [], ◌∷◌, ◌++◌, length, drop, slice_get, Option, Some, None, Result, Ok, Err}
+use Rattle.std.specs.Prelude.{ℕ, ◌+◌, ◌-◌, Bool, true, ◌&&◌, ◌==◌, nat_le, nat_lt, min, if◌then◌else◌, List, ◌∷◌, ◌++◌, length, drop, slice_get, Option, Some, None, Result, Ok}
 use Rattle.m51_cells.specs.declared.kind.Kind.TheVariants.{Code}
 use Rattle.m51_module.specs.declared.content.Piece.{Piece}
 use Rattle.m51_module.specs.declared.segment.Segment.{Segment}

@@ -1,5 +1,5 @@
 -- The first record of a module, and its last one.
-use Rattle.std.specs.Prelude.{ℕ, ◌%◌, Bool, ◌&&◌, ◌==◌, nat_lt, List, [], ◌∷◌, ◌++◌, Result, Ok, Err}
+use Rattle.std.specs.Prelude.{ℕ, ◌%◌, Bool, ◌&&◌, ◌==◌, nat_lt, List, [], ◌∷◌, ◌++◌, Result}
 use Rattle.m51_module.specs.declared.object_error.ObjError.{ObjError}
 use Rattle.m51_records.specs.Fields.{◌>>=◌, checked, or_broken, byte_at, text_field, text_at, upper_name, same, ended}
 

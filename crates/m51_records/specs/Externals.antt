@@ -1,5 +1,5 @@
 -- The record of an external.
-use Rattle.std.specs.Prelude.{ℕ, Bool, not, nat_lt, List, [], ◌∷◌, length, Result, Ok, Err}
+use Rattle.std.specs.Prelude.{ℕ, Bool, not, nat_lt, List, ◌∷◌, length, Result, Ok}
 use Rattle.std.specs.List.{list_any}
 use Rattle.m51_cells.specs.declared.kind.Kind.{Kind}
 use Rattle.m51_module.specs.declared.symbol.External.{External}

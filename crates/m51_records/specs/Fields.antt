@@ -1,11 +1,11 @@
 -- The fields of a record, from left to right, and the first refusal. What is read ends at a place of the file, so the
 -- place of a field is that end less the bytes from the field on.
-use Rattle.std.specs.Prelude.{ℕ, ◌+◌, ◌*◌, ◌-◌, ◌/◌, ◌%◌, Bool, ◌&&◌, nat_eq, nat_le, nat_lt, if◌then◌else◌, List, [], ◌∷◌, ◌++◌, length, take, drop, Option, Some, None, Result, Ok, Err}
+use Rattle.std.specs.Prelude.{ℕ, ◌+◌, ◌*◌, ◌-◌, ◌/◌, ◌%◌, Bool, nat_eq, nat_le, if◌then◌else◌, List, [], ◌∷◌, length, take, drop, Option, Some, None, Result, Ok, Err}
 use Rattle.std.specs.Cmp.Lexicographic.{pointwise}
 use Rattle.m51_cells.specs.Name.{name_of}
 use Rattle.m51_cells.specs.Outcome.{Gives}
 use Rattle.m51_module.specs.declared.object_error.ObjError.{ObjError}
-use Rattle.m51_module.specs.declared.object_error.ObjError.TheVariants.{O1, O2, O3, O4, O5, Memory}
+use Rattle.m51_module.specs.declared.object_error.ObjError.TheVariants.{O4, O5, Memory}
 
 -- what follows a step that is not refused
 infixl 10 ◌>>=◌

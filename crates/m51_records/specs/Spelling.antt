@@ -1,7 +1,6 @@
 -- The one spelling of each valid module.
 use Rattle.std.specs.Prelude.{ℕ, List, ◌++◌, ◌+◌, length}
 use Rattle.std.specs.List.{flat_map}
-use Rattle.m51_cells.specs.declared.kind.Base.{Base}
 use Rattle.m51_module.specs.declared.content.Fixup.{Fixup}
 use Rattle.m51_module.specs.declared.content.Piece.{Piece}
 use Rattle.m51_module.specs.declared.parts.ModuleParts.{ModuleParts}

@@ -31,6 +31,10 @@ const MAIN: &str =
 const SIBLINGS: &str =
     "020400015301A50E0E0000010000000300053F50523F46750E0E0000010000000300053F50523F47740E0E0002010100000200053F44543F467D0E0E0002010100000200053F44543F477C1607000001000001469B16070000020000014799060700010000F50022DB060700020000F50022DA080A00010100010000030000E8080A00020100010000040000E6040400015301A3";
 
+// ?DT?X is OVERLAYABLE, and there is no ?PR?X.
+const STRAY: &str =
+    "020400014101B70E09000000000000020000E70E0E0002010100000100053F44543F586C06060001000080FE75040400014101B5";
+
 // The value of a hexadecimal digit.
 fn digit(byte: u8) -> u8 {
     match byte {
@@ -91,6 +95,7 @@ fn names_of(alloc: Global, answer: &Result<Graph, Refusal>) -> Result<Vec<u8>, F
                 names.extend_from_slice(unit.bytes())?;
             }
         }
+        Err(Refusal::L6 { name }) => names.extend_from_slice(name.bytes())?,
         Err(Refusal::L11 { unit, one, two }) => {
             for name in [unit, one, two] {
                 names.extend_from_slice(name.bytes())?;
@@ -171,5 +176,33 @@ fn locals_of_siblings_share_cells_and_those_of_a_callee_do_not(
     assert_eq!(rt; clash(&siblings, 0, 4), Some(true));
     let called = graph_of(rt.alloc(), &[MAIN, SIBLINGS], b"overlay(?pr?f > ?pr?g)")?;
     assert_eq!(rt; clash(&called, 3, 4), Some(true));
+    Ok(())
+}
+
+#[test]
+fn a_local_needs_its_unit(rt: HostRuntime) -> Result<(), Fail> {
+    let refused = graph_of(rt.alloc(), &[STRAY], b"")?;
+    let names = names_of(rt.alloc(), &refused)?;
+    assert_eq!(rt; names.as_slice(), b"?DT?X".as_slice());
+    Ok(())
+}
+
+// The line that L7 names, if it comes; 0 for L8.
+fn line_of(answer: &Result<Graph, Refusal>) -> Option<u32> {
+    match answer {
+        Err(Refusal::L7 { line }) => Some(*line),
+        Err(Refusal::L8) => Some(0),
+        _ => None,
+    }
+}
+
+#[test]
+fn a_line_that_does_not_fit_comes_before_a_missing_reset(rt: HostRuntime) -> Result<(), Fail> {
+    let absent = graph_of(rt.alloc(), &[MAIN, SIBLINGS], b"; none\nNOOVERLAY(?PR?X)")?;
+    assert_eq!(rt; line_of(&absent), Some(2));
+    let itself = graph_of(rt.alloc(), &[SIBLINGS], b"OVERLAY(?PR?F > ?PR?F)")?;
+    assert_eq!(rt; line_of(&itself), Some(1));
+    let headless = graph_of(rt.alloc(), &[SIBLINGS], b"OVERLAY(?PR?F > ?PR?G)")?;
+    assert_eq!(rt; line_of(&headless), Some(0));
     Ok(())
 }

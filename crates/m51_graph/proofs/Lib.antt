@@ -1,7 +1,6 @@
 pub mod Marking
 pub mod Closing
 pub mod Deciding
-pub mod Bounds
 pub mod Climbing
 pub mod Relations
 pub mod Drawn

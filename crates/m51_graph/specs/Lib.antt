@@ -1,4 +1,3 @@
-pub mod Bounded
 pub mod Drawing
 pub mod Graph
 pub mod Graphs

@@ -18,6 +18,3 @@ pub use building::graph;
 pub use graphs::Graph;
 pub use laws::{above_is_under, leading_is_reaching};
 pub use parts::{GraphParts, SegmentOwners};
-
-#[cfg(test)]
-mod tests;

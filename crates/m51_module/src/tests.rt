@@ -129,24 +129,41 @@ fn a_replaced_module_is_extracted(rt: HostRuntime) -> Result<(), Fail> {
 }
 
 // What adding such a module to A, B and C answers.
-fn adding(alloc: Global, name: Name, public: Name) -> Result<(), LibError> {
+fn adding(alloc: Global, name: &[u8], public: &[u8]) -> Result<(), LibError> {
     let mut library = three(alloc)?;
-    library.add(sample::module_with(alloc, name, public)?)
+    library.add(sample::module_with(alloc, sample::name(name), sample::name(public))?)
 }
 
 // What replacing such a module in A, B and C answers.
-fn replacing(alloc: Global, name: Name, public: Name) -> Result<(), LibError> {
+fn replacing(alloc: Global, name: &[u8], public: &[u8]) -> Result<(), LibError> {
     let mut library = three(alloc)?;
-    library.replace(sample::module_with(alloc, name, public)?)
+    library.replace(sample::module_with(alloc, sample::name(name), sample::name(public))?)
 }
 
 #[test]
 fn edits_are_refused_by_name_and_then_by_public(rt: HostRuntime) -> Result<(), Fail> {
-    let (b, d, q) = (sample::name(b"B"), sample::name(b"D"), sample::name(b"Q"));
-    assert_eq!(rt; adding(rt.alloc(), b, q), Err(LibError::B1 { name: b }));
-    assert_eq!(rt; adding(rt.alloc(), d, q), Err(LibError::B3 { name: q }));
-    assert_eq!(rt; replacing(rt.alloc(), d, q), Err(LibError::B2 { name: d }));
-    assert_eq!(rt; replacing(rt.alloc(), b, q), Ok(()));
+    let held = adding(rt.alloc(), b"B", b"Q");
+    assert_eq!(rt;
+        held,
+        Err(LibError::B1 {
+            name: sample::name(b"B")
+        })
+    );
+    let shared = adding(rt.alloc(), b"D", b"Q");
+    assert_eq!(rt;
+        shared,
+        Err(LibError::B3 {
+            name: sample::name(b"Q")
+        })
+    );
+    let absent = replacing(rt.alloc(), b"D", b"Q");
+    assert_eq!(rt;
+        absent,
+        Err(LibError::B2 {
+            name: sample::name(b"D")
+        })
+    );
+    assert_eq!(rt; replacing(rt.alloc(), b"B", b"Q"), Ok(()));
     Ok(())
 }
 

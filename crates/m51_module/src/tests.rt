@@ -1,7 +1,6 @@
 //! What no clause says: that the calls give their answers where memory is there.
-use crate::{Edit, Image, LibError, Library, Module, build, sample};
-use m51_cells::{Name, NoMemory};
-use std::alloc::Global;
+use crate::{Edit, Image, LibError, Library, build, sample};
+use std::alloc::{AllocError, Global};
 use std::test::Fail;
 
 #[test]
@@ -53,7 +52,7 @@ fn an_image_holds_what_is_set(rt: HostRuntime) -> Result<(), Fail> {
 }
 
 // The names of the library's modules, one after another.
-fn names(alloc: Global, library: &Library) -> Result<Vec<u8>, NoMemory> {
+fn names(alloc: Global, library: &Library) -> Result<Vec<u8>, AllocError> {
     let mut names = Vec::new(alloc);
     for member in library.list() {
         names.extend_from_slice(member.name().bytes())?;
@@ -66,121 +65,68 @@ fn three(alloc: Global) -> Result<Library, LibError> {
     build(alloc, sample::modules(alloc)?)
 }
 
-// Whether the two modules have the same parts.
-fn are_alike(one: &Module, two: &Module) -> bool {
-    one.name() == two.name()
-        && one.segments() == two.segments()
-        && one.publics() == two.publics()
-        && one.externals() == two.externals()
-        && one.pieces().len() == two.pieces().len()
-        && one.fixups() == two.fixups()
-        && one.banks() == two.banks()
-}
-
 #[test]
 fn a_copy_has_the_same_parts(rt: HostRuntime) -> Result<(), Fail> {
     let module = sample::module(rt.alloc())?;
     let copy = module.copy(rt.alloc())?;
-    assert!(rt; are_alike(&copy, &module));
+    assert_eq!(rt; copy.name(), module.name());
+    assert_eq!(rt; copy.segments(), module.segments());
+    assert_eq!(rt; copy.publics(), module.publics());
+    assert_eq!(rt; copy.externals(), module.externals());
+    assert_eq!(rt; copy.pieces().len(), module.pieces().len());
+    assert_eq!(rt; copy.fixups(), module.fixups());
+    assert_eq!(rt; copy.banks(), module.banks());
     Ok(())
 }
 
-// The names of what is left where A is deleted, and of what was taken.
-fn without_a(alloc: Global) -> Result<(Vec<u8>, Name), LibError> {
-    let mut library = three(alloc)?;
-    let taken = library.delete(&sample::name(b"A"))?.name();
-    Ok((names(alloc, &library)?, taken))
-}
-
 #[test]
-fn a_deleted_module_is_handed_out(rt: HostRuntime) -> Result<(), Fail> {
-    let (left, taken) = without_a(rt.alloc())?;
-    assert_eq!(rt; left.as_slice(), b"BC".as_slice());
-    assert_eq!(rt; taken, sample::name(b"A"));
+fn a_library_holds_what_its_edits_leave(rt: HostRuntime) -> Result<(), Fail> {
+    let mut library = three(rt.alloc())?;
+    assert_eq!(rt; names(rt.alloc(), &library)?.as_slice(), b"ABC".as_slice());
+    let taken = library.delete(&sample::name(b"A"))?;
+    assert_eq!(rt; taken.name(), sample::name(b"A"));
+    assert_eq!(rt; names(rt.alloc(), &library)?.as_slice(), b"BC".as_slice());
+    library.add(taken)?;
+    library.replace(sample::module_with(rt.alloc(), sample::name(b"C"), sample::name(b"S"))?)?;
+    assert_eq!(rt; names(rt.alloc(), &library)?.as_slice(), b"BCA".as_slice());
+    let copy = library.extract(rt.alloc(), &sample::name(b"C"))?;
+    let public = copy.publics().first().ok_or("a public")?;
+    assert_eq!(rt; public.name, sample::name(b"S"));
     Ok(())
 }
 
-// The names where D, whose public is S, is added.
-fn with_d(alloc: Global) -> Result<Vec<u8>, LibError> {
-    let mut library = three(alloc)?;
-    library.add(sample::module_with(alloc, sample::name(b"D"), sample::name(b"S"))?)?;
-    Ok(names(alloc, &library)?)
-}
-
 #[test]
-fn a_module_is_added_at_the_end(rt: HostRuntime) -> Result<(), Fail> {
-    assert_eq!(rt; with_d(rt.alloc())?.as_slice(), b"ABCD".as_slice());
-    Ok(())
-}
-
-// The public of B, where B is replaced by one with the public S.
-fn replaced_public(alloc: Global) -> Result<Option<Name>, LibError> {
-    let mut library = three(alloc)?;
-    let b = sample::name(b"B");
-    library.replace(sample::module_with(alloc, b, sample::name(b"S"))?)?;
-    let copy = library.extract(alloc, &b)?;
-    Ok(copy.publics().first().map(|public| public.name))
-}
-
-#[test]
-fn a_replaced_module_is_extracted(rt: HostRuntime) -> Result<(), Fail> {
-    assert_eq!(rt; replaced_public(rt.alloc())?, Some(sample::name(b"S")));
-    Ok(())
-}
-
-// What adding such a module to A, B and C answers.
-fn adding(alloc: Global, name: &[u8], public: &[u8]) -> Result<(), LibError> {
-    let mut library = three(alloc)?;
-    library.add(sample::module_with(alloc, sample::name(name), sample::name(public))?)
-}
-
-// What replacing such a module in A, B and C answers.
-fn replacing(alloc: Global, name: &[u8], public: &[u8]) -> Result<(), LibError> {
-    let mut library = three(alloc)?;
-    library.replace(sample::module_with(alloc, sample::name(name), sample::name(public))?)
-}
-
-#[test]
-fn edits_are_refused_by_name_and_then_by_public(rt: HostRuntime) -> Result<(), Fail> {
-    let held = adding(rt.alloc(), b"B", b"Q");
+fn refused_edits_leave_the_library_as_it_was(rt: HostRuntime) -> Result<(), Fail> {
+    let mut library = three(rt.alloc())?;
+    let (b, d) = (sample::name(b"B"), sample::name(b"D"));
+    let (q, s) = (sample::name(b"Q"), sample::name(b"S"));
+    let held = library.add(sample::module_with(rt.alloc(), b, s)?);
+    assert_eq!(rt; held, Err(LibError::B1 { name: b }));
+    let shared = library.add(sample::module_with(rt.alloc(), d, q)?);
+    assert_eq!(rt; shared, Err(LibError::B3 { name: q }));
+    let absent = library.replace(sample::module_with(rt.alloc(), d, s)?);
+    assert_eq!(rt; absent, Err(LibError::B2 { name: d }));
+    assert_eq!(rt; library.delete(&d).err(), Some(LibError::B2 { name: d }));
     assert_eq!(rt;
-        held,
-        Err(LibError::B1 {
-            name: sample::name(b"B")
-        })
+        library.extract(rt.alloc(), &d).err(),
+        Some(LibError::B2 { name: d })
     );
-    let shared = adding(rt.alloc(), b"D", b"Q");
-    assert_eq!(rt;
-        shared,
-        Err(LibError::B3 {
-            name: sample::name(b"Q")
-        })
-    );
-    let absent = replacing(rt.alloc(), b"D", b"Q");
-    assert_eq!(rt;
-        absent,
-        Err(LibError::B2 {
-            name: sample::name(b"D")
-        })
-    );
-    assert_eq!(rt; replacing(rt.alloc(), b"B", b"Q"), Ok(()));
+    assert_eq!(rt; names(rt.alloc(), &library)?.as_slice(), b"ABC".as_slice());
     Ok(())
-}
-
-// The names where A is added, B with a public of A, which is refused, and C.
-fn passed_over(alloc: Global) -> Result<Vec<u8>, LibError> {
-    let mut edits = Vec::new(alloc);
-    for (name, public) in [(b"A", b"P"), (b"B", b"P"), (b"C", b"Q")] {
-        let module = sample::module_with(alloc, sample::name(name), sample::name(public))?;
-        edits.push(Edit::Add(module))?;
-    }
-    let mut library = Library::empty(alloc);
-    library.edit_all(edits)?;
-    Ok(names(alloc, &library)?)
 }
 
 #[test]
 fn a_list_of_edits_passes_over_the_refused_ones(rt: HostRuntime) -> Result<(), Fail> {
-    assert_eq!(rt; passed_over(rt.alloc())?.as_slice(), b"AC".as_slice());
+    let mut library = Library::empty(rt.alloc());
+    let (a, b, p) = (sample::name(b"A"), sample::name(b"B"), sample::name(b"P"));
+    let edits = vec![in rt.alloc();
+        Edit::Add(sample::module_with(rt.alloc(), a, p)?),
+        Edit::Add(sample::module_with(rt.alloc(), b, p)?),
+        Edit::Delete(b),
+        Edit::Replace(sample::module_with(rt.alloc(), a, b)?),
+        Edit::Add(sample::module_with(rt.alloc(), b, p)?),
+    ]?;
+    library.edit_all(edits)?;
+    assert_eq!(rt; names(rt.alloc(), &library)?.as_slice(), b"AB".as_slice());
     Ok(())
 }

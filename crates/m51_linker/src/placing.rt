@@ -1,5 +1,5 @@
 //! Where the segments of a module stand.
-ghost use Rattle.std.specs.Prelude.{◌≡◌, [], ◌∷◌, ◌++◌, All, IfOk, OnOk, codes};
+ghost use Rattle.std.specs.Prelude.{◌≡◌, [], ◌∷◌, ◌++◌, All, IfOk, OnOk, codes, map};
 ghost use Rattle.m51_linker.specs.Placement.{bank_0, absolute_at, plain_at, absolutes_of, fixed_of, relocatable_of, PlacesNext, Places};
 ghost use Rattle.m51_linker.specs.Ready.{PlacesModule};
 ghost use Rattle.m51_linker.specs.Shape.{IsData, IsTakenSegment, IsFirstShape};
@@ -62,15 +62,26 @@ fn plain_at(segment: &Segment, base: u16) -> Placed
     }
 }
 
+// These segments at their own bases.
+fn at_bases(alloc: Global, segments: &[Segment]) -> Result<Vec<Placed>, AllocError>
+    ensures { IfOk result (λ placed. placed.items ≡ map absolute_at segments.now) }
+{
+    let mut placed = Vec::new(alloc);
+    for segment in segments {
+        placed.push(absolute_at(segment))?;
+    }
+    Ok(placed)
+}
+
 // The absolute segments, placed.
 fn absolutes(alloc: Global, segments: &[Segment]) -> Result<Vec<Placed>, AllocError>
     ensures { IfOk result (λ placed. placed.items ≡ absolutes_of segments.now) }
 {
-    segments
-        .iter()
-        .filter(|segment| is_absolute(segment))
-        .map(absolute_at)
-        .collect(alloc)
+    // Kept out of a copy: `collect` would ask for less where a first growth is refused.
+    let mut absolute = Vec::new(alloc);
+    absolute.extend_from_slice(segments)?;
+    absolute.retain(|segment| is_absolute(segment));
+    at_bases(alloc, &absolute)
 }
 
 // The fixed extents: bank 0, and then the absolute segments.
@@ -87,11 +98,9 @@ fn fixed(alloc: Global, segments: &[Segment]) -> Result<Vec<Placed>, NoMemory>
 fn relocatables(alloc: Global, segments: &[Segment]) -> Result<Vec<Segment>, NoMemory>
     ensures { IfOk result (λ order. order.items ≡ relocatable_of segments.now) }
 {
-    let order = segments
-        .iter()
-        .filter(|segment| !is_absolute(segment))
-        .copied()
-        .collect(alloc)?;
+    let mut order = Vec::new(alloc);
+    order.extend_from_slice(segments)?;
+    order.retain(|segment| !is_absolute(segment));
     Ok(order)
 }
 

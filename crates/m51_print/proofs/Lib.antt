@@ -1,4 +1,6 @@
+pub mod Columns
 pub mod EdgeTests
+pub mod GivenRows
 pub mod PlacedTitles
 pub mod Ranges
 pub mod Steps

@@ -1,3 +1,5 @@
+pub mod Lent
 pub mod Lines
+pub mod Listing
 pub mod Map
 pub mod Refusals

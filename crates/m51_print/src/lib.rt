@@ -1,4 +1,4 @@
-//! The texts that a build and a run write: the map, the lines of a record, and refusals.
+//! The texts that a build and a run write: the listing, the map, the lines of a record, and refusals.
 #![tactic(auto)]
 
 mod lines;
@@ -7,11 +7,14 @@ mod overlaid;
 mod pushing;
 mod putting;
 mod refusals;
+mod rows;
+mod sources;
 mod titles;
 
 pub use lines::{end_line, trace_line};
 pub use map::map_text;
 pub use refusals::refusal_text;
+pub use sources::listing;
 
 #[cfg(test)]
 mod tests;

@@ -1,9 +1,9 @@
 //! Texts and numbers appended to a text.
 ghost use Rattle.std.specs.Prelude.{◌≡◌, ◌++◌, OnOk};
 ghost use Rattle.std.specs.Fmt.{decimal};
-ghost use Rattle.m51_cells.specs.Hex.{hex4};
+ghost use Rattle.m51_cells.specs.Hex.{hex2, hex4};
 
-use crate::putting::{put_decimal, put_hex4};
+use crate::putting::{put_decimal, put_hex2, put_hex4};
 use m51_cells::NoMemory;
 
 /// Appends bytes.
@@ -24,6 +24,17 @@ pub fn push_decimal(text: &mut Vec<u8>, number: u64) -> Result<(), NoMemory>
 {
     let mut digits = [0; 128];
     let end = put_decimal(&mut digits, 0, number);
+    push_text(text, &digits[..end])
+}
+
+/// Appends the two digits of a byte.
+///
+/// Source: own choice ("Texts").
+pub fn push_hex2(text: &mut Vec<u8>, byte: u8) -> Result<(), NoMemory>
+    ensures { OnOk result (text.new.items ≡ text.old.items ++ hex2 byte) }
+{
+    let mut digits = [0; 128];
+    let end = put_hex2(&mut digits, 0, byte);
     push_text(text, &digits[..end])
 }
 

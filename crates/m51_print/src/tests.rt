@@ -1,12 +1,15 @@
 //! What no clause says: that the definitions give the texts that the formats ask for.
-ghost use Rattle.std.specs.Prelude.{◌≡◌, ◌≢◌, ◌<◌, length};
+ghost use Rattle.std.specs.Prelude.{◌≡◌, ◌≢◌, ◌<◌, ◌≤◌, ◌∷◌, [], All, IfOk, length};
+ghost use Rattle.m51_lines.specs.Lines.{lines_of};
 ghost use Rattle.m51_print.specs.Lines.{IsDataCell};
+ghost use Rattle.m51_print.specs.Listing.{IsRowOf};
 
 use crate::map::{push_chain_line, push_segments, push_unit_line};
 use crate::overlaid::overlaid_below;
-use crate::{end_line, refusal_text, trace_line};
-use m51_cells::{Cell, Entry, Event, Kind, ListOf, Name, NoMemory, Reloc, Space, Why};
-use m51_module::{Mark, Placed, Quantity, Refusal};
+use crate::rows::push_row;
+use crate::{end_line, listing, refusal_text, trace_line};
+use m51_cells::{Bytes, Cell, Entry, Event, Kind, ListOf, Name, NoMemory, Reloc, Space, Why};
+use m51_module::{Mark, Placed, Quantity, Refusal, Row, SourceFile};
 use std::alloc::Global;
 use std::test::Fail;
 
@@ -253,5 +256,97 @@ fn an_echo_has_its_lines_of_the_map(rt: HostRuntime) -> Result<(), Fail> {
         CHAIN @000B 1 @000B,?PR?MAIN\n";
     assert_eq!(rt; text.as_slice(), expected.as_slice());
     assert_eq!(rt; overlaid_below(&placed, 256), 2);
+    Ok(())
+}
+
+fn file(alloc: Global, text: &[u8]) -> Result<SourceFile, NoMemory>
+    ensures { IfOk result (λ file. file.bytes ≡ text.now) }
+{
+    Ok(SourceFile {
+        name: Bytes::new(alloc),
+        bytes: Bytes::of(Vec::from_slice(alloc, text)?),
+    })
+}
+
+fn row(file: u16, line: u32, place: Option<u16>, count: u8, bytes: [u8; 3]) -> Row
+    ensures file { result.file ≡ file }
+    ensures line { result.line ≡ line }
+    ensures count { result.count ≡ count }
+{
+    Row {
+        file,
+        line,
+        place,
+        count,
+        bytes,
+        marked: false,
+    }
+}
+
+#[tactic(auto, using(crate::proofs::GivenRows::are_of_texts))]
+fn lists(
+    alloc: Global,
+    source: &[u8],
+    include: &[u8],
+    rows: &[Row],
+    expected: &[u8],
+) -> Result<bool, NoMemory>
+    requires { All (IsRowOf (lines_of source.now ∷ lines_of include.now ∷ [])) rows.now }
+{
+    let source = file(alloc, source)?;
+    let includes = [file(alloc, include)?];
+    let rows = ListOf::of(Vec::from_slice(alloc, rows)?);
+    let text = listing(alloc, &source, &includes, &rows)?;
+    Ok(text.as_slice() == expected)
+}
+
+#[test]
+fn a_source_and_its_include_are_listed_in_columns(rt: HostRuntime) -> Result<(), Fail> {
+    let rows = [
+        row(0, 1, None, 0, [0; 3]),
+        row(0, 2, Some(0), 3, [0x75, 0x90, 0x55]),
+        row(1, 1, Some(3), 2, [0x80, 0xFE, 0]),
+        row(0, 3, None, 0, [0; 3]),
+    ];
+    let expected = b"    1              CSEG AT 0\n    \
+        2 0000 759055  MOV P1,#55H\n    \
+        1 0003 80FE    SJMP $\n    \
+        3              END\n";
+    assert!(rt;
+        lists(
+            rt.alloc(),
+            b"CSEG AT 0\nMOV P1,#55H\nEND\n",
+            b"SJMP $\r\n",
+            &rows,
+            expected
+        )?
+    );
+    Ok(())
+}
+
+fn is_row_line(alloc: Global, row: &Row, line: &[u8], expected: &[u8]) -> Result<bool, NoMemory>
+    requires { row.now.count ≤ 3 }
+{
+    let mut text = Vec::new(alloc);
+    push_row(&mut text, row, line)?;
+    Ok(text.as_slice() == expected)
+}
+
+#[test]
+fn a_row_tells_a_fixup_and_a_number_as_long_as_it_is(rt: HostRuntime) -> Result<(), Fail> {
+    let mut call = row(0, 12, Some(0xFA0B), 3, [0x12, 0, 0]);
+    call.marked = true;
+    assert!(rt;
+        is_row_line(
+            rt.alloc(),
+            &call,
+            b" LCALL SEND",
+            b"   12 FA0B 120000*  LCALL SEND\n"
+        )?
+    );
+    let long = row(0, 123456, Some(0), 1, [0; 3]);
+    assert!(rt; is_row_line(rt.alloc(), &long, b"NOP", b"123456 0000 00      NOP\n")?);
+    let empty = row(0, 65535, None, 0, [0; 3]);
+    assert!(rt; is_row_line(rt.alloc(), &empty, b"", b"65535              \n")?);
     Ok(())
 }

@@ -1,0 +1,4 @@
+pub mod Registers
+pub mod Bits
+pub mod Predefined
+pub mod Laws

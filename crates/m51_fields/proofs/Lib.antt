@@ -1,0 +1,4 @@
+pub mod TakenFields
+pub mod Reaching
+pub mod Leading
+pub mod BitNumbers

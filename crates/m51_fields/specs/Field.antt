@@ -1,0 +1,79 @@
+-- What a value gives in a field of a statement: a number, a reference, or nothing, which is E14.
+use Rattle.std.specs.Prelude.{ℕ, ◌+◌, ◌-◌, ◌/◌, ◌%◌, ◌==◌, ◌<◌, Bool, ◌&&◌, ◌||◌, nat_le, if◌then◌else◌, Option, Some, None}
+use Rattle.m51_expr.specs.declared.value.Value.{Value}
+use Rattle.m51_expr.specs.Value.{counted}
+use Rattle.m51_expr.specs.Meanings.{Meanings, is_unplaced}
+use Rattle.m51_fields.specs.declared.place.Place.{Place}
+use Rattle.m51_fields.specs.declared.place.Place.TheVariants.{Word, Target, Block, Relative}
+use Rattle.m51_fields.specs.declared.reference.Field.{Field}
+use Rattle.m51_fields.specs.declared.reference.Field.TheVariants.{Number, Linked}
+use Rattle.m51_fields.specs.Place.{takes_class, takes_part, takes_number, held_of}
+use Rattle.m51_fields.specs.Reference.{reference_of}
+use Rattle.m51_fields.specs.Bases.{is_current, stands_absolute, is_linked}
+
+-- The place takes the class, the operator and the number. The number of a relocatable or external base is left to the link.
+abbrev pub is_taken : Meanings → Place → Value → Bool
+is_taken names at v =
+    takes_class at v.class && takes_part at v.part && (is_unplaced names v.base || takes_number at (counted v))
+
+-- how far a target lies from the address behind a statement, modulo 65,536
+abbrev pub distance : ℕ → ℕ → ℕ
+distance next target = (65536 + target - next) % 65536
+
+-- a distance from -128 to 127
+abbrev pub is_near : ℕ → Bool
+is_near d = nat_le d 127 || nat_le 65408 d
+
+-- two addresses in one block of 2,048 bytes
+abbrev pub same_block : ℕ → ℕ → Bool
+same_block a b = a / 2048 == b / 2048
+
+-- the signed byte from behind a statement to a target
+abbrev pub rel_of : ℕ → ℕ → Option Field
+rel_of next target = if is_near (distance next target) then Some (Number (distance next target % 256)) else None
+
+-- the address of a target within the block of what is behind a statement
+abbrev pub addr11_of : ℕ → ℕ → Option Field
+addr11_of next target = if same_block target next then Some (Number (target % 2048)) else None
+
+-- A relative target is computed in the current segment, and a number where that is absolute.
+abbrev pub relative_of : Meanings → ℕ → Value → Option Field
+relative_of names next v =
+    if is_current names v.base then rel_of next (counted v)
+    else if is_linked names v.base then Some (Linked (reference_of Relative v))
+    else if stands_absolute names then rel_of next (counted v)
+    else None
+
+-- A target within a block is computed where it counts as a number and the statement stands in an absolute segment.
+abbrev pub block_of : Meanings → ℕ → Value → Option Field
+block_of names next v =
+    if is_linked names v.base then Some (Linked (reference_of Block v))
+    else if stands_absolute names then addr11_of next (counted v)
+    else None
+
+-- how many numbers a field of the place can hold
+abbrev pub size_of : Place → ℕ
+size_of Word = 65536
+size_of Target = 65536
+size_of Block = 2048
+size_of at = 256
+
+-- a number that the field can hold
+abbrev pub FitsPlace : Place → Field → Type 0
+FitsPlace at (Number n) = n < size_of at
+FitsPlace at (Linked reference) = Unit {0}
+
+-- a reference where the linker adds the base, else the number
+abbrev pub stored_of : Meanings → Place → Value → Field
+stored_of names at v =
+    if is_linked names v.base then Linked (reference_of at v) else Number (held_of at (counted v))
+
+-- what is taken at the place gives this field
+abbrev pub taken_of : Meanings → Place → ℕ → Value → Option Field
+taken_of names Relative next v = relative_of names next v
+taken_of names Block next v = block_of names next v
+taken_of names at next v = Some (stored_of names at v)
+
+-- the field of a value at a place, with the address behind the statement
+unfoldable pub field_of : Meanings → Place → ℕ → Value → Option Field
+field_of names at next v = if is_taken names at v then taken_of names at next v else None

@@ -1,0 +1,21 @@
+use Rattle.std.proofs.Common.{◌≡◌, ◌≤◌, ◌+◌, ◌*◌, length, vec_len}
+use Rattle.m51_lines.specs.Lines.{lines_of}
+use Rattle.m51_text.specs.Text.{brought, lines_with, file_lines}
+use Rattle.m51_text.specs.Reading.{state_of, after}
+use Rattle.m51_text.proofs.inserting.+inserting.Given as goal
+
+abbrev pub decreases-read_file : goal.decreases-read_file
+decreases-read_file l = 2 * l.levels + 1
+
+abbrev pub decreases-insert : goal.decreases-insert
+decreases-insert l = 2 * l.levels
+
+abbrev pub invariant-read_file-loop-text : goal.invariant-read_file-loop-text
+invariant-read_file-loop-text l = record {
+  state : after l.includes (state_of l.reading) (lines_with (brought l.includes l.levels) l.levels l.file l.line (lines_of l.rest)) ≡ after l.includes (state_of l.fn.reading) (file_lines l.includes l.levels l.file l.bytes);
+  line : l.line ≤ vec_len l.reading.entries + 1;
+  grows : vec_len l.fn.reading.entries ≤ vec_len l.reading.entries;
+}
+
+abbrev pub decreases-read_file-loop-text : goal.decreases-read_file-loop-text
+decreases-read_file-loop-text l = length l.rest

@@ -1,0 +1,64 @@
+-- Lines that were read.
+use Rattle.std.specs.Prelude.{ℕ, ◌==◌, ◌&&◌, not, Bool, if◌then◌else◌, List, [], ◌∷◌, Option, Some, None, option_map, Result, Ok, Err}
+use Rattle.std.specs.List.{list_any}
+use Rattle.m51_stmt.specs.declared.statement.Stmt.{Stmt}
+use Rattle.m51_stmt.specs.Statement.{StmtTree}
+use Rattle.m51_text.specs.declared.fault.Fault.{Fault}
+use Rattle.m51_text.specs.declared.text.Line.{Line}
+use Rattle.m51_text.specs.declared.entry.Entry.{Entry}
+use Rattle.m51_text.specs.Said.{said_tree}
+use Rattle.m51_text.specs.Answer.{LineTree}
+
+-- a line that was read: what it says, and its fault by its place, which counts where it says a statement
+pub record EntryTree : Type 0 where
+  pub file : ℕ
+  pub line : ℕ
+  pub said : Result StmtTree ℕ
+  pub by_place : Option ℕ
+
+abbrev pub entry_tree : Entry → EntryTree
+entry_tree e = record { file = e.file; line = e.line; said = said_tree e.said; by_place = e.by_place }
+
+abbrev pub fault_at : ℕ → ℕ → ℕ → Fault
+fault_at file line number = record { file = file; line = line; number = number }
+
+abbrev pub fault_said : ℕ → ℕ → Option ℕ → Result StmtTree ℕ → Option Fault
+fault_said file line by_place (Err number) = Some (fault_at file line number)
+fault_said file line by_place (Ok statement) = option_map (fault_at file line) by_place
+
+-- the fault of a line
+abbrev pub fault_of_entry : EntryTree → Option Fault
+fault_of_entry e = fault_said e.file e.line e.by_place e.said
+
+-- the same of a line as it is kept
+unfoldable pub fault_kept : Entry → Option Fault
+fault_kept e = fault_of_entry (entry_tree e)
+
+abbrev pub line_said : ℕ → ℕ → Result Stmt ℕ → Option Line
+line_said file line (Ok statement) = Some (record { file = file; line = line; stmt = statement })
+line_said file line (Err number) = None
+
+-- a line with its statement
+abbrev pub line_of_entry : Entry → Option Line
+line_of_entry e = line_said e.file e.line e.said
+
+abbrev pub tree_said : ℕ → ℕ → Result StmtTree ℕ → Option LineTree
+tree_said file line (Ok statement) = Some (record { file = file; line = line; stmt = statement })
+tree_said file line (Err number) = None
+
+-- a line with its statement, as contracts see it
+abbrev pub tree_of_entry : EntryTree → Option LineTree
+tree_of_entry e = tree_said e.file e.line e.said
+
+-- the line stands in the source itself
+abbrev pub is_of_source : EntryTree → Bool
+is_of_source e = e.file == 0
+
+-- fault 16 of a line at which END is missing
+abbrev pub with_missing_end : Bool → EntryTree → EntryTree
+with_missing_end missing e = record { file = e.file; line = e.line; said = e.said; by_place = if missing then Some 16 else e.by_place }
+
+-- these lines with fault 16 at the last line of the source
+abbrev pub marked : List EntryTree → List EntryTree
+marked [] = []
+marked (e ∷ entries) = with_missing_end (is_of_source e && not (list_any is_of_source entries)) e ∷ marked entries

@@ -1,0 +1,6 @@
+pub mod Said
+pub mod Text
+pub mod Faults
+pub mod Answer
+pub mod Entries
+pub mod Reading

@@ -1,0 +1,47 @@
+-- What a line of a source says.
+use Rattle.std.specs.Prelude.{ℕ, ◌==◌, ◌&&◌, ◌||◌, not, Bool, true, false, nat_le, if◌then◌else◌, List, Option, Some, None, is_some, Result, Ok, Err}
+use Rattle.std.specs.List.{list_all}
+use Rattle.m51_lex.specs.Characters.{tab}
+use Rattle.m51_stmt.specs.declared.statement.Stmt.{Stmt}
+use Rattle.m51_stmt.specs.Statement.{BodyTree, Empty, End, Include, StmtTree, stmt_tree}
+use Rattle.m51_stmt.specs.Lines.{statement_of}
+
+-- a byte that may stand in a line: a tab, or 20H to 7EH
+abbrev pub is_character : ℕ → Bool
+is_character byte = byte == tab || nat_le 0x20 byte && nat_le byte 0x7E
+
+-- What a line says, its end left out: its statement, or fault 18 for a byte that may not stand, or else the first fault by
+-- the grammar of lines.
+unfoldable pub said : List ℕ → Result StmtTree ℕ
+said line = if list_all is_character line then statement_of line else Err 18
+
+-- what contracts see of a statement or its fault
+abbrev pub said_tree : Result Stmt ℕ → Result StmtTree ℕ
+said_tree (Ok statement) = Ok (stmt_tree statement)
+said_tree (Err number) = Err number
+
+abbrev pub is_end_body : BodyTree → Bool
+is_end_body End = true
+is_end_body body = false
+
+-- END, with or without a label
+abbrev pub is_end : Result StmtTree ℕ → Bool
+is_end (Ok statement) = is_end_body statement.body
+is_end (Err number) = false
+
+abbrev pub is_empty_body : BodyTree → Bool
+is_empty_body Empty = true
+is_empty_body body = false
+
+-- a label, a statement or a control: more than blanks and a comment
+abbrev pub is_text : StmtTree → Bool
+is_text statement = is_some statement.label || not (is_empty_body statement.body)
+
+abbrev pub include_name : BodyTree → Option (List ℕ)
+include_name (Include name) = Some name
+include_name body = None
+
+-- the name of the include that a line asks for
+abbrev pub asked : Result StmtTree ℕ → Option (List ℕ)
+asked (Ok statement) = include_name statement.body
+asked (Err number) = None

@@ -1,0 +1,76 @@
+//! Reads the lines of a file, and those of the includes that they bring in.
+ghost use Rattle.std.specs.Prelude.{◌≡◌, ◌≤◌, OnOk, length, vec_len};
+ghost use Rattle.m51_text.specs.Text.{IsAllowed, file_lines};
+ghost use Rattle.m51_text.specs.Reading.{state_of, after, inserted};
+
+use crate::inclusion::{Inclusion, bytes_at};
+use crate::reading::{Place, Reading};
+use m51_cells::NoMemory;
+use m51_lines::first_line;
+use m51_module::SourceFile;
+use std::alloc::Global;
+
+/// Reads a file's lines, each with those behind it that it brings in. So many levels of includes may stand below them.
+/// Where 65,536 lines are read, nothing more is.
+///
+/// Errors: want of memory.
+///
+/// Source: own choice ("The text of a source").
+#[cycle(inserting)]
+pub(crate) fn read_file(
+    alloc: Global,
+    includes: &[SourceFile],
+    levels: u8,
+    file: u16,
+    bytes: &[u8],
+    reading: &mut Reading,
+) -> Result<(), NoMemory>
+    requires { length includes.now ≤ 65535 }
+    ensures state { OnOk result (state_of reading.new ≡ after includes.now (state_of reading.old) (file_lines includes.now levels file bytes.now)) }
+    ensures grows { OnOk result (vec_len reading.old.entries ≤ vec_len reading.new.entries) }
+{
+    let mut rest = bytes;
+    let mut line = 1;
+    while let Some((text, behind)) = first_line(rest) {
+        if reading.is_full() {
+            return Ok(());
+        }
+        let place = Place { file, line, levels };
+        let inclusion = reading.read_line(alloc, includes, place, text)?;
+        insert(alloc, includes, levels, inclusion, reading)?;
+        line += 1;
+        rest = behind;
+    }
+    Ok(())
+}
+
+// Reads the lines of the include that a line brings in, below which so many levels may stand.
+#[cycle(inserting)]
+#[tactic(auto, using(crate::proofs::Afters::after_last))]
+fn insert(
+    alloc: Global,
+    includes: &[SourceFile],
+    levels: u8,
+    inclusion: Inclusion,
+    reading: &mut Reading,
+) -> Result<(), NoMemory>
+    requires few { length includes.now ≤ 65535 }
+    requires allowed { IsAllowed (length includes.now) levels inclusion }
+    ensures state { OnOk result (state_of reading.new ≡ after includes.now (state_of reading.old) (inserted includes.now levels inclusion)) }
+    ensures grows { OnOk result (vec_len reading.old.entries ≤ vec_len reading.new.entries) }
+{
+    match inclusion {
+        Inclusion::Given(index) => {
+            let bytes = bytes_at(includes, index);
+            read_file(
+                alloc,
+                includes,
+                levels - 1,
+                index as u16 + 1,
+                bytes,
+                reading,
+            )
+        }
+        Inclusion::Nothing | Inclusion::Refused => Ok(()),
+    }
+}

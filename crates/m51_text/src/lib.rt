@@ -1,0 +1,20 @@
+//! Reads the text of a source: its lines and those of its includes, each with its statement, or the faults of lines.
+#![tactic(auto)]
+
+mod answering;
+mod entry;
+mod fault;
+mod inclusion;
+mod inserting;
+mod missing_end;
+mod placing;
+mod reading;
+mod saying;
+mod text;
+
+pub use answering::read_text;
+pub use fault::{Fault, Faults};
+pub use text::{Line, Lines, Text};
+
+#[cfg(test)]
+mod tests;

@@ -1,0 +1,92 @@
+//! Faults that lines have by their place.
+ghost use Rattle.std.specs.Prelude.{◌≡◌, ◌==◌};
+ghost use Rattle.m51_stmt.specs.Statement.{body_tree, stmt_tree};
+ghost use Rattle.m51_text.specs.Said.{is_end_body, is_empty_body, is_end, is_text, said_tree};
+ghost use Rattle.m51_text.specs.Faults.{is_misplaced, is_refused, fault_by_place};
+
+use crate::inclusion::Inclusion;
+use crate::saying::Said;
+use m51_stmt::{Body, Stmt};
+
+/// How many lines of a text are read.
+pub(crate) const MOST_LINES: usize = 65_536;
+
+fn is_end_body(body: &Body) -> bool
+    ensures { result ≡ is_end_body (body_tree body.now) }
+{
+    match body {
+        Body::End => true,
+        _ => false,
+    }
+}
+
+fn is_empty_body(body: &Body) -> bool
+    ensures { result ≡ is_empty_body (body_tree body.now) }
+{
+    match body {
+        Body::Empty => true,
+        _ => false,
+    }
+}
+
+/// Whether a line says END.
+///
+/// Source: own choice ("Faults of a source").
+pub(crate) fn is_end(said: &Said) -> bool
+    ensures { result ≡ is_end (said_tree said.now) }
+{
+    match said {
+        Ok(statement) => is_end_body(&statement.body),
+        Err(_) => false,
+    }
+}
+
+// Whether there is more than blanks and a comment.
+fn is_text(statement: &Stmt) -> bool
+    ensures { result ≡ is_text (stmt_tree statement.now) }
+{
+    statement.label.is_some() || !is_empty_body(&statement.body)
+}
+
+// Whether it is text behind the END of the source, or END in an include.
+fn is_misplaced(ended: bool, file: u16, statement: &Stmt) -> bool
+    ensures { result ≡ is_misplaced ended (file == 0) (stmt_tree statement.now) }
+{
+    if ended && is_text(statement) {
+        return true;
+    }
+    file != 0 && is_end_body(&statement.body)
+}
+
+fn is_refused(inclusion: Inclusion) -> bool
+    ensures { result ≡ is_refused inclusion }
+{
+    match inclusion {
+        Inclusion::Refused => true,
+        Inclusion::Nothing | Inclusion::Given(_) => false,
+    }
+}
+
+/// The first fault by its place of a line that says a statement, with so many lines above it: E16 for text behind the END
+/// of the source and for END in an include, E17 for an include that is refused, E19 for line 65,536.
+///
+/// Source: own choice ("Faults of a source").
+pub(crate) fn fault_by_place(
+    ended: bool,
+    file: u16,
+    statement: &Stmt,
+    inclusion: Inclusion,
+    above: usize,
+) -> Option<u8>
+    ensures { result ≡ fault_by_place (is_misplaced ended (file == 0) (stmt_tree statement.now)) inclusion above }
+{
+    if is_misplaced(ended, file, statement) {
+        Some(16)
+    } else if is_refused(inclusion) {
+        Some(17)
+    } else if above == MOST_LINES - 1 {
+        Some(19)
+    } else {
+        None
+    }
+}

@@ -1,0 +1,122 @@
+//! What is kept while a text is read.
+ghost use Rattle.std.specs.Prelude.{◌≡◌, ◌+◌, ◌==◌, ◌&&◌, ◌<◌, [], Bool, false, IfOk, OnOk, length, nat_le, nat_lt, not, vec_len};
+ghost use Rattle.m51_text.specs.Said.{said, said_tree, is_end};
+ghost use Rattle.m51_text.specs.Text.{inclusion_of, IsAllowed};
+ghost use Rattle.m51_text.specs.Reading.{State, state_of, text_line, fault_above, next};
+
+use crate::entry::Entry;
+use crate::inclusion::{Inclusion, inclusion_of};
+use crate::placing::{MOST_LINES, fault_by_place, is_end};
+use crate::saying::{Said, said};
+use m51_cells::NoMemory;
+use m51_module::SourceFile;
+use std::alloc::Global;
+
+/// Where a line stands.
+///
+/// Source: own choice ("The text of a source").
+#[derive(Clone, Copy)]
+pub(crate) struct Place {
+    /// The file: 0 for the source, k for the k-th include.
+    pub file: u16,
+    /// The line in that file, counted from 1.
+    pub line: u32,
+    /// How many levels of includes may stand below the line.
+    pub levels: u8,
+}
+
+/// The lines that were read, and whether the END of the source is among them.
+///
+/// Source: own choice ("The text of a source").
+#[derive(Drop)]
+pub(crate) struct Reading {
+    pub entries: Vec<Entry>,
+    pub ended: bool,
+}
+
+// Whether it is an END of the source itself.
+fn ends_source(file: u16, said: &Said) -> bool
+    ensures { result ≡ ((file == 0) && is_end (said_tree said.now)) }
+{
+    file == 0 && is_end(said)
+}
+
+impl Reading {
+    /// No line is read yet.
+    ///
+    /// Source: own choice ("The text of a source").
+    pub(crate) fn new(alloc: Global) -> Reading
+        ensures { state_of result ≡ record { entries = []; ended = false } }
+    {
+        Reading {
+            entries: Vec::new(alloc),
+            ended: false,
+        }
+    }
+
+    /// Whether reading stops here: 65,536 lines are read.
+    ///
+    /// Source: own choice ("Faults of a source").
+    pub(crate) fn is_full(&self) -> bool
+        ensures { result ≡ nat_le 65536 (vec_len self.now.entries) }
+    {
+        self.entries.len() >= MOST_LINES
+    }
+
+    /// Whether END is missing: all was read, and no END of the source is among it.
+    ///
+    /// Source: own choice ("Faults of a source").
+    pub(crate) fn lacks_end(&self) -> bool
+        ensures { result ≡ (nat_lt (vec_len self.now.entries) 65536 && not self.now.ended) }
+    {
+        !self.is_full() && !self.ended
+    }
+
+    // The fault by its place of the next line, where it says a statement.
+    fn next_fault(&self, file: u16, inclusion: Inclusion, said: &Said) -> Option<u8>
+        ensures { result ≡ fault_above (vec_len self.now.entries) self.now.ended file inclusion (said_tree said.now) }
+    {
+        match said {
+            Ok(statement) => fault_by_place(
+                self.ended,
+                file,
+                statement,
+                inclusion,
+                self.entries.len(),
+            ),
+            Err(_) => None,
+        }
+    }
+
+    /// Reads the next line, which stands without its end, and says which include it brings in.
+    ///
+    /// Errors: want of memory.
+    ///
+    /// Source: own choice ("The text of a source").
+    pub(crate) fn read_line(
+        &mut self,
+        alloc: Global,
+        includes: &[SourceFile],
+        place: Place,
+        line: &[u8],
+    ) -> Result<Inclusion, NoMemory>
+        requires { vec_len self.old.entries < 65536 }
+        ensures state { OnOk result (state_of self.new ≡ next includes.now (state_of self.old) (text_line place line.now)) }
+        ensures inclusion { IfOk result (λ found. found ≡ inclusion_of includes.now place.levels (said line.now)) }
+        ensures more { OnOk result (vec_len self.new.entries ≡ vec_len self.old.entries + 1) }
+        ensures allowed { IfOk result (IsAllowed (length includes.now) place.levels) }
+    {
+        let said = said(alloc, line)?;
+        let inclusion = inclusion_of(includes, place.levels, &said);
+        let by_place = self.next_fault(place.file, inclusion, &said);
+        let ends = ends_source(place.file, &said);
+        self.entries.push(Entry {
+            file: place.file,
+            line: place.line,
+            said,
+            by_place,
+        })?;
+        self.ended = self.ended || ends;
+        Ok(inclusion)
+    }
+}

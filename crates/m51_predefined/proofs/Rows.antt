@@ -31,6 +31,7 @@ abbrev pub pairs_pass : (Row → Row → Bool) → List Row → Bool
 pairs_pass test [] = true
 pairs_pass test (r ∷ rows) = list_all (test r) rows && pairs_pass test rows
 
+-- a fact that the test shows holds of each row and each later one
 pub pairs : (R : Row → Row → Type 0) (test : Row → Row → Bool) → ((r s : Row) → test r s ≡ true → R r s) → (rows : List Row) → pairs_pass test rows ≡ true → AllPairs R rows
 pairs R test shows [] h = λ i j d before within. absurd (omega (arith, within))
 pairs R test shows (r ∷ rows) h =

@@ -8,10 +8,11 @@ pub record NamedByte : Type 0 where
   pub address : ℕ
   pub names : List (Option (List ℕ))
 
+-- the byte at an address, with the names of its bits
 abbrev pub byte : ℕ → List (Option (List ℕ)) → NamedByte
 byte address names = record { address = address; names = names }
 
--- The names of the bits 0 and 1 of T2CON hold a sign, so no source can write them.
+-- The bytes by ascending addresses. The names of the bits 0 and 1 of T2CON hold a sign, so no source can write them.
 unfoldable pub named_bytes : List NamedByte
 named_bytes =
     -- TCON

@@ -26,6 +26,7 @@ pub record IsFree (name : List ℕ) : Type 0 where
   pub written : IsWritten name
   pub free : is_reserved name ≡ false
 
+-- all names of the tables
 abbrev pub NamesAreFree : Type 0
 NamesAreFree = All (λ r. IsFree r.name) (registers ++ bits)
 
@@ -46,5 +47,6 @@ pub record HasBits (b : NamedByte) : Type 0 where
   pub addresses : (bit : ℕ) → bit < 8 → bit_address b.address bit ≡ Some (b.address + bit)
   pub dot : (names : Meanings) (bit : ℕ) → bit < 8 → bit_of names (plain b.address kind.Direct) bit ≡ Ok (plain (b.address + bit) kind.Bits)
 
+-- all bytes with named bits
 abbrev pub BytesHaveBits : Type 0
 BytesHaveBits = All HasBits named_bytes

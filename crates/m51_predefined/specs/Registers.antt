@@ -7,6 +7,7 @@ pub record Row : Type 0 where
   pub name : List ℕ
   pub address : ℕ
 
+-- the row of a name and an address
 abbrev pub row : List ℕ → ℕ → Row
 row name address = record { name = name; address = address }
 

@@ -7,6 +7,7 @@ use crate::names::plain;
 use m51_cells::{Kind, Name};
 use m51_expr::Value;
 
+// The registers of a bank by their names, from register 0 upward.
 const BANK_REGISTERS: [&[u8]; 8] = [
     b"AR0", b"AR1", b"AR2", b"AR3", b"AR4", b"AR5", b"AR6", b"AR7",
 ];

@@ -1,0 +1,4 @@
+pub mod RowsFound
+pub mod RowsSpelled
+pub mod RowsSame
+pub mod Standing

@@ -1,0 +1,69 @@
+-- What the operands of a line give in the fields of its row.
+use Rattle.std.specs.Prelude.{ℕ, ◌==◌, if◌then◌else◌, List, [], ◌∷◌, Option, Some, None, Result, Ok, Err}
+use Rattle.std.specs.Option.{option_or}
+use Rattle.m51_expr.specs.declared.value.Value.{Value}
+use Rattle.m51_expr.specs.Tree.{Tree}
+use Rattle.m51_expr.specs.Value.{Valued}
+use Rattle.m51_expr.specs.Meanings.{Meanings}
+use Rattle.m51_expr.specs.Evaluation.{value_of}
+use Rattle.m51_stmt.specs.Statement.{OperandTree, Imm, Plain, NotBit}
+use Rattle.m51_fields.specs.declared.reference.Reference.{Reference}
+use Rattle.m51_fields.specs.declared.reference.Field.{Field}
+use Rattle.m51_fields.specs.declared.reference.Field.TheVariants.{Number, Linked}
+use Rattle.m51_fields.specs.Field.{field_of}
+use Rattle.m51_coding.specs.declared.slots.FieldSlot.{FieldSlot}
+use Rattle.m51_coding.specs.declared.filling.Held.{Held}
+use Rattle.m51_coding.specs.declared.filling.CodingError.{CodingError}
+
+-- a result, or a fault
+abbrev pub Answer : Type 0 → Type 0
+Answer A = Result A CodingError
+
+abbrev pub fault : {A : Type 0} → ℕ → Answer A
+fault k = Err (record { number = k })
+
+abbrev pub and_then : {A B : Type 0} → Answer A → (A → Answer B) → Answer B
+and_then (Ok a) go = go a
+and_then (Err e) go = Err e
+
+-- an operand without a field
+abbrev pub nothing : Held
+nothing = record { number = 0; byte = 0; reference = None }
+
+-- a number stands in its field, and 0 where the linker fills it in; a value that has no field there is E14
+abbrev pub holding : ℕ → Option Field → Answer Held
+holding byte (Some (Number n)) = Ok (record { number = n; byte = byte; reference = None })
+holding byte (Some (Linked r)) = Ok (record { number = 0; byte = byte; reference = Some r })
+holding byte None = fault 14
+
+-- what a value gives in the field
+abbrev pub valued : Meanings → ℕ → FieldSlot → Valued Value → Answer Held
+valued names next slot (Ok v) = holding slot.byte (field_of names slot.place next v)
+valued names next slot (Err e) = fault e.number
+
+-- the expression of an operand
+abbrev pub expression : OperandTree → Option Tree
+expression (Imm e) = Some e
+expression (Plain e) = Some e
+expression (NotBit e) = Some e
+expression operand = None
+
+abbrev pub filled_by : Meanings → ℕ → FieldSlot → Option Tree → Answer Held
+filled_by names next slot (Some e) = valued names next slot (value_of names e)
+filled_by names next slot None = Ok nothing
+
+-- what an operand of the line gives in the field of the operand of the row
+abbrev pub filled : Meanings → ℕ → Option FieldSlot → Option OperandTree → Answer Held
+filled names next (Some slot) (Some operand) = filled_by names next slot (expression operand)
+filled names next slot operand = Ok nothing
+
+-- the reference of a field that begins at this byte
+abbrev pub beginning_at : ℕ → Held → Option Reference
+beginning_at byte f = if f.byte == byte then f.reference else None
+
+abbrev pub reference_at : ℕ → Held → Held → Held → Option Reference
+reference_at byte a b c = option_or (beginning_at byte a) (option_or (beginning_at byte b) (beginning_at byte c))
+
+-- by the byte where their fields begin
+abbrev pub references_of : Held → Held → Held → List (Option Reference)
+references_of a b c = reference_at 0 a b c ∷ reference_at 1 a b c ∷ reference_at 2 a b c ∷ []

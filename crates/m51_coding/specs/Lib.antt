@@ -1,0 +1,13 @@
+pub mod Spelling
+pub mod Shapes
+pub mod Arithmetic
+pub mod Logic
+pub mod Moves
+pub mod Branches
+pub mod Jumps
+pub mod Rows
+pub mod Slots
+pub mod Filling
+pub mod Coding
+pub mod Laws
+pub mod Meaning

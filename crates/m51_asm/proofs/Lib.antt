@@ -7,3 +7,9 @@ pub mod Codings
 pub mod Keeping
 pub mod Valid
 pub mod Ending
+pub mod OneAssignment
+pub mod AnAssignment
+pub mod NamedEntries
+pub mod PublicKeys
+pub mod DefinedLines
+pub mod RenumberedValues

@@ -10,3 +10,12 @@ pub mod Work
 pub mod Module
 pub mod Assembled
 pub mod Kept
+pub mod Definitions
+pub mod Assignment
+pub mod Fitting
+pub mod Repeats
+pub mod PlacedFaults
+pub mod AssignmentLaws
+pub mod Table
+pub mod Defining
+pub mod Renumbering

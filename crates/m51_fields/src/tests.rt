@@ -1,6 +1,7 @@
 //! Fields and generic jumps by the rules of operands: the segments 0, 1 and 2 are absolute and 3 and 4 relocatable, and the
 //! segment 0 has no number.
 ghost use Rattle.std.specs.Prelude.{◌≡◌};
+ghost use Rattle.m51_expr.specs.declared.value.Part.TheVariants.{Whole};
 
 use crate::{Field, Jump, Place, Reference, Verb, field, jump_form};
 use m51_cells::{Base, Kind, Name};

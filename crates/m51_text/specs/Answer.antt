@@ -16,6 +16,7 @@ pub record LineTree : Type 0 where
   pub line : ℕ
   pub stmt : StmtTree
 
+-- a line without where its expressions lie in memory
 abbrev pub line_tree : Line → LineTree
 line_tree l = record { file = l.file; line = l.line; stmt = stmt_tree l.stmt }
 
@@ -24,10 +25,12 @@ pub data TextTree : Type 0 where
   Lines : List LineTree → TextTree
   Faults : List Fault → TextTree
 
+-- a text without where its expressions lie in memory
 abbrev pub text_tree : Text → TextTree
 text_tree (text.Lines lines) = Lines (map line_tree lines)
 text_tree (text.Faults faults) = Faults faults
 
+-- a line before others, where it says a statement
 abbrev pub with_statement : TextLine → Result StmtTree ℕ → List LineTree → List LineTree
 with_statement line (Ok statement) lines = record { file = line.file; line = line.line; stmt = statement } ∷ lines
 with_statement line (Err number) lines = lines
@@ -37,6 +40,7 @@ abbrev pub statements_of : List TextLine → List LineTree
 statements_of [] = []
 statements_of (line ∷ lines) = with_statement line (said line.bytes) (statements_of lines)
 
+-- the faults, or where there are none the lines
 abbrev pub faults_or_lines : List Fault → List LineTree → TextTree
 faults_or_lines [] lines = Lines lines
 faults_or_lines (fault ∷ faults) lines = Faults (fault ∷ faults)

@@ -16,12 +16,15 @@ pub record EntryTree : Type 0 where
   pub said : Result StmtTree ℕ
   pub by_place : Option ℕ
 
+-- a line without where its expressions lie in memory
 abbrev pub entry_tree : Entry → EntryTree
 entry_tree e = record { file = e.file; line = e.line; said = said_tree e.said; by_place = e.by_place }
 
+-- the fault of this number at a line
 abbrev pub fault_at : ℕ → ℕ → ℕ → Fault
 fault_at file line number = record { file = file; line = line; number = number }
 
+-- the fault of a line that says this, or else its fault by its place
 abbrev pub fault_said : ℕ → ℕ → Option ℕ → Result StmtTree ℕ → Option Fault
 fault_said file line by_place (Err number) = Some (fault_at file line number)
 fault_said file line by_place (Ok statement) = option_map (fault_at file line) by_place
@@ -34,6 +37,7 @@ fault_of_entry e = fault_said e.file e.line e.by_place e.said
 unfoldable pub fault_kept : Entry → Option Fault
 fault_kept e = fault_of_entry (entry_tree e)
 
+-- the line that says this, if it is a statement
 abbrev pub line_said : ℕ → ℕ → Result Stmt ℕ → Option Line
 line_said file line (Ok statement) = Some (record { file = file; line = line; stmt = statement })
 line_said file line (Err number) = None
@@ -42,6 +46,7 @@ line_said file line (Err number) = None
 abbrev pub line_of_entry : Entry → Option Line
 line_of_entry e = line_said e.file e.line e.said
 
+-- the same as contracts see it
 abbrev pub tree_said : ℕ → ℕ → Result StmtTree ℕ → Option LineTree
 tree_said file line (Ok statement) = Some (record { file = file; line = line; stmt = statement })
 tree_said file line (Err number) = None

@@ -29,6 +29,7 @@ lacks_end text = nat_lt (length text) 65536 && not (list_any ends_source text)
 abbrev pub is_last_of_source : TextLine → List TextLine → Bool
 is_last_of_source line below = is_of_source line && not (list_any is_of_source below)
 
+-- an include that is not given or too deep
 abbrev pub is_refused : Inclusion → Bool
 is_refused Refused = true
 is_refused inclusion = false
@@ -42,6 +43,7 @@ fault_by_place misplaced inclusion above =
     else if above == 65535 then Some 19
     else None
 
+-- the fault of a line that says this
 abbrev pub fault_with : List SourceFile → List TextLine → TextLine → Bool → Result StmtTree ℕ → Option ℕ
 fault_with includes above line without_end (Err number) = Some number
 fault_with includes above line without_end (Ok statement) =
@@ -51,6 +53,7 @@ fault_with includes above line without_end (Ok statement) =
 abbrev pub fault_of : List SourceFile → List TextLine → TextLine → Bool → Option ℕ
 fault_of includes above line without_end = fault_with includes above line without_end (said line.bytes)
 
+-- the fault of a line, if it has one, before those of the lines below
 abbrev pub before : TextLine → Option ℕ → List Fault → List Fault
 before line (Some number) faults = record { file = line.file; line = line.line; number = number } ∷ faults
 before line None faults = faults

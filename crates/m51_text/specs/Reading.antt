@@ -18,6 +18,7 @@ pub record State : Type 0 where
   pub entries : List EntryTree
   pub ended : Bool
 
+-- the same of what the code keeps
 abbrev pub state_of : Reading → State
 state_of r = record { entries = map entry_tree r.entries.items; ended = r.ended }
 
@@ -30,6 +31,7 @@ abbrev pub fault_above : ℕ → Bool → ℕ → Inclusion → Result StmtTree 
 fault_above above ended file inclusion (Ok statement) = fault_by_place (is_misplaced ended (file == 0) statement) inclusion above
 fault_above above ended file inclusion (Err number) = None
 
+-- a line with its fault by its place
 abbrev pub entry_of : List SourceFile → ℕ → Bool → TextLine → EntryTree
 entry_of includes above ended line =
     record { file = line.file; line = line.line; said = said line.bytes; by_place = fault_above above ended line.file (inclusion_of includes line.levels (said line.bytes)) (said line.bytes) }
@@ -50,6 +52,7 @@ abbrev pub inserted : List SourceFile → ℕ → Inclusion → List TextLine
 inserted includes levels (Given index) = file_lines includes (levels - 1) (index + 1) (bytes_of (slice_get includes index))
 inserted includes levels inclusion = []
 
+-- before the first line
 abbrev pub nothing_yet : State
 nothing_yet = record { entries = []; ended = false }
 

@@ -20,15 +20,17 @@ abbrev pub said_tree : Result Stmt ℕ → Result StmtTree ℕ
 said_tree (Ok statement) = Ok (stmt_tree statement)
 said_tree (Err number) = Err number
 
+-- the word END
 abbrev pub is_end_body : BodyTree → Bool
 is_end_body End = true
 is_end_body body = false
 
--- END, with or without a label
+-- a line that says END, with or without a label
 abbrev pub is_end : Result StmtTree ℕ → Bool
 is_end (Ok statement) = is_end_body statement.body
 is_end (Err number) = false
 
+-- blanks and a comment alone
 abbrev pub is_empty_body : BodyTree → Bool
 is_empty_body Empty = true
 is_empty_body body = false
@@ -37,6 +39,7 @@ is_empty_body body = false
 abbrev pub is_text : StmtTree → Bool
 is_text statement = is_some statement.label || not (is_empty_body statement.body)
 
+-- the name between the parentheses of $INCLUDE
 abbrev pub include_name : BodyTree → Option (List ℕ)
 include_name (Include name) = Some name
 include_name body = None

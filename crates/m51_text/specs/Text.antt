@@ -20,6 +20,7 @@ pub record TextLine : Type 0 where
 abbrev pub has_name : List ℕ → SourceFile → Bool
 has_name name file = bytes_eq file.name name
 
+-- the include at a place, or a refusal where there is none
 abbrev pub given_at : Option ℕ → Inclusion
 given_at (Some index) = Given index
 given_at None = Refused
@@ -28,18 +29,19 @@ given_at None = Refused
 abbrev pub given : List SourceFile → List ℕ → Inclusion
 given includes name = given_at (position (has_name name) includes)
 
+-- which include this name brings in: a refusal where no further level may stand below the line
 abbrev pub inclusion_by : List SourceFile → ℕ → Option (List ℕ) → Inclusion
 inclusion_by includes levels (Some name) = if levels == 0 then Refused else given includes name
 inclusion_by includes levels None = Nothing
+
+-- which include a line brings in, if it asks for one
+abbrev pub inclusion_of : List SourceFile → ℕ → Result StmtTree ℕ → Inclusion
+inclusion_of includes levels said = inclusion_by includes levels (asked said)
 
 -- an include that is brought in is one of so many, and a level may stand below the line
 abbrev pub IsAllowed : ℕ → ℕ → Inclusion → Type 0
 IsAllowed count levels (Given index) = (index < count) × (0 < levels)
 IsAllowed count levels inclusion = Unit {0}
-
--- which include a line brings in, if it asks for one: a refusal where no further level may stand below the line
-abbrev pub inclusion_of : List SourceFile → ℕ → Result StmtTree ℕ → Inclusion
-inclusion_of includes levels said = inclusion_by includes levels (asked said)
 
 -- a file's lines from this number on, each with the lines behind it that it brings in
 abbrev pub lines_with : (List ℕ → List TextLine) → ℕ → ℕ → ℕ → List (List ℕ) → List TextLine
@@ -47,16 +49,18 @@ lines_with brought levels file number [] = []
 lines_with brought levels file number (line ∷ lines) =
     record { file = file; line = number; levels = levels; bytes = line } ∷ (brought line ++ lines_with brought levels file (number + 1) lines)
 
+-- the bytes of a file, where there is one
 abbrev pub bytes_of : Option SourceFile → List ℕ
 bytes_of (Some file) = file.bytes
 bytes_of None = []
 
+-- the lines of the include that is brought in, below which so many levels may stand
 abbrev pub include_lines : List SourceFile → (List ℕ → List TextLine) → ℕ → Inclusion → List TextLine
 include_lines includes brought levels (Given index) = lines_with brought levels (index + 1) 1 (lines_of (bytes_of (slice_get includes index)))
 include_lines includes brought levels Refused = []
 include_lines includes brought levels Nothing = []
 
--- the lines that a line brings in below which so many levels may stand
+-- the lines that a line brings in, below which so many levels may stand
 unfoldable pub brought : List SourceFile → ℕ → List ℕ → List TextLine
 brought includes zero line = []
 brought includes (suc levels) line = include_lines includes (brought includes levels) levels (inclusion_of includes (suc levels) (said line))

@@ -54,19 +54,21 @@ coded_in names l next row =
     and_then (filled names next (field_in (spelling_of row).third) l.third) (λ c.
     coded_as a b c (with_numbers l a.number b.number c.number))))
 
+-- the answer for the row of a line, if it has one
 abbrev pub coded_by : Meanings → Line → Option Instr → Answer Coded
 coded_by names l (Some row) = coded_in names l (behind names (row_length row)) row
 coded_by names l None = fault 11
 
+-- the answer for a line, if it has no more than three operands
 abbrev pub coded_line : Meanings → Option Line → Answer Coded
 coded_line names (Some l) = coded_by names l (row_of l)
 coded_line names None = fault 11
 
 -- The answer for an instruction of a source: E11 where the table has no such row, else the fault of the leftmost operand that
 -- has one, E7 to E10 or E14, else its bytes and references.
-abbrev pub coded : Meanings → List ℕ → List OperandTree → Jump → Answer Coded
+unfoldable pub coded : Meanings → List ℕ → List OperandTree → Jump → Answer Coded
 coded names mnemonic operands jump = coded_line names (line_of mnemonic operands jump)
 
 -- the length of an instruction of a source, whatever the values of its operands
-abbrev pub length_of : List ℕ → List OperandTree → Jump → Option ℕ
+unfoldable pub length_of : List ℕ → List OperandTree → Jump → Option ℕ
 length_of mnemonic operands jump = option_map row_length (option_and_then row_of (line_of mnemonic operands jump))

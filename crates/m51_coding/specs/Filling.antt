@@ -19,9 +19,11 @@ use Rattle.m51_coding.specs.declared.filling.CodingError.{CodingError}
 abbrev pub Answer : Type 0 → Type 0
 Answer A = Result A CodingError
 
+-- the fault of this number
 abbrev pub fault : {A : Type 0} → ℕ → Answer A
 fault k = Err (record { number = k })
 
+-- goes on with a result
 abbrev pub and_then : {A B : Type 0} → Answer A → (A → Answer B) → Answer B
 and_then (Ok a) go = go a
 and_then (Err e) go = Err e
@@ -48,6 +50,7 @@ expression (Plain e) = Some e
 expression (NotBit e) = Some e
 expression operand = None
 
+-- what the expression of an operand gives in the field
 abbrev pub filled_by : Meanings → ℕ → FieldSlot → Option Tree → Answer Held
 filled_by names next slot (Some e) = valued names next slot (value_of names e)
 filled_by names next slot None = Ok nothing
@@ -61,9 +64,10 @@ filled names next slot operand = Ok nothing
 abbrev pub beginning_at : ℕ → Held → Option Reference
 beginning_at byte f = if f.byte == byte then f.reference else None
 
+-- the reference of the operand whose field begins at this byte
 abbrev pub reference_at : ℕ → Held → Held → Held → Option Reference
 reference_at byte a b c = option_or (beginning_at byte a) (option_or (beginning_at byte b) (beginning_at byte c))
 
--- by the byte where their fields begin
+-- the references of three operands by the byte where their fields begin
 abbrev pub references_of : Held → Held → Held → List (Option Reference)
 references_of a b c = reference_at 0 a b c ∷ reference_at 1 a b c ∷ reference_at 2 a b c ∷ []

@@ -127,6 +127,7 @@ fn coded_line<L: Lookup>(
 /// operand that has one: E7 to E10 where it has no value, E14 where its value is out of range or class.
 ///
 /// Source: family manual.
+#[tactic(auto, unfolding(crate::specs::Coding::coded))]
 pub fn code<L: Lookup>(
     names: &L,
     mnemonic: &Name,
@@ -159,6 +160,7 @@ fn length_in(row: Option<Instr>) -> Option<u8>
 /// table has no row of this mnemonic with such operands. `jump` as for [`code`].
 ///
 /// Source: family manual.
+#[tactic(auto, unfolding(crate::specs::Coding::length_of))]
 pub fn length_of(mnemonic: &Name, operands: &[Operand], jump: Jump) -> Option<u8>
     ensures { result ≡ length_of mnemonic.now (map operand_tree operands.now) jump }
 {

@@ -15,7 +15,7 @@ use m51_isa::Instr;
 pub(crate) fn instruction(word: &[u8], jump: Jump, a: &Shape, b: &Shape, c: &Shape) -> Option<Instr>
     ensures { result ≡ instruction word.now jump a.now b.now c.now }
 {
-    arithmetic(word, a, b, c).or(logic(word, a, b, c).or(moves(word, a, b, c).or(branches(
-        word, a, b, c,
-    ).or(jumps(jump, word, a, b, c)))))
+    let of_branches = branches(word, a, b, c).or(jumps(jump, word, a, b, c));
+    let of_moves = moves(word, a, b, c).or(of_branches);
+    arithmetic(word, a, b, c).or(logic(word, a, b, c).or(of_moves))
 }

@@ -2,7 +2,8 @@
 ghost use Rattle.std.specs.Prelude.{◌≡◌};
 ghost use Rattle.m51_alu.specs.Arithmetic.{parity_of, product_of, quotient_of};
 
-/// `MUL AB`: A, B and OV afterwards. A is the low byte of the product, B the high byte, and OV says that it exceeds 255.
+/// `MUL AB`: A, B and OV afterwards. A is the low byte of the product, B the high byte, and OV says that it exceeds
+/// 255.
 ///
 /// Source: family manual.
 pub fn mul(a: u8, b: u8) -> (u8, u8, bool)

@@ -36,10 +36,6 @@ map_cond : {A B : Type 0} (f : A → B) (b : Bool) (x : A) → option_map f (con
 map_cond f true x = refl
 map_cond f false x = refl
 
--- two texts that are equal byte by byte are one
-same_text : (m n : List ℕ) → bytes_eq m n ≡ true → m ≡ n
-same_text m n h = (bytes_eq-Decides m n).0 h
-
 -- what a definition of one name gives another
 one_defined : List ℕ → Defined → Option Definition
 one_defined name d = cond (bytes_eq name d.0) (Some d.1) None
@@ -72,7 +68,7 @@ or_found None x y h = absurd (cc h)
 -- a name that stands in a table does so under each equal text
 held : (table : Table) (name key : List ℕ) (f g : FirstDefinition) (b : Bool) → bytes_eq name key ≡ b → first_in table key ≡ Some f
     → first_in table name ≡ or_here (first_in table name) (cond b (Some g) None)
-held table name key f g true e h = or_found (first_in table name) f g (ap (first_in table) (same_text name key e) ∙ h)
+held table name key f g true e h = or_found (first_in table name) f g (ap (first_in table) ((bytes_eq-Decides name key).0 e) ∙ h)
 held table name key f g false e h = sym (or_none (first_in table name))
 
 noted_by : (table : Table) (line : ℕ) (d : Defined) (name : List ℕ) (o : Option FirstDefinition) → first_in table d.0 ≡ o
@@ -208,7 +204,7 @@ or_true false c h = absurd (cc h)
 also_public : (publics : List (List ℕ)) (name key : List ℕ) (b : Bool) → bytes_eq name key ≡ b → list_any (bytes_eq key) publics ≡ true
     → list_any (bytes_eq name) publics ≡ (list_any (bytes_eq name) publics || b)
 also_public publics name key true e h =
-    or_true (list_any (bytes_eq name) publics) true (ap (λ n. list_any (bytes_eq n) publics) (same_text name key e) ∙ h)
+    or_true (list_any (bytes_eq name) publics) true (ap (λ n. list_any (bytes_eq n) publics) ((bytes_eq-Decides name key).0 e) ∙ h)
 also_public publics name key false e h = sym (or_false (list_any (bytes_eq name) publics))
 
 made_by : (publics : List (List ℕ)) (name key : List ℕ) (b : Bool) → list_any (bytes_eq key) publics ≡ b

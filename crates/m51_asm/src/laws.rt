@@ -16,9 +16,9 @@ pub fn an_assignment_fits()
     ensures { AFits }
 {}
 
-/// The value of an expression, its fault, and the form of a JMP or CALL to it do not depend on the numbers of segments: they
-/// stay the same, but for the number in the base of the value, where segments get other numbers. Absolute ones other than that
-/// of the statement may share one.
+/// The value of an expression, its fault, and the form of a JMP or CALL to it do not depend on the numbers of segments:
+/// they stay the same, but for the number in the base of the value, where segments get other numbers. Absolute ones
+/// other than that of the statement may share one.
 ///
 /// Source: own choice ("Numbers of segments in values").
 pub fn segment_numbers_do_not_matter()

@@ -4,7 +4,11 @@
 #[cfg(test)]
 mod calls;
 #[cfg(test)]
+mod devices;
+#[cfg(test)]
 mod faults;
+#[cfg(test)]
+mod library_edits;
 #[cfg(test)]
 mod objects;
 #[cfg(test)]

@@ -1,11 +1,11 @@
 -- A name at the front of an array of 31 bytes.
-use Rattle.std.proofs.Common.{◌≡◌, ℕ, ◌+◌, ◌-◌, ◌<◌, ◌≤◌, List, [], ◌∷◌, ◌++◌, length, take, map, replicate, slice_set, slice_index, refl, sym, ap, ◌∙◌, append_assoc, arith, length-take-le}
+use Rattle.std.proofs.Common.{◌≡◌, ℕ, ◌+◌, ◌-◌, ◌<◌, ◌≤◌, List, [], ◌∷◌, ◌++◌, length, take, map, replicate, slice_set, slice_index, sym, ap, ◌∙◌, append_assoc, arith, length-take-le}
 use Rattle.std.proofs.Math.Seq.{set-append_seam, take-append_seam, take-length}
 use Rattle.std.proofs.lemmas.Grind.{common_steps}
-use Rattle.std.proofs.lemmas.Bool.Decides.{nat_tests}
 use Rattle.std.proofs.lemmas.List.{length-map, length-append, length-replicate}
 use Rattle.std.specs.Char.{to_ascii_uppercase}
 use Rattle.m51_cells.specs.Padded.{IsPadded}
+use Rattle.m51_cells.proofs.NameLaws.{upper_again}
 
 -- n zeros
 abbrev zeros : ℕ → List ℕ
@@ -15,7 +15,7 @@ zeros n = replicate n 0
 one_less : (n m : ℕ) → n ≡ m + 1 → zeros n ≡ 0 ∷ zeros m
 one_less n m h = ap zeros h ∙ grind (arith, common_steps)
 
--- a write behind the front makes the front longer
+-- a write after the front makes the front longer
 at_seam : (xs ys : List ℕ) (i y v : ℕ) → length xs ≡ i → slice_set (xs ++ y ∷ ys) i v ≡ (xs ++ v ∷ []) ++ ys
 at_seam xs ys i y v e = ap (λ n. slice_set (xs ++ y ∷ ys) n v) (sym e) ∙ set-append_seam xs y ys v ∙ sym (append_assoc xs (v ∷ []) ys)
 
@@ -34,16 +34,7 @@ one_more text i v bytes inside short is b =
     ∙ at_seam front (zeros (31 - (i + 1))) i 0 v (length-map (take i text) to_ascii_uppercase ∙ length-take-le i text (omega (arith, inside)))
     ∙ ap (λ n. (front ++ n ∷ []) ++ zeros (31 - (i + 1))) is ∙ ap (λ l. l ++ zeros (31 - (i + 1))) (sym (taken_more text i inside))
 
--- a letter in upper case stays as it is
-upper_again : (byte : ℕ) → to_ascii_uppercase (to_ascii_uppercase byte) ≡ to_ascii_uppercase byte
-upper_again byte = grind (arith, nat_tests)
-
--- so does a text
-pub uppers_again : (text : List ℕ) → map to_ascii_uppercase (map to_ascii_uppercase text) ≡ map to_ascii_uppercase text
-uppers_again [] = refl
-uppers_again (b ∷ bs) = ap (λ c. c ∷ map to_ascii_uppercase (map to_ascii_uppercase bs)) (upper_again b) ∙ ap (λ l. to_ascii_uppercase b ∷ l) (uppers_again bs)
-
--- a whole text in upper case, and zeros behind it, are a name
+-- a whole text in upper case, and zeros after it, are a name
 pub padded_text : (text : List ℕ) (bytes : List ℕ) → length text ≤ 31
     → bytes ≡ map to_ascii_uppercase (take (length text) text) ++ replicate (31 - length text) 0 → IsPadded (length text) bytes
 padded_text text bytes short is =
@@ -53,5 +44,5 @@ padded_text text bytes short is =
       short = short;
       whole = ap length whole ∙ length-append (map to_ascii_uppercase text) (replicate (31 - length text) 0) ∙ omega (arith, short, length-map text to_ascii_uppercase, length-replicate {A = ℕ} (31 - length text) 0);
       zeros = whole ∙ ap (λ b. b ++ replicate (31 - length text) 0) (sym front);
-      upper = ap (λ b. map to_ascii_uppercase b) front ∙ uppers_again text ∙ sym front;
+      upper = ap (λ b. map to_ascii_uppercase b) front ∙ upper_again text ∙ sym front;
     }

@@ -1,5 +1,5 @@
--- The cells that a segment covers, and when two segments share one. An extent covers the numbers that its kind, base and
--- size give, also past the end of its memory.
+-- The cells that a segment covers, and when two segments share one. An extent covers the numbers that its kind, base
+-- and size give, also past the end of its memory.
 use Rattle.std.specs.Prelude.{◌≡◌, ℕ, ◌+◌, ◌*◌, ◌<◌, ◌≤◌}
 use Rattle.m51_cells.specs.declared.cell.Cell.{Cell}
 use Rattle.m51_cells.specs.declared.cell.Space.{Space}

@@ -1,22 +1,10 @@
 -- The table of bases at which a segment fits.
-use Rattle.std.specs.Prelude.{◌≡◌, ℕ, zero, suc, ◌+◌, ◌/◌, ◌%◌, ◌≤◌, Bool, true, false}
+use Rattle.std.specs.Prelude.{◌≡◌, ℕ, zero, suc, ◌+◌, ◌/◌, ◌%◌, ◌≤◌}
 use Rattle.m51_cells.specs.declared.kind.Kind.{Kind}
 use Rattle.m51_cells.specs.declared.kind.Kind.TheVariants.{Code, Xdata, Direct, Idata, Bits, Number}
 use Rattle.m51_cells.specs.declared.kind.Reloc.{Reloc}
-use Rattle.m51_cells.specs.declared.kind.Reloc.TheVariants.{Abs, Unit as UnitType, Bitaddressable, Inpage, Inblock, Page}
-
--- a segment of the kind may have the type
-abbrev pub allows : Kind → Reloc → Bool
-allows Number _ = false
-allows _ Abs = true
-allows _ UnitType = true
-allows Direct Bitaddressable = true
-allows Code Inpage = true
-allows Xdata Inpage = true
-allows Code Page = true
-allows Xdata Page = true
-allows Code Inblock = true
-allows _ _ = false
+use Rattle.m51_cells.specs.declared.kind.Reloc.TheVariants.{Bitaddressable, Inpage, Inblock, Page}
+pub use Rattle.m51_cells.specs.Kinds.{allows}
 
 -- first and last byte lie in one block of that many bytes, and the end in the memory; size 0 fits anywhere
 abbrev pub FitsBlock : ℕ → ℕ → ℕ → Type 0

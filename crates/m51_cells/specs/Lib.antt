@@ -1,6 +1,9 @@
+pub mod Cells
 pub mod Extent
 pub mod Fits
 pub mod Hex
+pub mod Kinds
+pub mod Lines
 pub mod Name
 pub mod Outcome
 pub mod Outside

@@ -1,4 +1,5 @@
--- Names: 1 to 31 letters, digits, ? and _, of which the first is no digit, in upper case; and titles of absolute segments.
+-- Names: 1 to 31 letters, digits, ? and _, of which the first is no digit, in upper case; and titles of absolute
+-- segments.
 use Rattle.std.specs.Prelude.{◌≡◌, ℕ, Bool, false, not, ◌||◌, ◌&&◌, ◌==◌, nat_le, if◌then◌else◌, List, [], ◌∷◌, length, map, Option, Some, None}
 use Rattle.std.specs.List.{list_all}
 use Rattle.std.specs.Char.{is_ascii_digit, is_ascii_alphanumeric, to_ascii_uppercase}
@@ -11,7 +12,8 @@ is_name_byte byte = is_ascii_alphanumeric byte || byte == 0x3F || byte == 0x5F
 -- 1 to 31 such bytes, the first of them no digit
 abbrev pub is_name : List ℕ → Bool
 is_name [] = false
-is_name (first ∷ more) = not (is_ascii_digit first) && nat_le (length (first ∷ more)) 31 && list_all is_name_byte (first ∷ more)
+is_name (first ∷ more) =
+    not (is_ascii_digit first) && nat_le (length (first ∷ more)) 31 && list_all is_name_byte (first ∷ more)
 
 -- the name that a text writes, if it writes one
 abbrev pub name_of : List ℕ → Option (List ℕ)

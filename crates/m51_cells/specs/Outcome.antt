@@ -11,3 +11,13 @@ RefusesWith (Some refusal) answer = answer ≡ Err refusal
 abbrev pub Gives : {T V E R : Type 0} → (T → V) → (E → Option R) → Result T E → Result V R → Type 0
 Gives view refusal (Ok value) answer = answer ≡ Ok (view value)
 Gives view refusal (Err error) answer = RefusesWith (refusal error) answer
+
+-- goes on with the value, where there is one
+abbrev pub and_then : {A B E : Type 0} → Result A E → (A → Result B E) → Result B E
+and_then (Ok value) go = go value
+and_then (Err error) go = Err error
+
+-- the same as a sign, by which a definition is written in steps
+infixl 10 ◌>>=◌
+abbrev pub ◌>>=◌ : {A B E : Type 0} → Result A E → (A → Result B E) → Result B E
+answer >>= go = and_then answer go

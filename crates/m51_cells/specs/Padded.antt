@@ -14,5 +14,7 @@ pub record IsPadded (len : ℕ) (bytes : List ℕ) : Type 0 where
 pub padded_back : {A : Type 0} (make : List ℕ → ℕ → A) (len : ℕ) (bytes : List ℕ) → IsPadded len bytes
     → make (take len bytes ++ replicate (31 - length (take len bytes)) 0) (length (take len bytes)) ≡ make bytes len
 padded_back make len bytes h =
-    let front : length (take len bytes) ≡ len = length-take-le len bytes (subst (λ n. len ≤ n) (sym h.whole) h.short) in
-    ap (λ (n : ℕ). make (take len bytes ++ replicate (31 - n) 0) n) front ∙ ap (λ (b : List ℕ). make b len) (sym h.zeros)
+    let front : length (take len bytes) ≡ len =
+    length-take-le len bytes (subst (λ n. len ≤ n) (sym h.whole) h.short) in
+    ap (λ (n : ℕ). make (take len bytes ++ replicate (31 - n) 0) n) front
+    ∙ ap (λ (b : List ℕ). make b len) (sym h.zeros)

@@ -1,21 +1,38 @@
-//! Cells, names, kinds and events of the MCS-51, and what the other crates say of the outside.
+//! What all crates share: cells, kinds, names, events, lists, lines, digits, limits and the numbers of faults.
 #![tactic(auto)]
 
-mod bytes;
 mod cell;
+mod cutting;
 mod event;
 mod extent;
+mod fault;
+mod hex;
 mod kind;
+mod limits;
 mod list;
 mod memory;
 mod name;
 
-pub use bytes::Bytes;
 pub use cell::{Cell, Space};
+pub use cutting::{first_line, lines};
 pub use event::{Entry, Event, Why};
 pub use extent::{Extent, cells_of, fits, meets};
-pub use kind::{Base, Kind, Reloc};
-pub use list::{ListOf, Names};
+pub use fault::{
+    BAD_BYTE, BAD_FORM, BAD_INCLUDE, BASE_NOT_ALLOWED, DEFINED_TWICE, DIVISION_BY_ZERO,
+    MISPLACED_END, NO_BIT, NO_EXPRESSION, NO_INSTRUCTION, OUT_OF_RANGE, PAST_THE_END, TOO_MANY,
+    UNKNOWN_NAME,
+};
+pub use hex::{digit_value, hex_digit, hex2, hex4};
+pub use kind::{
+    Base, Kind, Reloc, allows, is_absolute, is_code, largest, may_overlay, most_of, same_kind,
+    same_reloc,
+};
+pub use limits::{
+    MOST_CONTROL_LINES, MOST_EXTERNALS, MOST_FILE_BYTES, MOST_FILES, MOST_FIXUPS,
+    MOST_MODULE_SEGMENTS, MOST_MODULES, MOST_RETURN_RECORDS, MOST_SCRIPT_LINES, MOST_SEGMENTS,
+    MOST_SOURCE_LINES, MOST_STEPS, MOST_UNITS,
+};
+pub use list::{Bytes, ListOf, Names};
 pub use memory::NoMemory;
 pub use name::{LONGEST, Name};
 

@@ -1,11 +1,12 @@
 //! Lists in types that contracts compare.
-ghost use Rattle.std.specs.Prelude.{◌≡◌, ◌==◌, length};
+ghost use Rattle.std.specs.Prelude.{◌≡◌, ◌==◌, [], ◌∷◌, ◌++◌, length, OnOk, OnErr};
 
-use crate::Name;
+use crate::{Name, NoMemory};
+use std::alloc::Global;
 use std::marker::Model;
 
-/// A list, which contracts see as the list of its items: a `Vec` without its capacity. Each list type of this project is
-/// it under a name of its own, the plural of its element.
+/// A list, which contracts see as the list of its items: a `Vec` without its capacity. Each list type of this project
+/// is it under a name of its own, the plural of its element.
 ///
 /// Source: own choice ("Lists in types").
 #[derive(Drop)]
@@ -22,6 +23,17 @@ impl<T> Model for ListOf<T> {
 }
 
 impl<T> ListOf<T> {
+    /// The empty list. It takes no memory.
+    ///
+    /// Source: own choice ("Lists in types").
+    pub fn new(alloc: Global) -> ListOf<T>
+        ensures { result ≡ [] }
+    {
+        ListOf {
+            items: Vec::new(alloc),
+        }
+    }
+
     /// The list of these items. It takes no memory.
     ///
     /// Source: own choice ("Lists in types").
@@ -67,7 +79,27 @@ impl<T> ListOf<T> {
     {
         self.items.is_empty()
     }
+
+    /// Appends an item.
+    ///
+    /// Error: want of memory; the list is then as before, and the item is dropped.
+    ///
+    /// Source: own choice ("Lists in types").
+    pub fn push(&mut self, item: T) -> Result<(), NoMemory>
+    where
+        T: Drop,
+        ensures ok { OnOk result (self.new ≡ self.old ++ item ∷ []) }
+        ensures err { OnErr result (self.new ≡ self.old) }
+    {
+        self.items.push(item)?;
+        Ok(())
+    }
 }
+
+/// Bytes, which contracts see as a list.
+///
+/// Source: own choice ("Lists in types").
+pub type Bytes = ListOf<u8>;
 
 /// Names, which contracts see as a list.
 ///

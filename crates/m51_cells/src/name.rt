@@ -1,10 +1,14 @@
 //! Names of segments, units, publics, externals and modules.
-ghost use Rattle.std.specs.Prelude.{◌≡◌, ◌<◌, ◌≤◌, true, [], length};
+ghost use Rattle.std.specs.Prelude.{◌≡◌, ◌≤◌, [], length, bytes_eq};
 ghost use Rattle.std.specs.Char.{to_ascii_uppercase};
-ghost use Rattle.std.specs.Fmt.{digit_glyph};
+ghost use Rattle.std.specs.Cmp.Rules.{comparing, hashing};
+ghost use Rattle.std.specs.Hash as fed;
 ghost use Rattle.std.specs.List.{list_all};
+ghost use Rattle.std.proofs.Common.{rules};
 ghost use Rattle.m51_cells.specs.Name.{is_name_byte, is_name, name_of, title_at, IsUpper};
 
+use crate::hex4;
+use std::hash::{Hash, Hasher};
 use std::marker::Model;
 
 /// The most bytes that a name has.
@@ -13,10 +17,10 @@ use std::marker::Model;
 pub const LONGEST: usize = 31;
 
 /// A name, which contracts see as the list of its 0 to 31 bytes. None of them is a small letter, so names that differ
-/// in case alone are one name.
+/// only in case are one name. `==` says whether two names are one, and a name may be the key of a map.
 ///
 /// Source: own choice ("Names").
-#[derive(Clone, Copy, Debug, PartialEq, Eq)]
+#[derive(Clone, Copy, Debug)]
 pub struct Name {
     bytes: [u8; 31],
     len: u8,
@@ -68,21 +72,34 @@ fn in_upper_case(byte: u8) -> u8
     byte.to_ascii_uppercase()
 }
 
-// The hexadecimal digit of a number below 16, in upper case.
-fn hex_digit(number: u16) -> u8
-    requires { number < 16 }
-    ensures { result ≡ digit_glyph true number }
-{
-    if number < 10 {
-        b'0' + number as u8
-    } else {
-        b'A' + (number - 10) as u8
+impl PartialEq for Name {
+    ghost eq = { bytes_eq };
+
+    ghost laws = { Prim.search (comparing, rules) };
+
+    // Whether the names are one.
+    fn eq(&self, other: &Name) -> bool {
+        self.bytes() == other.bytes()
+    }
+}
+
+impl Eq for Name {
+    ghost laws = { Prim.search (comparing, rules) };
+}
+
+impl Hash for Name {
+    ghost hash_input = { fed.slice fed.u8 };
+
+    ghost respects_eq = { Prim.search (hashing, rules) };
+
+    fn hash<H: Hasher>(&self, state: &mut H) {
+        self.bytes().hash(state);
     }
 }
 
 impl Name {
-    /// The name that a text writes, in either case; `None` exactly where the text is empty, is longer than 31 bytes, has
-    /// a byte other than a letter, a digit, `?` or `_`, or begins with a digit.
+    /// The name that a text writes, in either case; `None` exactly where the text is empty, is longer than 31 bytes,
+    /// has a byte other than a letter, a digit, `?` or `_`, or begins with a digit.
     ///
     /// Source: own choice ("Names").
     pub fn of(text: &[u8]) -> Option<Name>
@@ -119,14 +136,13 @@ impl Name {
     pub fn at(base: u16) -> Name
         ensures { result ≡ title_at base }
     {
-        let high = base / 256;
-        let low = base % 256;
+        let [a, b, c, d] = hex4(base);
         let mut bytes = [0u8; LONGEST];
         bytes[0] = b'@';
-        bytes[1] = hex_digit(high / 16);
-        bytes[2] = hex_digit(high % 16);
-        bytes[3] = hex_digit(low / 16);
-        bytes[4] = hex_digit(low % 16);
+        bytes[1] = a;
+        bytes[2] = b;
+        bytes[3] = c;
+        bytes[4] = d;
         Name { bytes, len: 5 }
     }
 

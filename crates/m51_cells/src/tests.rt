@@ -1,5 +1,5 @@
 //! What no clause says: that the written rules are those of the guides.
-use crate::{Extent, Kind, ListOf, Name, Names, Reloc, Space, cells_of, fits, meets};
+use crate::{Extent, Kind, ListOf, Name, Names, Reloc, Space, cells_of, fits, lines, meets};
 use std::test::Fail;
 
 #[test]
@@ -24,6 +24,16 @@ fn a_list_gives_its_items_back(rt: HostRuntime) -> Result<(), Fail> {
     assert_eq!(rt; names.as_slice(), [name].as_slice());
     let items = names.into_vec();
     assert_eq!(rt; items.as_slice(), [name].as_slice());
+    Ok(())
+}
+
+#[test]
+fn a_line_ends_in_a_feed_or_in_a_return_and_a_feed(rt: HostRuntime) -> Result<(), Fail> {
+    let found = lines(rt.alloc(), b" A\rB\r\n\n\tC\r")?;
+    assert!(rt; found.len() == 3);
+    assert!(rt; found[0] == b" A\rB".as_slice());
+    assert!(rt; found[1].is_empty());
+    assert!(rt; found[2] == b"\tC\r".as_slice());
     Ok(())
 }
 

@@ -5,21 +5,21 @@ use Rattle.m51_chain.specs.declared.reading.Contents.TheVariants.{Whole, TooLong
 use Rattle.m51_chain.specs.declared.reading.ReadError.{ReadError}
 use Rattle.m51_chain.specs.declared.reading.ReadError.TheVariants as error
 use Rattle.m51_chain.specs.Shelf.{Files}
-use Rattle.m51_chain.specs.Outside.{ShelfAt, HasFailed}
+use Rattle.m51_chain.specs.Outside.{ShelfState, HasFailed}
 
 -- these are all the bytes of the file, which is within the limit
-pub record IsWhole (holds : Option Files) (after : ShelfAt) (bytes : List ℕ) : Type 0 where
+pub record IsWhole (holds : Option Files) (after : ShelfState) (bytes : List ℕ) : Type 0 where
   pub within : length bytes ≤ 1048576
   pub taken : after.taken ≡ length bytes
   pub held : IfSome holds (λ files. files after.named ≡ Some bytes)
 
 -- one byte more than the limit was taken
-pub record IsTooLong (holds : Option Files) (after : ShelfAt) : Type 0 where
+pub record IsTooLong (holds : Option Files) (after : ShelfState) : Type 0 where
   pub taken : after.taken ≡ 1048577
   pub held : IfSome holds (λ files. IsSomeAnd (files after.named) (λ file. 1048576 < length file))
 
 -- the whole file, or that it is too long, or that a call failed; want of memory is free
-abbrev pub IsRead : Option Files → ShelfAt → ShelfAt → Result Contents ReadError → Type 0
+abbrev pub IsRead : Option Files → ShelfState → ShelfState → Result Contents ReadError → Type 0
 IsRead holds before after (Ok (Whole bytes)) = IsWhole holds after bytes
 IsRead holds before after (Ok TooLong) = IsTooLong holds after
 IsRead holds before after (Err error.Failed) = HasFailed before after

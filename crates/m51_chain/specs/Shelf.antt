@@ -1,5 +1,6 @@
 -- Files by name, and what the calls of a shelf do.
-use Rattle.std.specs.Prelude.{◌≡◌, ℕ, ◌+◌, ◌-◌, ◌<◌, ◌≤◌, List, [], ◌∷◌, length, take, drop, Option, Some, None, IsSome, Result, Ok, Err, min, ◌^◌, if◌then◌else◌}
+use Rattle.std.specs.Prelude.{◌≡◌, ℕ, ◌+◌, ◌-◌, ◌<◌, ◌≤◌, List, [], ◌∷◌, length, take, drop, Option, Some, None, IsSome}
+use Rattle.std.specs.Prelude.{Result, Ok, Err, min, ◌^◌, if◌then◌else◌}
 use Rattle.std.specs.Str.{bytes_eq}
 use Rattle.std.specs.List.{slice_index_or}
 
@@ -17,7 +18,7 @@ abbrev pub file_or_empty : List (List ℕ × List ℕ) → Files
 file_or_empty [] name = Some []
 file_or_empty (file ∷ files) name = if bytes_eq file.0 name then Some file.1 else file_or_empty files name
 
--- what the file at this place holds; past the last one nothing
+-- what the file of this index holds; past the last one nothing
 abbrev pub contents_at : List (List ℕ × List ℕ) → ℕ → List ℕ
 contents_at files at = (slice_index_or files at ([], [])).1
 

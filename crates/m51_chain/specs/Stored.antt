@@ -8,8 +8,10 @@ abbrev pub name_bytes : Option (String Global) → List ℕ
 name_bytes None = []
 name_bytes (Some name) = string_bytes name
 
--- what contracts see of the files of the system: the name last started, how far it was read, and the count of failures
+-- what contracts see of the files of the system: how many were started, the name of the last, how far it was read, and
+-- the count of failures
 pub record OpenFile : Type 0 where
+  pub starts : ℕ
   pub name : List ℕ
   pub taken : ℕ
   pub ready : Bool

@@ -1,5 +1,6 @@
 -- The words of the command line.
-use Rattle.std.specs.Prelude.{ℕ, ◌-◌, nat_le, Bool, ◌&&◌, ◌||◌, not, List, [], ◌∷◌, length, take, drop, Option, Some, None, option_map, codes, if◌then◌else◌}
+use Rattle.std.specs.Prelude.{ℕ, ◌-◌, nat_le, Bool, ◌&&◌, ◌||◌, not, List, [], ◌∷◌, length, take, drop, Option, Some}
+use Rattle.std.specs.Prelude.{None, option_map, codes, if◌then◌else◌}
 use Rattle.std.specs.Prelude.{map, string_bytes}
 use Rattle.std.specs.declared.string.String.{String}
 use Rattle.std.specs.declared.alloc.Global.{Global}
@@ -16,7 +17,8 @@ pub record Job : Type 0 where
 -- 1 to 8 decimal digits, of a number from 1 to 10,000,000
 unfoldable pub steps_of : List ℕ → Option ℕ
 steps_of text =
-    if nat_le 1 (length text) && nat_le (length text) 8 && list_all is_ascii_digit text && nat_le 1 (digits_value 10 text) && nat_le (digits_value 10 text) 10000000
+    if nat_le 1 (length text) && nat_le (length text) 8 && list_all is_ascii_digit text
+    && nat_le 1 (digits_value 10 text) && nat_le (digits_value 10 text) 10000000
     then Some (digits_value 10 text)
     else None
 
@@ -26,7 +28,9 @@ ending name = drop (length name - 4) name
 
 -- the name of a source is no option, and ends in .a51 in any case
 abbrev pub is_source : List ℕ → Bool
-is_source name = (bytes_eq (ending name) (codes ".a51") || bytes_eq (ending name) (codes ".A51")) && not (bytes_eq (take 1 name) (codes "-"))
+is_source name =
+    (bytes_eq (ending name) (codes ".a51") || bytes_eq (ending name) (codes ".A51"))
+    && not (bytes_eq (take 1 name) (codes "-"))
 
 abbrev pub job_from : List ℕ → Option ℕ → Option Job
 job_from file steps = option_map (λ n. record { steps = n; file = file }) steps

@@ -34,9 +34,11 @@ fn filled(runs: &[Run]) -> u32
 #[tactic(auto, unfolding(crate::specs::Cause::IsWritten))]
 fn run<S: Sink>(mut board: Board, steps: u32, out: &mut S) -> Result<Status, Failure>
     requires bounds { (1 ≤ steps) × (steps ≤ 10000000) }
-    ensures written { IsWritten (run_answer (titles_of board.layout.placed) (record_of (separate_machine board.layout board.chip.image) steps (separate_of board))) (record { text = S.text out.old; faults = S.faults out.old }) (record { text = S.text out.new; faults = S.faults out.new }) result }
+    ensures written { IsWritten (run_answer (titles_of board.layout.placed)
+        (record_of (separate_machine board.layout board.chip.image) steps (separate_of board)))
+        (S.state out.old) (S.state out.new) result }
     ensures memory { IsNoMemory result }
-    ensures later { S.faults out.old ≤ S.faults out.new }
+    ensures later { (S.state out.old).faults ≤ (S.state out.new).faults }
 {
     write_whole(out, b"RUN\n")?;
     match board.run(steps, out) {
@@ -58,8 +60,9 @@ fn report<S: Sink>(
     requires one { IsOneUnit linked.layout }
     requires roots { linked.roots ≡ 1 ∷ [] }
     requires filled { filled_by linked.written ≤ 65536 }
-    ensures written { IsWritten (report_answer linked (one_unit ∷ []) steps) (record { text = S.text out.old; faults = S.faults out.old }) (record { text = S.text out.new; faults = S.faults out.new }) result }
-    ensures later { S.faults out.old ≤ S.faults out.new }
+    ensures written { IsWritten (report_answer linked (one_unit ∷ []) steps)
+        (S.state out.old) (S.state out.new) result }
+    ensures later { (S.state out.old).faults ≤ (S.state out.new).faults }
 {
     let chains = one_chain(alloc)?;
     let bytes = filled(linked.written.as_slice());
@@ -79,8 +82,8 @@ fn report<S: Sink>(
 #[tactic(auto, unfolding(crate::specs::Cause::IsModuleWork))]
 fn link<S: Sink>(alloc: Global, steps: u32, parts: &Module, out: &mut S) -> Result<Status, Failure>
     requires bounds { (1 ≤ steps) × (steps ≤ 10000000) }
-    ensures work { IsModuleWork parts.now steps (record { text = S.text out.old; faults = S.faults out.old }) (record { text = S.text out.new; faults = S.faults out.new }) result }
-    ensures later { S.faults out.old ≤ S.faults out.new }
+    ensures work { IsModuleWork parts.now steps (S.state out.old) (S.state out.new) result }
+    ensures later { (S.state out.old).faults ≤ (S.state out.new).faults }
 {
     // A module is valid by its type; asking for a list of it brings that in.
     let _ = parts.segments();
@@ -91,11 +94,9 @@ fn link<S: Sink>(alloc: Global, steps: u32, parts: &Module, out: &mut S) -> Resu
     }
 }
 
-/// Builds a source and runs it, or says which of its lines are at fault or why its module is not linked.
-///
-/// Source: own choice ("The top call").
+// Builds a source and runs it, or says which of its lines are at fault or why its module is not linked.
 #[tactic(auto, unfolding(crate::specs::Cause::IsSourceWork))]
-pub fn build<S: Sink>(
+pub(crate) fn build<S: Sink>(
     alloc: Global,
     steps: u32,
     file: &str,
@@ -104,8 +105,9 @@ pub fn build<S: Sink>(
 ) -> Result<Status, Failure>
     requires bounds { (1 ≤ steps) × (steps ≤ 10000000) }
     requires named { source.now.name ≡ file.now }
-    ensures work { IsSourceWork (record { steps = steps; file = file.now }) source.now.bytes (record { text = S.text out.old; faults = S.faults out.old }) (record { text = S.text out.new; faults = S.faults out.new }) result }
-    ensures later { S.faults out.old ≤ S.faults out.new }
+    ensures work { IsSourceWork (record { steps = steps; file = file.now }) source.now.bytes
+        (S.state out.old) (S.state out.new) result }
+    ensures later { (S.state out.old).faults ≤ (S.state out.new).faults }
 {
     match assemble(alloc, source, &[])? {
         Assembled::Faults(faults) => refuse_source(alloc, file, faults.as_slice(), out),

@@ -6,10 +6,8 @@ use m51_cells::NoMemory;
 use m51_module::{Chain, Units};
 use std::alloc::Global;
 
-/// The chain of the one unit, which owns nothing.
-///
-/// Source: own choice ("Heaviest chains").
-pub fn one_chain(alloc: Global) -> Result<Vec<Chain>, NoMemory>
+// The chain of the one unit, which owns nothing.
+pub(crate) fn one_chain(alloc: Global) -> Result<Vec<Chain>, NoMemory>
     ensures { IfOk result (λ chains. chains.items ≡ one_unit ∷ []) }
 {
     let mut units = Vec::new(alloc);

@@ -1,8 +1,10 @@
 //! The files of the system.
-ghost use Rattle.std.specs.Prelude.{◌≡◌, ◌≤◌, [], None, false, IfOk, length};
+ghost use Rattle.std.specs.Prelude.{◌≡◌, ◌≤◌, [], None, false, IfOk, IsTrue, OnErr, OnOk, is_ok, length, string_bytes};
+ghost use Rattle.m51_cells.specs.Outside.{HasCause, one_more};
+ghost use Rattle.m51_chain.specs.Shelf.{handed};
 
 use crate::shelf::Shelf;
-use m51_sim::Failed;
+use m51_sim::{Failed, MOST_TRIES};
 use std::fs;
 use std::io::{ErrorKind, Read};
 use std::marker::Model;
@@ -15,6 +17,7 @@ use std::rt::Files;
 pub struct DirShelf<R: Files> {
     rt: R,
     file: Option<R::File>,
+    starts: u64,
     name: Option<String>,
     taken: u64,
     faults: u64,
@@ -26,7 +29,13 @@ impl<R: Files> Model for DirShelf<R> {
 
     ghost Value = { OpenFile };
 
-    ghost view = { λ s. record { name = name_bytes s.name; taken = s.taken; ready = is_some s.file; faults = s.faults } };
+    ghost view = { λ s. record {
+      starts = s.starts;
+      name = name_bytes s.name;
+      taken = s.taken;
+      ready = is_some s.file;
+      faults = s.faults;
+    } };
 }
 
 impl<R: Files> DirShelf<R> {
@@ -34,11 +43,12 @@ impl<R: Files> DirShelf<R> {
     ///
     /// Source: own choice ("Calls on the outside").
     pub fn make(rt: R) -> DirShelf<R>
-        ensures { result ≡ record { name = []; taken = 0; ready = false; faults = 0 } }
+        ensures { result ≡ record { starts = 0; name = []; taken = 0; ready = false; faults = 0 } }
     {
         DirShelf {
             rt,
             file: None,
+            starts: 0,
             name: None,
             taken: 0,
             faults: 0,
@@ -47,19 +57,19 @@ impl<R: Files> DirShelf<R> {
 }
 
 // Reads until the slice is full, the file ends or a read fails. Bytes that came before a failure are answered, and the
-// next call meets it. An interrupted read is no failure.
+// next call meets it. A read that a signal interrupts is made again, `MOST_TRIES` times at most in a call.
 fn fill<R: Read>(file: &mut R, into: &mut [u8]) -> Result<usize, Failed>
     ensures { IfOk result (λ count. count ≤ length into.new) }
 {
     let mut done = 0;
-    for _ in 0..u64::MAX {
-        if done == into.len() {
-            break;
-        }
+    let mut interrupted = 0;
+    while done < into.len() {
         match file.read(&mut into[done..]) {
             Ok(0) => break,
             Ok(count) => done += count,
-            Err(error) if error.kind() == ErrorKind::Interrupted => {}
+            Err(error) if error.kind() == ErrorKind::Interrupted && interrupted < MOST_TRIES => {
+                interrupted += 1;
+            }
             Err(_) if done > 0 => break,
             Err(_) => return Err(Failed),
         }
@@ -68,20 +78,27 @@ fn fill<R: Read>(file: &mut R, into: &mut [u8]) -> Result<usize, Failed>
 }
 
 impl<R: Files> Shelf for DirShelf<R> {
-    ghost holds = { λ shelf. None };
+    ghost state = { λ shelf. record {
+      holds = None;
+      opened = None;
+      named = shelf.name;
+      ready = shelf.ready;
+      starts = shelf.starts;
+      taken = shelf.taken;
+      read_faults = shelf.faults;
+    } };
 
-    ghost opened = { λ shelf. None };
-
-    ghost named = { λ shelf. shelf.name };
-
-    ghost ready = { λ shelf. shelf.ready };
-
-    ghost taken = { λ shelf. shelf.taken };
-
-    ghost read_faults = { λ shelf. shelf.faults };
-
-    fn start(&mut self, name: String) -> Result<(), Failed> {
+    fn start(&mut self, name: String) -> Result<(), Failed>
+        ensures named { self.new.name ≡ string_bytes name }
+        ensures ready { self.new.ready ≡ is_ok result }
+        ensures starts { self.new.starts ≡ one_more self.old.starts }
+        ensures taken { self.new.taken ≡ 0 }
+        ensures cause { HasCause self.old.faults self.new.faults result }
+        ensures opened { OnOk result (self.new.faults ≡ self.old.faults) }
+        ensures counted { OnErr result (self.new.faults ≡ one_more self.old.faults) }
+    {
         let opened = fs::open(&self.rt, name.as_str());
+        self.starts = self.starts.saturating_add(1);
         self.name = Some(name);
         self.taken = 0;
         match opened {
@@ -97,7 +114,17 @@ impl<R: Files> Shelf for DirShelf<R> {
         }
     }
 
-    fn piece(&mut self, into: &mut [u8]) -> Result<usize, Failed> {
+    fn piece(&mut self, into: &mut [u8]) -> Result<usize, Failed>
+        requires { IsTrue self.old.ready }
+        ensures bound { IfOk result (λ count. count ≤ length into.new) }
+        ensures named { self.new.name ≡ self.old.name }
+        ensures ready { self.new.ready ≡ is_ok result }
+        ensures starts { self.new.starts ≡ self.old.starts }
+        ensures taken { self.new.taken ≡ handed self.old.taken result }
+        ensures cause { HasCause self.old.faults self.new.faults result }
+        ensures read { OnOk result (self.new.faults ≡ self.old.faults) }
+        ensures counted { OnErr result (self.new.faults ≡ one_more self.old.faults) }
+    {
         let Some(file) = &mut self.file else {
             unreachable!()
         };

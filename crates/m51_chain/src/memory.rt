@@ -1,10 +1,11 @@
 //! A shelf in memory, whose failures are listed.
-ghost use Rattle.std.specs.Prelude.{◌≡◌, ◌≤◌, ◌<◌, ◌↔◌, ◌⊎◌, [], false, ℕ, Some, None, IsTrue, IfOk, OnOk, IfSome, Contains, is_ok, length, string_bytes};
+ghost use Rattle.std.specs.Prelude.{◌≡◌, ◌≤◌, ◌<◌, ◌↔◌, ◌⊎◌, [], false, Some, None, IsTrue, IfOk, OnOk};
+ghost use Rattle.std.specs.Prelude.{Contains, is_ok, length, string_bytes};
 ghost use Rattle.m51_cells.specs.Outside.{HasCause};
 ghost use Rattle.m51_chain.specs.Shelf.{Opens, IsPiece, handed, file_of, contents_at};
 ghost use Rattle.m51_chain.specs.Memory.{MemoryShelf, Starts, Reads};
 
-use crate::files::{contents, copy_piece, place_of};
+use crate::files::{contents, copy_piece, index_of};
 use crate::shelf::Shelf;
 use m51_cells::{Bytes, NoMemory};
 use m51_sim::Failed;
@@ -16,7 +17,9 @@ use std::marker::Model;
 /// Source: own choice ("The outside").
 #[derive(Clone, Copy, Debug, PartialEq, Eq)]
 pub enum Call {
+    /// A start of a file.
     Start,
+    /// A piece of the open file.
     Piece,
 }
 
@@ -31,7 +34,7 @@ pub struct MemShelf {
     starts: u64,
     pieces: u64,
     name: Option<String>,
-    place: usize,
+    index: usize,
     taken: usize,
     ready: bool,
     faults: u64,
@@ -45,13 +48,24 @@ impl Model for MemShelf {
 
     ghost Value = { MemoryShelf };
 
-    ghost view = { λ s. record { files = s.files.items; fails = s.fails.items; starts = s.starts; pieces = s.pieces; name = name_bytes s.name; place = s.place; taken = s.taken; ready = s.ready; faults = s.faults } };
+    ghost view = { λ s. record {
+      files = s.files.items;
+      fails = s.fails.items;
+      starts = s.starts;
+      pieces = s.pieces;
+      name = name_bytes s.name;
+      index = s.index;
+      taken = s.taken;
+      ready = s.ready;
+      faults = s.faults;
+    } };
 
-    ghost invariant = { λ s. s.taken ≤ length (contents_at s.files.items s.place) };
+    ghost invariant = { λ s. s.taken ≤ length (contents_at s.files.items s.index) };
 }
 
 impl MemShelf {
-    /// A shelf of these files, by name, before its first call. `fails` lists the calls that fail.
+    /// A shelf of these files, by name, before its first call. `fails` lists the calls that fail. It takes no memory,
+    /// and never refuses: the result leaves room for a shelf that does.
     ///
     /// Source: own choice ("The outside").
     pub fn make(
@@ -59,16 +73,26 @@ impl MemShelf {
         files: Vec<(Bytes, Bytes)>,
         fails: Vec<(Call, u32)>,
     ) -> Result<MemShelf, NoMemory>
-        ensures { IfOk result (λ shelf. shelf ≡ record { files = files.items; fails = fails.items; starts = 0; pieces = 0; name = []; place = length files.items; taken = 0; ready = false; faults = 0 }) }
+        ensures { IfOk result (λ shelf. shelf ≡ record {
+          files = files.items;
+          fails = fails.items;
+          starts = 0;
+          pieces = 0;
+          name = [];
+          index = length files.items;
+          taken = 0;
+          ready = false;
+          faults = 0;
+        }) }
     {
-        let place = files.len();
+        let index = files.len();
         Ok(MemShelf {
             files,
             fails,
             starts: 0,
             pieces: 0,
             name: None,
-            place,
+            index,
             taken: 0,
             ready: false,
             faults: 0,
@@ -77,10 +101,11 @@ impl MemShelf {
 
     // Whether a start of that number fails: it is listed, or no file has the name.
     fn start_fails(&self, number: u64, name: &[u8]) -> bool
-        ensures { IsTrue result ↔ (Contains self.now.fails (Call.Start, number) ⊎ (file_of self.now.files name.now ≡ None)) }
+        ensures { IsTrue result
+            ↔ (Contains self.now.fails (Call.Start, number) ⊎ (file_of self.now.files name.now ≡ None)) }
     {
         is_listed(&self.fails, Call::Start, number)
-            || place_of(&self.files, name) == self.files.len()
+            || index_of(&self.files, name) == self.files.len()
     }
 }
 
@@ -94,32 +119,31 @@ fn is_listed(fails: &[(Call, u32)], call: Call, number: u64) -> bool
 }
 
 impl Shelf for MemShelf {
-    ghost holds = { λ shelf. Some (file_of shelf.files) };
-
-    ghost opened = { λ shelf. Some (contents_at shelf.files shelf.place) };
-
-    ghost named = { λ shelf. shelf.name };
-
-    ghost ready = { λ shelf. shelf.ready };
-
-    ghost taken = { λ shelf. shelf.taken };
-
-    ghost read_faults = { λ shelf. shelf.faults };
+    ghost state = { λ shelf. record {
+      holds = Some (file_of shelf.files);
+      opened = Some (contents_at shelf.files shelf.index);
+      named = shelf.name;
+      ready = shelf.ready;
+      starts = shelf.starts;
+      taken = shelf.taken;
+      read_faults = shelf.faults;
+    } };
 
     fn start(&mut self, name: String) -> Result<(), Failed>
-        ensures opens { OnOk result (Opens (Some (file_of self.old.files)) (string_bytes name) (Some (contents_at self.new.files self.new.place))) }
+        ensures opens { OnOk result (Opens (Some (file_of self.old.files)) (string_bytes name)
+            (Some (contents_at self.new.files self.new.index))) }
         ensures named { self.new.name ≡ string_bytes name }
         ensures ready { self.new.ready ≡ is_ok result }
         ensures taken { self.new.taken ≡ 0 }
         ensures cause { HasCause self.old.faults self.new.faults result }
-        ensures starts { Starts self.old self.new (string_bytes name) result }
+        ensures started { Starts self.old self.new (string_bytes name) result }
     {
         let number = self.starts.saturating_add(1);
         let failed = self.start_fails(number, name.as_bytes());
-        let place = place_of(&self.files, name.as_bytes());
+        let index = index_of(&self.files, name.as_bytes());
         self.starts = number;
         self.taken = 0;
-        self.place = place;
+        self.index = index;
         self.name = Some(name);
         self.ready = !failed;
         if failed {
@@ -132,8 +156,9 @@ impl Shelf for MemShelf {
     fn piece(&mut self, into: &mut [u8]) -> Result<usize, Failed>
         requires { IsTrue self.old.ready }
         ensures bound { IfOk result (λ count. count ≤ length into.new) }
-        ensures piece { IfOk result (λ count. IsPiece (contents_at self.old.files self.old.place) self.old.taken count into.new) }
-        ensures place { self.new.place ≡ self.old.place }
+        ensures piece { IfOk result (λ count.
+            IsPiece (contents_at self.old.files self.old.index) self.old.taken count into.new) }
+        ensures index { self.new.index ≡ self.old.index }
         ensures named { self.new.name ≡ self.old.name }
         ensures ready { self.new.ready ≡ is_ok result }
         ensures taken { self.new.taken ≡ handed self.old.taken result }
@@ -146,7 +171,7 @@ impl Shelf for MemShelf {
             self.faults = self.faults.saturating_add(1);
             return Err(Failed);
         }
-        let count = copy_piece(contents(&self.files, self.place), self.taken, into);
+        let count = copy_piece(contents(&self.files, self.index), self.taken, into);
         self.taken += count;
         Ok(count)
     }

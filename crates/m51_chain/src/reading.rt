@@ -1,35 +1,28 @@
 //! Reading a whole file, one byte at a time.
 ghost use Rattle.std.specs.Prelude.{◌≡◌, ◌≤◌, string_bytes};
+ghost use Rattle.m51_cells.specs.Outside.{one_more};
 ghost use Rattle.m51_chain.specs.Reading.{IsRead};
 
 use crate::shelf::Shelf;
-use m51_cells::{Bytes, NoMemory};
+use m51_cells::{Bytes, MOST_FILE_BYTES, NoMemory};
 use m51_sim::Failed;
 use std::alloc::Global;
 
-/// The most bytes of a file.
-///
-/// Source: own choice ("Limits").
-pub const MAX_BYTES: usize = 1_048_576;
-
-/// What was read of a file.
-///
-/// Source: own choice ("Limits").
+// What was read of a file.
 #[derive(Drop)]
-pub enum Contents {
-    /// All its bytes.
+pub(crate) enum Contents {
+    // All its bytes.
     Whole(Bytes),
-    /// It has more than `MAX_BYTES`.
+    /// It has more than `MOST_FILE_BYTES`.
     TooLong,
 }
 
-/// Why a file was not read.
-///
-/// Source: own choice ("Limits").
+// Why a file was not read.
 #[derive(Clone, Copy, Debug, PartialEq, Eq)]
-pub enum ReadError {
-    /// A call on the shelf failed.
+pub(crate) enum ReadError {
+    // A call on the shelf failed.
     Failed,
+    // Memory is wanted.
     Memory,
 }
 
@@ -53,19 +46,19 @@ impl From<NoMemory> for ReadError {
     }
 }
 
-/// Reads the file of this name. It asks for one byte at a time, takes one in each turn, and stops at one more than the
-/// most.
-///
-/// Source: own choice ("Limits").
-pub fn read_file<F: Shelf>(
+// Reads the file of this name. It asks for one byte at a time, takes one in each turn, and stops at one more than the
+// most.
+pub(crate) fn read_file<F: Shelf>(
     alloc: Global,
     name: String,
     files: &mut F,
 ) -> Result<Contents, ReadError>
-    ensures named { F.named files.new ≡ string_bytes name }
-    ensures read { IsRead (F.holds files.old) (record { named = F.named files.old; ready = F.ready files.old; taken = F.taken files.old; faults = F.read_faults files.old }) (record { named = F.named files.new; ready = F.ready files.new; taken = F.taken files.new; faults = F.read_faults files.new }) result }
-    ensures later { F.read_faults files.old ≤ F.read_faults files.new }
-    ensures most { F.taken files.new ≤ 1048577 }
+    ensures named { (F.state files.new).named ≡ string_bytes name }
+    ensures read { IsRead (F.state files.old).holds (F.state files.old) (F.state files.new) result }
+    ensures holds { (F.state files.new).holds ≡ (F.state files.old).holds }
+    ensures starts { (F.state files.new).starts ≡ one_more (F.state files.old).starts }
+    ensures later { (F.state files.old).read_faults ≤ (F.state files.new).read_faults }
+    ensures most { (F.state files.new).taken ≤ 1048577 }
 {
     files.start(name)?;
     let mut bytes = Bytes::new(alloc);
@@ -75,7 +68,7 @@ pub fn read_file<F: Shelf>(
         if count == 0 {
             return Ok(Contents::Whole(bytes));
         }
-        if bytes.len() >= MAX_BYTES {
+        if bytes.len() >= MOST_FILE_BYTES {
             return Ok(Contents::TooLong);
         }
         bytes.push(byte[0])?;

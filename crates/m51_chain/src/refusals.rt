@@ -1,6 +1,7 @@
 //! The texts of refusals, each made whole before its first byte is written.
 ghost use Rattle.std.specs.Prelude.{◌≡◌, ◌≢◌, ◌≤◌, IfOk, string_bytes};
-ghost use Rattle.m51_chain.specs.Answer.{usage_answer, limit_answer, unread_answer, fault_line, faults_answer, refusal_answer};
+ghost use Rattle.m51_chain.specs.Answer.{usage_answer, limit_answer, unread_answer, fault_line, faults_answer};
+ghost use Rattle.m51_chain.specs.Answer.{refusal_answer, refusal_status};
 ghost use Rattle.m51_chain.specs.Cause.{IsWritten};
 
 use crate::status::{Failure, Status};
@@ -14,19 +15,18 @@ use std::alloc::Global;
 // Writes a text, and ends with the status.
 #[tactic(auto, unfolding(crate::specs::Cause::IsWritten))]
 fn refuse<S: Sink>(out: &mut S, status: Status, text: &[u8]) -> Result<Status, Failure>
-    ensures written { IsWritten (record { status = status; text = text.now }) (record { text = S.text out.old; faults = S.faults out.old }) (record { text = S.text out.new; faults = S.faults out.new }) result }
-    ensures later { S.faults out.old ≤ S.faults out.new }
+    ensures written { IsWritten (record { status = status; text = text.now })
+        (S.state out.old) (S.state out.new) result }
+    ensures later { (S.state out.old).faults ≤ (S.state out.new).faults }
 {
     write_whole(out, text)?;
     Ok(status)
 }
 
-/// Refuses the words.
-///
-/// Source: own choice ("Statuses").
-pub fn refuse_words<S: Sink>(out: &mut S) -> Result<Status, Failure>
-    ensures written { IsWritten usage_answer (record { text = S.text out.old; faults = S.faults out.old }) (record { text = S.text out.new; faults = S.faults out.new }) result }
-    ensures later { S.faults out.old ≤ S.faults out.new }
+// Refuses the words.
+pub(crate) fn refuse_words<S: Sink>(out: &mut S) -> Result<Status, Failure>
+    ensures written { IsWritten usage_answer (S.state out.old) (S.state out.new) result }
+    ensures later { (S.state out.old).faults ≤ (S.state out.new).faults }
 {
     refuse(
         out,
@@ -35,12 +35,10 @@ pub fn refuse_words<S: Sink>(out: &mut S) -> Result<Status, Failure>
     )
 }
 
-/// Refuses a file with more bytes than the most.
-///
-/// Source: own choice ("Statuses").
-pub fn refuse_long_file<S: Sink>(out: &mut S) -> Result<Status, Failure>
-    ensures written { IsWritten limit_answer (record { text = S.text out.old; faults = S.faults out.old }) (record { text = S.text out.new; faults = S.faults out.new }) result }
-    ensures later { S.faults out.old ≤ S.faults out.new }
+// Refuses a file with more bytes than the most.
+pub(crate) fn refuse_long_file<S: Sink>(out: &mut S) -> Result<Status, Failure>
+    ensures written { IsWritten limit_answer (S.state out.old) (S.state out.new) result }
+    ensures later { (S.state out.old).faults ≤ (S.state out.new).faults }
 {
     refuse(out, Status::Limit, b"LIMIT BYTES 1048576\n")
 }
@@ -52,17 +50,15 @@ fn unread_text(alloc: Global, file: &str) -> Result<String, NoMemory>
     Ok(format!(in alloc; "READ FAULT {file}\n")?)
 }
 
-/// Says that a file could not be read.
-///
-/// Source: own choice ("Statuses").
+// Says that a file could not be read.
 #[tactic(auto, unfolding(crate::specs::Cause::IsWritten))]
-pub fn refuse_unread_file<S: Sink>(
+pub(crate) fn refuse_unread_file<S: Sink>(
     alloc: Global,
     file: &str,
     out: &mut S,
 ) -> Result<Status, Failure>
-    ensures written { IsWritten (unread_answer file.now) (record { text = S.text out.old; faults = S.faults out.old }) (record { text = S.text out.new; faults = S.faults out.new }) result }
-    ensures later { S.faults out.old ≤ S.faults out.new }
+    ensures written { IsWritten (unread_answer file.now) (S.state out.old) (S.state out.new) result }
+    ensures later { (S.state out.old).faults ≤ (S.state out.new).faults }
 {
     let text = unread_text(alloc, file)?;
     refuse(out, Status::ReadFault, text.as_bytes())
@@ -89,37 +85,43 @@ fn faults_text(alloc: Global, file: &str, faults: &[Fault]) -> Result<Vec<u8>, N
     Ok(text)
 }
 
-/// Refuses a source at its faults.
-///
-/// Source: own choice ("Statuses").
+// Refuses a source at its faults.
 #[tactic(auto, unfolding(crate::specs::Cause::IsWritten))]
-pub fn refuse_source<S: Sink>(
+pub(crate) fn refuse_source<S: Sink>(
     alloc: Global,
     file: &str,
     faults: &[Fault],
     out: &mut S,
 ) -> Result<Status, Failure>
-    ensures written { IsWritten (faults_answer file.now faults.now) (record { text = S.text out.old; faults = S.faults out.old }) (record { text = S.text out.new; faults = S.faults out.new }) result }
-    ensures later { S.faults out.old ≤ S.faults out.new }
+    ensures written { IsWritten (faults_answer file.now faults.now) (S.state out.old) (S.state out.new) result }
+    ensures later { (S.state out.old).faults ≤ (S.state out.new).faults }
 {
     let text = faults_text(alloc, file, faults)?;
     refuse(out, Status::Source, &text)
 }
 
-/// Refuses a link.
-///
-/// Source: own choice ("Statuses").
+// The status of a refusal of the linker.
+fn refusal_status(refusal: &Refusal) -> Status
+    ensures { result ≡ refusal_status refusal.now }
+{
+    match refusal {
+        Refusal::Limit { .. } => Status::Limit,
+        _ => Status::Link,
+    }
+}
+
+// Refuses a link. Its clause `refusal` hands the condition on to the proof of the caller.
 #[tactic(auto, unfolding(crate::specs::Cause::IsWritten))]
-pub fn refuse_link<S: Sink>(
+pub(crate) fn refuse_link<S: Sink>(
     alloc: Global,
     refusal: &Refusal,
     out: &mut S,
 ) -> Result<Status, Failure>
     requires { refusal.now ≢ Refusal.Memory }
     ensures refusal { refusal.now ≢ Refusal.Memory }
-    ensures written { IsWritten (refusal_answer refusal.now) (record { text = S.text out.old; faults = S.faults out.old }) (record { text = S.text out.new; faults = S.faults out.new }) result }
-    ensures later { S.faults out.old ≤ S.faults out.new }
+    ensures written { IsWritten (refusal_answer refusal.now) (S.state out.old) (S.state out.new) result }
+    ensures later { (S.state out.old).faults ≤ (S.state out.new).faults }
 {
     let text = refusal_text(alloc, refusal)?;
-    refuse(out, Status::Link, &text)
+    refuse(out, refusal_status(refusal), &text)
 }

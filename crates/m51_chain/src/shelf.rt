@@ -1,7 +1,8 @@
 //! Where files come from.
-ghost use Rattle.std.specs.Prelude.{◌≡◌, ◌≤◌, ℕ, Bool, List, Option, IsTrue, IfOk, OnOk, IfSome, length, is_ok, string_bytes};
-ghost use Rattle.m51_cells.specs.Outside.{HasCause};
-ghost use Rattle.m51_chain.specs.Shelf.{Files, Opens, IsPiece, handed};
+ghost use Rattle.std.specs.Prelude.{◌≡◌, ◌≤◌, IsTrue, IfOk, OnOk, IfSome, length, is_ok, string_bytes};
+ghost use Rattle.m51_cells.specs.Outside.{HasCause, one_more};
+ghost use Rattle.m51_chain.specs.Outside.{ShelfState};
+ghost use Rattle.m51_chain.specs.Shelf.{Opens, IsPiece, handed};
 
 use m51_sim::Failed;
 
@@ -9,43 +10,35 @@ use m51_sim::Failed;
 ///
 /// Source: own choice ("The outside").
 pub trait Shelf {
-    /// The files by name, where the shelf tells them.
-    ghost holds: { Self → Option Files };
-
-    /// What the open file holds, where the shelf tells it.
-    ghost opened: { Self → Option (List ℕ) };
-
-    /// The name last handed to `start`, empty before.
-    ghost named: { Self → List ℕ };
-
-    /// Whether the file of that name can be read on.
-    ghost ready: { Self → Bool };
-
-    /// How many bytes of it were handed out. It stops at the last value of a `u64`.
-    ghost taken: { Self → ℕ };
-
-    /// How often a call has failed. It stops at the last value of a `u64`.
-    ghost read_faults: { Self → ℕ };
+    /// What contracts see of the shelf.
+    ghost state: { Self → ShelfState };
 
     /// Opens the file of this name. A file that is not there is a failure.
+    ///
+    /// Source: own choice ("The outside").
     fn start(&mut self, name: String) -> Result<(), Failed>
-        ensures holds { holds self.new ≡ holds self.old }
-        ensures opens { OnOk result (Opens (holds self.old) (string_bytes name) (opened self.new)) }
-        ensures named { named self.new ≡ string_bytes name }
-        ensures ready { ready self.new ≡ is_ok result }
-        ensures taken { taken self.new ≡ 0 }
-        ensures cause { HasCause (read_faults self.old) (read_faults self.new) result };
+        ensures holds { (state self.new).holds ≡ (state self.old).holds }
+        ensures opens { OnOk result (Opens (state self.old).holds (string_bytes name) (state self.new).opened) }
+        ensures named { (state self.new).named ≡ string_bytes name }
+        ensures ready { (state self.new).ready ≡ is_ok result }
+        ensures starts { (state self.new).starts ≡ one_more (state self.old).starts }
+        ensures taken { (state self.new).taken ≡ 0 }
+        ensures cause { HasCause (state self.old).read_faults (state self.new).read_faults result };
 
     /// Reads on in the open file, into the front of the slice, and answers how many bytes it put there. It is 0 for a
     /// slice that is not empty exactly at the file's end.
+    ///
+    /// Source: own choice ("The outside").
     fn piece(&mut self, into: &mut [u8]) -> Result<usize, Failed>
-        requires { IsTrue (ready self.old) }
+        requires { IsTrue (state self.old).ready }
         ensures bound { IfOk result (λ count. count ≤ length into.new) }
-        ensures piece { IfOk result (λ count. IfSome (opened self.old) (λ file. IsPiece file (taken self.old) count into.new)) }
-        ensures holds { holds self.new ≡ holds self.old }
-        ensures opened { opened self.new ≡ opened self.old }
-        ensures named { named self.new ≡ named self.old }
-        ensures ready { ready self.new ≡ is_ok result }
-        ensures taken { taken self.new ≡ handed (taken self.old) result }
-        ensures cause { HasCause (read_faults self.old) (read_faults self.new) result };
+        ensures piece { IfOk result (λ count.
+            IfSome (state self.old).opened (λ file. IsPiece file (state self.old).taken count into.new)) }
+        ensures holds { (state self.new).holds ≡ (state self.old).holds }
+        ensures opened { (state self.new).opened ≡ (state self.old).opened }
+        ensures named { (state self.new).named ≡ (state self.old).named }
+        ensures ready { (state self.new).ready ≡ is_ok result }
+        ensures starts { (state self.new).starts ≡ (state self.old).starts }
+        ensures taken { (state self.new).taken ≡ handed (state self.old).taken result }
+        ensures cause { HasCause (state self.old).read_faults (state self.new).read_faults result };
 }

@@ -2,7 +2,7 @@
 ghost use Rattle.std.specs.Prelude.{◌≡◌, Some, false, [], length};
 ghost use Rattle.m51_chain.specs.Shelf.{file_or_empty, contents_at};
 
-use crate::files::{contents, copy_piece, place_of};
+use crate::files::{contents, copy_piece, index_of};
 use crate::shelf::Shelf;
 use m51_cells::Bytes;
 use m51_sim::Failed;
@@ -15,8 +15,9 @@ use std::marker::Model;
 #[derive(Drop)]
 pub struct SureShelf {
     files: Vec<(Bytes, Bytes)>,
+    starts: u64,
     name: Option<String>,
-    place: usize,
+    index: usize,
     taken: usize,
     ready: bool,
 }
@@ -29,9 +30,16 @@ impl Model for SureShelf {
 
     ghost Value = { SureFiles };
 
-    ghost view = { λ s. record { files = s.files.items; name = name_bytes s.name; place = s.place; taken = s.taken; ready = s.ready } };
+    ghost view = { λ s. record {
+      files = s.files.items;
+      starts = s.starts;
+      name = name_bytes s.name;
+      index = s.index;
+      taken = s.taken;
+      ready = s.ready;
+    } };
 
-    ghost invariant = { λ s. s.taken ≤ length (contents_at s.files.items s.place) };
+    ghost invariant = { λ s. s.taken ≤ length (contents_at s.files.items s.index) };
 }
 
 impl SureShelf {
@@ -39,13 +47,21 @@ impl SureShelf {
     ///
     /// Source: own choice ("The outside").
     pub fn make(files: Vec<(Bytes, Bytes)>) -> SureShelf
-        ensures { result ≡ record { files = files.items; name = []; place = length files.items; taken = 0; ready = false } }
+        ensures { result ≡ record {
+          files = files.items;
+          starts = 0;
+          name = [];
+          index = length files.items;
+          taken = 0;
+          ready = false;
+        } }
     {
-        let place = files.len();
+        let index = files.len();
         SureShelf {
             files,
+            starts: 0,
             name: None,
-            place,
+            index,
             taken: 0,
             ready: false,
         }
@@ -53,29 +69,28 @@ impl SureShelf {
 }
 
 impl Shelf for SureShelf {
-    ghost holds = { λ shelf. Some (file_or_empty shelf.files) };
-
-    ghost opened = { λ shelf. Some (contents_at shelf.files shelf.place) };
-
-    ghost named = { λ shelf. shelf.name };
-
-    ghost ready = { λ shelf. shelf.ready };
-
-    ghost taken = { λ shelf. shelf.taken };
-
-    ghost read_faults = { λ shelf. 0 };
+    ghost state = { λ shelf. record {
+      holds = Some (file_or_empty shelf.files);
+      opened = Some (contents_at shelf.files shelf.index);
+      named = shelf.name;
+      ready = shelf.ready;
+      starts = shelf.starts;
+      taken = shelf.taken;
+      read_faults = 0;
+    } };
 
     fn start(&mut self, name: String) -> Result<(), Failed> {
-        let place = place_of(&self.files, name.as_bytes());
+        let index = index_of(&self.files, name.as_bytes());
+        self.starts = self.starts.saturating_add(1);
         self.taken = 0;
-        self.place = place;
+        self.index = index;
         self.name = Some(name);
         self.ready = true;
         Ok(())
     }
 
     fn piece(&mut self, into: &mut [u8]) -> Result<usize, Failed> {
-        let count = copy_piece(contents(&self.files, self.place), self.taken, into);
+        let count = copy_piece(contents(&self.files, self.index), self.taken, into);
         self.taken += count;
         Ok(count)
     }

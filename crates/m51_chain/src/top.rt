@@ -2,8 +2,7 @@
 ghost use Rattle.std.specs.Prelude.{◌≡◌, ◌⊎◌, ◌≤◌, IfOk, None, Some, string_bytes};
 ghost use Rattle.m51_chain.specs.Shelf.{Files};
 ghost use Rattle.m51_chain.specs.Words.{job_of, texts};
-ghost use Rattle.m51_chain.specs.Answer.{file_read};
-ghost use Rattle.m51_chain.specs.Cause.{IsWork, IsTold, IsCaused};
+ghost use Rattle.m51_chain.specs.Cause.{HasRead, IsWork, IsTold, IsCaused};
 
 use crate::building::build;
 use crate::reading::{Contents, ReadError, read_file};
@@ -24,7 +23,7 @@ fn source_of(alloc: Global, file: &String, bytes: Bytes) -> Result<SourceFile, N
     Ok(SourceFile { name, bytes })
 }
 
-// The same text once more.
+// A copy of a text.
 fn copy(text: &String) -> Result<String, NoMemory>
     ensures { IfOk result (λ copy. string_bytes copy ≡ string_bytes text.now) }
 {
@@ -39,10 +38,13 @@ fn work<F: Shelf, S: Sink>(
     files: &mut F,
     out: &mut S,
 ) -> Result<Status, Failure>
-    ensures work { IsWork (texts words.now) (F.holds files.old) (record { named = F.named files.old; ready = F.ready files.old; taken = F.taken files.old; faults = F.read_faults files.old }) (record { named = F.named files.new; ready = F.ready files.new; taken = F.taken files.new; faults = F.read_faults files.new }) (record { text = S.text out.old; faults = S.faults out.old }) (record { text = S.text out.new; faults = S.faults out.new }) result }
+    ensures work { IsWork (texts words.now) (F.state files.old).holds (F.state files.old) (F.state files.new)
+        (S.state out.old) (S.state out.new) result }
     ensures usage { job_of (texts words.now) ≡ None → files.new ≡ files.old }
-    ensures reads { (files.new ≡ files.old) ⊎ ((file_read (texts words.now) ≡ Some (F.named files.new)) × (F.taken files.new ≤ 1048577)) }
-    ensures later { (F.read_faults files.old ≤ F.read_faults files.new) × (S.faults out.old ≤ S.faults out.new) }
+    ensures reads { (files.new ≡ files.old) ⊎ HasRead (texts words.now) (F.state files.old) (F.state files.new) }
+    ensures holds { (F.state files.new).holds ≡ (F.state files.old).holds }
+    ensures later { (F.state files.old).read_faults ≤ (F.state files.new).read_faults }
+    ensures sink_later { (S.state out.old).faults ≤ (S.state out.new).faults }
 {
     let Some(job) = job_of(words) else {
         return refuse_words(out);
@@ -70,19 +72,26 @@ pub fn chain<F: Shelf, S: Sink>(
     files: &mut F,
     out: &mut S,
 ) -> Status
-    // Where the shelf tells its files, status and text are those of the answer for words and files, unless a call failed or
-    // memory is wanted.
-    ensures told { (held : Files) → F.holds files.old ≡ Some held → IsTold (texts words.now) held (record { named = F.named files.old; ready = F.ready files.old; taken = F.taken files.old; faults = F.read_faults files.old }) (record { named = F.named files.new; ready = F.ready files.new; taken = F.taken files.new; faults = F.read_faults files.new }) (record { text = S.text out.old; faults = S.faults out.old }) (record { text = S.text out.new; faults = S.faults out.new }) result }
+    // Where the shelf tells its files, status and text are those of the answer for words and files, unless a call
+    // failed or there is no memory.
+    ensures told { (held : Files) → (F.state files.old).holds ≡ Some held
+        → IsTold (texts words.now) held (F.state files.old) (F.state files.new)
+        (S.state out.old) (S.state out.new) result }
 
     // What lies behind each status, told or not.
-    ensures cause { IsCaused (texts words.now) (record { named = F.named files.old; ready = F.ready files.old; taken = F.taken files.old; faults = F.read_faults files.old }) (record { named = F.named files.new; ready = F.ready files.new; taken = F.taken files.new; faults = F.read_faults files.new }) (record { text = S.text out.old; faults = S.faults out.old }) (record { text = S.text out.new; faults = S.faults out.new }) result }
+    ensures cause { IsCaused (texts words.now) (F.state files.old) (F.state files.new)
+        (S.state out.old) (S.state out.new) result }
 
     // Faulty words are refused before a file is touched.
     ensures usage { job_of (texts words.now) ≡ None → files.new ≡ files.old }
 
-    // No other file than that of the words is read, and of it at most one byte past the limit.
-    ensures reads { (files.new ≡ files.old) ⊎ ((file_read (texts words.now) ≡ Some (F.named files.new)) × (F.taken files.new ≤ 1048577)) }
-    ensures later { (F.read_faults files.old ≤ F.read_faults files.new) × (S.faults out.old ≤ S.faults out.new) }
+    // At most one file is started, which is that of the words, and of it at most one byte past the limit is taken.
+    ensures reads { (files.new ≡ files.old) ⊎ HasRead (texts words.now) (F.state files.old) (F.state files.new) }
+
+    // What the shelf holds is as before, and no count of failures falls.
+    ensures holds { (F.state files.new).holds ≡ (F.state files.old).holds }
+    ensures later { (F.state files.old).read_faults ≤ (F.state files.new).read_faults }
+    ensures sink_later { (S.state out.old).faults ≤ (S.state out.new).faults }
 {
     match work(alloc, words, files, out) {
         Ok(status) => status,

@@ -4,11 +4,9 @@ ghost use Rattle.std.specs.Char.{is_ascii_digit};
 ghost use Rattle.std.specs.List.{list_all};
 ghost use Rattle.m51_chain.specs.Words.{Job, steps_of, is_source, job_of, texts};
 
-/// What the words ask for: to build a source and to run it for so many steps.
-///
-/// Source: own choice ("Words").
+// What the words ask for: to build a source and to run it for so many steps.
 #[derive(Drop)]
-pub struct Job<'a> {
+pub(crate) struct Job<'a> {
     /// 1 to 10,000,000.
     pub steps: u32,
     pub file: &'a String,
@@ -45,12 +43,11 @@ fn is_source(name: &[u8]) -> bool
     (ending == b".a51".as_slice() || ending == b".A51".as_slice()) && front != b"-".as_slice()
 }
 
-/// What the words after the program's name ask for, or none where they are no `build --steps N F`.
-///
-/// Source: own choice ("Words").
+// What the words after the program's name ask for, or none where they are no `build --steps N F`.
 #[tactic(auto, unfolding(crate::specs::Words::job_of))]
-pub fn job_of(words: &[String]) -> Option<Job<'_>>
-    ensures job { option_map (λ job. record { steps = job.steps; file = string_bytes job.file.now }) result ≡ job_of (texts words.now) }
+pub(crate) fn job_of(words: &[String]) -> Option<Job<'_>>
+    ensures job { option_map (λ job. record { steps = job.steps; file = string_bytes job.file.now }) result
+        ≡ job_of (texts words.now) }
     ensures steps { IfSome result (λ job. (1 ≤ job.steps) × (job.steps ≤ 10000000)) }
 {
     let [verb, option, number, file] = words else {

@@ -1,4 +1,6 @@
-pub mod RowsFound
-pub mod RowsSpelled
-pub mod RowsSame
+pub mod TakenFields
+pub mod Reaching
+pub mod Leading
+pub mod BitNumbers
 pub mod Standing
+pub mod StatementRows

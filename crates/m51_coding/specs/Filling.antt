@@ -1,17 +1,19 @@
 -- What the operands of a line give in the fields of its row.
 use Rattle.std.specs.Prelude.{ℕ, ◌==◌, if◌then◌else◌, List, [], ◌∷◌, Option, Some, None, Result, Ok, Err}
 use Rattle.std.specs.Option.{option_or}
+pub use Rattle.m51_cells.specs.Outcome.{and_then}
 use Rattle.m51_expr.specs.declared.value.Value.{Value}
 use Rattle.m51_expr.specs.Tree.{Tree}
 use Rattle.m51_expr.specs.Value.{Valued}
 use Rattle.m51_expr.specs.Meanings.{Meanings}
 use Rattle.m51_expr.specs.Evaluation.{value_of}
 use Rattle.m51_stmt.specs.Statement.{OperandTree, Imm, Plain, NotBit}
-use Rattle.m51_fields.specs.declared.reference.Reference.{Reference}
-use Rattle.m51_fields.specs.declared.reference.Field.{Field}
-use Rattle.m51_fields.specs.declared.reference.Field.TheVariants.{Number, Linked}
-use Rattle.m51_fields.specs.Field.{field_of}
-use Rattle.m51_coding.specs.declared.slots.FieldSlot.{FieldSlot}
+use Rattle.m51_coding.specs.declared.reference.Reference.{Reference}
+use Rattle.m51_isa.specs.declared.slot.Field.{Field}
+use Rattle.m51_isa.specs.declared.slot.FieldSlot.{FieldSlot}
+use Rattle.m51_coding.specs.declared.reference.FieldValue.{FieldValue}
+use Rattle.m51_coding.specs.declared.reference.FieldValue.TheVariants.{Number, Linked}
+use Rattle.m51_coding.specs.FieldValues.{field_of}
 use Rattle.m51_coding.specs.declared.filling.Held.{Held}
 use Rattle.m51_coding.specs.declared.filling.CodingError.{CodingError}
 
@@ -23,25 +25,20 @@ Answer A = Result A CodingError
 abbrev pub fault : {A : Type 0} → ℕ → Answer A
 fault k = Err (record { number = k })
 
--- goes on with a result
-abbrev pub and_then : {A B : Type 0} → Answer A → (A → Answer B) → Answer B
-and_then (Ok a) go = go a
-and_then (Err e) go = Err e
-
 -- an operand without a field
 abbrev pub nothing : Held
 nothing = record { number = 0; byte = 0; reference = None }
 
 -- a number stands in its field, and 0 where the linker fills it in; a value that has no field there is E14
-abbrev pub holding : ℕ → Option Field → Answer Held
+abbrev pub holding : ℕ → Option FieldValue → Answer Held
 holding byte (Some (Number n)) = Ok (record { number = n; byte = byte; reference = None })
 holding byte (Some (Linked r)) = Ok (record { number = 0; byte = byte; reference = Some r })
 holding byte None = fault 14
 
--- what a value gives in the field
-abbrev pub valued : Meanings → ℕ → FieldSlot → Valued Value → Answer Held
-valued names next slot (Ok v) = holding slot.byte (field_of names slot.place next v)
-valued names next slot (Err e) = fault e.number
+-- what a value gives in the field that begins at a byte
+abbrev pub valued : Meanings → ℕ → Field → ℕ → Valued Value → Answer Held
+valued names next field byte (Ok v) = holding byte (field_of names field next v)
+valued names next field byte (Err e) = fault e.number
 
 -- the expression of an operand
 abbrev pub expression : OperandTree → Option Tree
@@ -52,7 +49,7 @@ expression operand = None
 
 -- what the expression of an operand gives in the field
 abbrev pub filled_by : Meanings → ℕ → FieldSlot → Option Tree → Answer Held
-filled_by names next slot (Some e) = valued names next slot (value_of names e)
+filled_by names next slot (Some e) = valued names next slot.field slot.byte (value_of names e)
 filled_by names next slot None = Ok nothing
 
 -- what an operand of the line gives in the field of the operand of the row

@@ -1,19 +1,19 @@
 //! Codes the instructions of a source.
 ghost use Rattle.std.specs.Prelude.{◌≡◌, map, option_map};
-ghost use Rattle.m51_stmt.specs.Statement.{operand_tree};
 ghost use Rattle.m51_isa.specs.Table.{length_of as row_length};
-ghost use Rattle.m51_coding.specs.Shapes.{seen, shape_in};
-ghost use Rattle.m51_coding.specs.Coding.{line, row_of, coded_as, coded_by, coded_line, coded, length_of};
+ghost use Rattle.m51_isa.specs.Spelling.{field_in, text_of};
+ghost use Rattle.m51_stmt.specs.Statement.{operand_tree};
+ghost use Rattle.m51_coding.specs.Coding.{seen, look_in, line, line_row, coded_as, coded_in, coded_line, coded};
+ghost use Rattle.m51_coding.specs.Coding.{length_of};
 
 use crate::filling::{CodingError, Held, filled, references_of};
-use crate::rows::instruction;
-use crate::shape::{Shape, shape_of};
-use crate::slots::{first_field, second_field, third_field};
-use m51_cells::Name;
+use crate::reference::Reference;
+use m51_cells::{NO_INSTRUCTION, Name};
 use m51_expr::Lookup;
-use m51_fields::{Jump, Reference};
-use m51_isa::{Code, Instr, encode, length};
-use m51_stmt::Operand;
+use m51_isa::{
+    Code, FieldSlot, Instr, Jump, Look, encode, length, row_for, spelling_of, with_numbers,
+};
+use m51_stmt::{Operand, look_of};
 
 /// The bytes of an instruction of a source, and what the linker fills in.
 ///
@@ -26,79 +26,77 @@ pub struct Coded {
     pub references: [Option<Reference>; 3],
 }
 
-const NO_SUCH_ROW: CodingError = CodingError { number: 11 };
+const NO_SUCH_ROW: CodingError = CodingError {
+    number: NO_INSTRUCTION,
+};
 
-// What an operand looks like, with this number in its field.
-fn shape_in(operand: Option<&Operand>, number: u16) -> Shape
-    ensures { result ≡ shape_in (seen operand.entry) number }
+// What an operand looks like, or that there is none.
+fn look_in(operand: Option<&Operand>) -> Look
+    ensures { result ≡ look_in (seen operand.entry) }
 {
     match operand {
-        Some(operand) => shape_of(operand, number),
-        None => Shape::Nothing,
+        Some(operand) => look_of(operand),
+        None => Look::Nothing,
     }
 }
 
-// The row of a line: its instruction with 0 in each field.
-fn row_of(
+// The row of a line, with 0 in each field.
+fn line_row(
     word: &[u8],
     jump: Jump,
     a: Option<&Operand>,
     b: Option<&Operand>,
     c: Option<&Operand>,
 ) -> Option<Instr>
-    ensures { result ≡ row_of (line word.now jump (seen a.entry) (seen b.entry) (seen c.entry)) }
+    ensures { result ≡ line_row (line word.now jump (seen a.entry) (seen b.entry) (seen c.entry)) }
 {
-    instruction(
-        word,
-        jump,
-        &shape_in(a, 0),
-        &shape_in(b, 0),
-        &shape_in(c, 0),
-    )
+    row_for(word, jump, &look_in(a), &look_in(b), &look_in(c))
 }
 
-// The bytes of an instruction, and the references in its fields.
-fn coded_as(a: Held, b: Held, c: Held, instr: Option<Instr>) -> Result<Coded, CodingError>
-    ensures { result ≡ coded_as a b c instr }
+// The fields of the operands of a row.
+fn first_field(row: &Instr) -> Option<FieldSlot>
+    ensures { result ≡ field_in (text_of row.now).first }
 {
-    match instr {
-        Some(instr) => Ok(Coded {
-            code: encode(&instr),
-            references: references_of(a, b, c),
-        }),
-        None => Err(NO_SUCH_ROW),
+    spelling_of(row).first.field()
+}
+
+fn second_field(row: &Instr) -> Option<FieldSlot>
+    ensures { result ≡ field_in (text_of row.now).second }
+{
+    spelling_of(row).second.field()
+}
+
+fn third_field(row: &Instr) -> Option<FieldSlot>
+    ensures { result ≡ field_in (text_of row.now).third }
+{
+    spelling_of(row).third.field()
+}
+
+// The bytes of a row with the numbers that the operands gave, and the references in its fields.
+fn coded_as(row: &Instr, a: Held, b: Held, c: Held) -> Coded
+    ensures { result ≡ coded_as row.now a b c }
+{
+    Coded {
+        code: encode(&with_numbers(row, a.number, b.number, c.number)),
+        references: references_of(a, b, c),
     }
 }
 
 // The operands fill the fields of the row from left to right.
 fn coded_in<L: Lookup>(
     names: &L,
-    word: &[u8],
-    jump: Jump,
+    row: &Instr,
     a: Option<&Operand>,
     b: Option<&Operand>,
     c: Option<&Operand>,
-    row: &Instr,
 ) -> Result<Coded, CodingError>
-    ensures { let l = line word.now jump (seen a.entry) (seen b.entry) (seen c.entry) in
-        result ≡ coded_by (L.meanings names.now) l (Some row.now) }
+    ensures { result ≡ coded_in (L.meanings names.now) (seen a.entry) (seen b.entry) (seen c.entry) row.now }
 {
     let next = names.here().number.wrapping_add(u16::from(length(row)));
     let first = filled(names, next, first_field(row), a)?;
     let second = filled(names, next, second_field(row), b)?;
     let third = filled(names, next, third_field(row), c)?;
-    coded_as(
-        first,
-        second,
-        third,
-        instruction(
-            word,
-            jump,
-            &shape_in(a, first.number),
-            &shape_in(b, second.number),
-            &shape_in(c, third.number),
-        ),
-    )
+    Ok(coded_as(row, first, second, third))
 }
 
 // An instruction of at most three operands.
@@ -113,18 +111,18 @@ fn coded_line<L: Lookup>(
     ensures { let l = line word.now jump (seen a.entry) (seen b.entry) (seen c.entry) in
         result ≡ coded_line (L.meanings names.now) (Some l) }
 {
-    match row_of(word, jump, a, b, c) {
-        Some(row) => coded_in(names, word, jump, a, b, c, &row),
+    match line_row(word, jump, a, b, c) {
+        Some(row) => coded_in(names, &row, a, b, c),
         None => Err(NO_SUCH_ROW),
     }
 }
 
-/// The bytes and references of an instruction at the place of the statement. `jump` is looked at for `JMP` and `CALL` with a
-/// code address alone, which stand for the jump and the call of that form; a short `CALL` stands for `ACALL`. It takes no
-/// memory.
+/// The bytes and references of an instruction at the place of the statement. `jump` is looked at for `JMP` and `CALL`
+/// with a code address alone, which stand for the jump and the call of that form; a short `CALL` stands for `ACALL`.
+/// It takes no memory.
 ///
-/// Errors: E11 where the instruction table has no row of this mnemonic with such operands; else the fault of the leftmost
-/// operand that has one: E7 to E10 where it has no value, E14 where its value is out of range or class.
+/// Errors: E11 where the instruction table has no row of this mnemonic with such operands; else the fault of the
+/// leftmost operand that has one: E7 to E10 where it has no value, E14 where its value is out of range or class.
 ///
 /// Source: family manual.
 #[tactic(auto, unfolding(crate::specs::Coding::coded))]
@@ -156,8 +154,8 @@ fn length_in(row: Option<Instr>) -> Option<u8>
     }
 }
 
-/// How many bytes an instruction of a source has, 1 to 3, whatever the values of its operands; none where the instruction
-/// table has no row of this mnemonic with such operands. `jump` as for [`code`].
+/// How many bytes an instruction of a source has, 1 to 3, whatever the values of its operands; none where the
+/// instruction table has no row of this mnemonic with such operands. `jump` as for [`code`].
 ///
 /// Source: family manual.
 #[tactic(auto, unfolding(crate::specs::Coding::length_of))]
@@ -166,10 +164,10 @@ pub fn length_of(mnemonic: &Name, operands: &[Operand], jump: Jump) -> Option<u8
 {
     let word = mnemonic.bytes();
     match operands {
-        [] => length_in(row_of(word, jump, None, None, None)),
-        [a] => length_in(row_of(word, jump, Some(a), None, None)),
-        [a, b] => length_in(row_of(word, jump, Some(a), Some(b), None)),
-        [a, b, c] => length_in(row_of(word, jump, Some(a), Some(b), Some(c))),
+        [] => length_in(line_row(word, jump, None, None, None)),
+        [a] => length_in(line_row(word, jump, Some(a), None, None)),
+        [a, b] => length_in(line_row(word, jump, Some(a), Some(b), None)),
+        [a, b, c] => length_in(line_row(word, jump, Some(a), Some(b), Some(c))),
         _ => None,
     }
 }

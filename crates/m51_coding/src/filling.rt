@@ -2,16 +2,19 @@
 ghost use Rattle.std.specs.Prelude.{◌≡◌};
 ghost use Rattle.m51_expr.specs.Tree.{tree_of};
 ghost use Rattle.m51_stmt.specs.Statement.{operand_tree};
-ghost use Rattle.m51_coding.specs.Shapes.{seen};
-ghost use Rattle.m51_coding.specs.Filling.{nothing, holding, valued, filled_by, filled, expression, beginning_at, reference_at, references_of};
+ghost use Rattle.m51_coding.specs.Coding.{seen};
+ghost use Rattle.m51_coding.specs.Filling.{nothing, holding, valued, filled_by, filled, expression, beginning_at};
+ghost use Rattle.m51_coding.specs.Filling.{reference_at, references_of};
 
-use crate::slots::FieldSlot;
+use crate::field_values::field_value;
+use crate::reference::{FieldValue, Reference};
+use m51_cells::OUT_OF_RANGE;
 use m51_expr::{Expr, ExprError, Lookup, Value, value_of};
-use m51_fields::{Field, Reference, field};
+use m51_isa::FieldSlot;
 use m51_stmt::Operand;
 
-/// The fault E`number` of an instruction: 11 where the instruction table has no such row, 7 to 10 for an operand that has
-/// no value, as [`m51_expr::ExprError`] has them, 14 for a value out of range or class.
+/// The fault E`number` of an instruction: 11 where the instruction table has no such row, 7 to 10 for an operand that
+/// has no value, as [`m51_expr::ExprError`] has them, 14 for a value out of range or class.
 ///
 /// Source: own choice ("Faults of instructions").
 #[derive(Clone, Copy, Debug, PartialEq, Eq)]
@@ -34,22 +37,27 @@ const NOTHING: Held = Held {
     reference: None,
 };
 
+// The value is out of the range or the class of its field.
+const OUT_OF_FIELD: CodingError = CodingError {
+    number: OUT_OF_RANGE,
+};
+
 // What a field holds.
-fn holding(byte: u8, held: Option<Field>) -> Result<Held, CodingError>
+fn holding(byte: u8, held: Option<FieldValue>) -> Result<Held, CodingError>
     ensures { result ≡ holding byte held }
 {
     match held {
-        Some(Field::Number(number)) => Ok(Held {
+        Some(FieldValue::Number(number)) => Ok(Held {
             number,
             byte,
             reference: None,
         }),
-        Some(Field::Linked(reference)) => Ok(Held {
+        Some(FieldValue::Linked(reference)) => Ok(Held {
             number: 0,
             byte,
             reference: Some(reference),
         }),
-        None => Err(CodingError { number: 14 }),
+        None => Err(OUT_OF_FIELD),
     }
 }
 
@@ -60,10 +68,10 @@ fn valued<L: Lookup>(
     slot: FieldSlot,
     value: Result<Value, ExprError>,
 ) -> Result<Held, CodingError>
-    ensures { result ≡ valued (L.meanings names.now) next slot value }
+    ensures { result ≡ valued (L.meanings names.now) next slot.field slot.byte value }
 {
     match value {
-        Ok(value) => holding(slot.byte, field(names, slot.place, next, value)),
+        Ok(value) => holding(slot.byte, field_value(names, slot.field, next, value)),
         Err(error) => Err(CodingError {
             number: error.number,
         }),
@@ -98,7 +106,8 @@ fn of_operand<L: Lookup>(
     }
 }
 
-/// What an operand of the line gives in the field of the operand of the row. `next` is the address behind the instruction.
+/// What an operand of the line gives in the field of the operand of the row. `next` is the address after the
+/// instruction.
 ///
 /// Errors: E7 to E10 where the operand has no value, E14 where its value is out of range or class.
 pub(crate) fn filled<L: Lookup>(

@@ -1,22 +1,27 @@
-//! The bytes and references of the instructions of a source.
+//! The bytes and references of a statement: what a value gives in a field, the form of a generic jump, and the code
+//! of an instruction.
 #![tactic(auto)]
 
-mod arithmetic;
-mod branches;
+mod bases;
+mod choosing;
 mod coding;
+mod field_laws;
+#[cfg(test)]
+mod field_tests;
+mod field_values;
 mod filling;
-mod jumps;
 mod laws;
-mod logic;
-mod moves;
-mod rows;
-mod shape;
-mod slots;
+mod reference;
+mod taking;
 #[cfg(test)]
 mod tests;
 
+pub use choosing::jump_form;
 pub use coding::{Coded, code, length_of};
-pub use filling::CodingError;
-pub use laws::{
-    coded_stands_for_line, found_rows_are_spelled, numbers_choose_no_row, rows_are_found,
+pub use field_laws::{
+    blocks_lead_to_targets, chosen_jumps_reach, references_have_bits, relatives_lead_to_targets,
 };
+pub use field_values::field_value;
+pub use filling::CodingError;
+pub use laws::{coded_stands_for_line, statements_have_rows};
+pub use reference::{FieldValue, Reference};

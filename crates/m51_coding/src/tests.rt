@@ -5,7 +5,7 @@ ghost use Rattle.m51_expr.specs.declared.value.Part.TheVariants.{Whole};
 use crate::{Coded, code, length_of};
 use m51_cells::{Base, Kind, Name};
 use m51_expr::{Lookup, Part, Value};
-use m51_fields::Jump;
+use m51_isa::Jump;
 use m51_module::Form;
 use m51_stmt::{Body, Operand, StmtError, read_line};
 use std::alloc::Global;
@@ -68,7 +68,7 @@ impl Lookup for Absolute {
     }
 }
 
-// The answer for a line, or the number of its fault, which is 0 for want of memory.
+// The answer for a line, or the number of its fault, which is 0 for out of memory.
 fn answer(alloc: Global, line: &str, jump: Jump) -> Result<Coded, u8> {
     let stmt = match read_line(alloc, line) {
         Ok(stmt) => stmt,

@@ -1,13 +1,30 @@
 -- A text is cut at a sign where it was joined by it.
-use Rattle.std.proofs.Common.{◌≡◌, ℕ, ◌+◌, ◌<◌, Bool, true, false, not, cond, nat_lt, List, [], ◌∷◌, ◌++◌, length, take, drop, Some, None, refl, sym, ap, ◌∙◌, arith, length-append}
+use Rattle.std.proofs.Common.{◌≡◌, ℕ, ◌+◌, ◌<◌, ◌≤◌, Bool, true, false, not, cond, nat_lt, List, [], ◌∷◌, ◌++◌, length, take, drop, Some, None, refl, sym, subst, ap, ◌∙◌, arith, length-append}
 use Rattle.std.specs.List.{list_all, position_or_len, before_first, after_first, slice_split, onto_first, join_with_byte}
 use Rattle.std.proofs.lemmas.Option.{cond_some}
-use Rattle.std.proofs.lemmas.List.Splits.{join_with_byte-slice_split, length-slice_split}
+use Rattle.std.proofs.lemmas.List.Splits.{join_with_byte-slice_split, length-slice_split, slice_split_first}
 use Rattle.std.proofs.Math.Seq.{take-append_seam, drop-append-add}
-use Rattle.std.proofs.lemmas.Bool.{eq-eqb}
+use Rattle.std.proofs.lemmas.Bool.{eq-eqb, and_parts, lt-ltb, ltb-true}
+use Rattle.m51_cells.proofs.Passing.{run_len, stops_at}
 use Rattle.m51_control.specs.Parts.{is_sign, cut_at}
-use Rattle.m51_control.proofs.Passing.{both, less, passes_less, run_len, stops_at}
-use Rattle.m51_control.proofs.Cuts.{cut_here}
+
+whole_step : (p : ℕ → Bool) (x : ℕ) (xs : List ℕ) (b : Bool) → length (x ∷ xs) ≤ cond (not b) (1 + position_or_len p xs) 0
+    → (length xs ≤ position_or_len p xs → slice_split p xs ≡ xs ∷ [])
+    → cond b ([] ∷ slice_split p xs) (onto_first x (slice_split p xs)) ≡ (x ∷ xs) ∷ []
+whole_step p x xs true h more = absurd (omega (arith, h))
+whole_step p x xs false h more = ap (onto_first x) (more (omega (arith, h)))
+
+-- where the sign is not there, the text is the one part
+pub whole : (p : ℕ → Bool) (text : List ℕ) → length text ≤ position_or_len p text → slice_split p text ≡ text ∷ []
+whole p [] h = refl
+whole p (x ∷ xs) h = whole_step p x xs (p x) h (whole p xs)
+
+-- what the first sign cuts off
+pub cut_here : (p : ℕ → Bool) (at : ℕ) (text after : List ℕ) → at ≡ position_or_len p text → at < length text → after ≡ drop (at + 1) text → slice_split p text ≡ take at text ∷ slice_split p after
+cut_here p at text after is inside rest =
+    slice_split_first p text 0 (subst (λ n. n < length text) is inside)
+    ∙ ap (λ n. take n text ∷ slice_split p (drop (n + 1) text)) (sym is)
+    ∙ ap (λ l. take at text ∷ slice_split p l) (sym rest)
 
 -- the sign is not in the text
 abbrev pub Lacks : ℕ → List ℕ → Type 0
@@ -33,13 +50,13 @@ cut_sound sign text parts h =
     let p = is_sign sign in
     let found : (nat_lt (position_or_len p text) (length text) ≡ true) × ((before_first p text, after_first p text) ≡ parts) = cond_some (nat_lt (position_or_len p text) (length text)) (before_first p text, after_first p text) parts h in
     joined sign text (before_first p text) (after_first p text)
-    (cut_here p (position_or_len p text) text (after_first p text) refl (less (position_or_len p text) (length text) found.0) refl)
+    (cut_here p (position_or_len p text) text (after_first p text) refl (ltb-true (position_or_len p text) (length text) found.0) refl)
     ∙ ap (λ (c : List ℕ × List ℕ). c.0 ++ sign ∷ c.1) found.1
 
 cut_where : (sign at : ℕ) (text a b : List ℕ) → position_or_len (is_sign sign) text ≡ at → at < length text → take at text ≡ a → drop (at + 1) text ≡ b → cut_at sign text ≡ Some (a, b)
 cut_where sign at text a b place inside front back =
     ap (λ n. cond (nat_lt n (length text)) (Some (take n text, drop (n + 1) text)) None) place
-    ∙ ap (λ t. cond t (Some (take at text, drop (at + 1) text)) None) (passes_less at (length text) inside)
+    ∙ ap (λ t. cond t (Some (take at text, drop (at + 1) text)) None) (lt-ltb at (length text) inside)
     ∙ ap (λ l. Some (l, drop (at + 1) text)) front
     ∙ ap (λ l. Some (a, l)) back
 
@@ -63,12 +80,12 @@ split_step p x a rest parts false h is = ap (onto_first x) is
 pub split_complete : (sign : ℕ) (a b : List ℕ) → Lacks sign a → slice_split (is_sign sign) (a ++ sign ∷ b) ≡ a ∷ slice_split (is_sign sign) b
 split_complete sign [] b lacks = ap (λ t. cond t ([] ∷ slice_split (is_sign sign) b) (onto_first sign (slice_split (is_sign sign) b))) (eq-eqb sign sign refl)
 split_complete sign (x ∷ a) b lacks =
-    let parts : (not (is_sign sign x) ≡ true) × (Lacks sign a) = both (not (is_sign sign x)) (list_all (λ c. not (is_sign sign c)) a) lacks in
+    let parts : (not (is_sign sign x) ≡ true) × (Lacks sign a) = and_parts (not (is_sign sign x)) (list_all (λ c. not (is_sign sign c)) a) lacks in
     split_step (is_sign sign) x a (a ++ sign ∷ b) (slice_split (is_sign sign) b) (is_sign sign x) parts.0 (split_complete sign a b parts.1)
 
 -- a text that lacks the sign is its one part
 pub split_none : (sign : ℕ) (a : List ℕ) → Lacks sign a → slice_split (is_sign sign) a ≡ a ∷ []
 split_none sign [] lacks = refl
 split_none sign (x ∷ a) lacks =
-    let parts : (not (is_sign sign x) ≡ true) × (Lacks sign a) = both (not (is_sign sign x)) (list_all (λ c. not (is_sign sign c)) a) lacks in
+    let parts : (not (is_sign sign x) ≡ true) × (Lacks sign a) = and_parts (not (is_sign sign x)) (list_all (λ c. not (is_sign sign c)) a) lacks in
     split_step (is_sign sign) x a a [] (is_sign sign x) parts.0 (split_none sign a parts.1)

@@ -5,8 +5,10 @@ use Rattle.std.specs.List.{list_all, list_any}
 use Rattle.std.specs.Str.{bytes_eq}
 use Rattle.std.proofs.lemmas.Slice.Eq.{bytes_eq-Decides}
 use Rattle.std.proofs.lemmas.List.Folds.{list_any-append}
-use Rattle.std.proofs.lemmas.Bool.{eq-eqb}
+use Rattle.std.proofs.lemmas.Bool.{eq-eqb, and_parts, not-true, or_right}
 use Rattle.std.proofs.lemmas.Bool.Decides.{nat_tests}
+use Rattle.std.proofs.lemmas.Option.{same_Some}
+use Rattle.m51_cells.proofs.Passing.{goes_on, pass_append, weaker}
 use Rattle.m51_control.specs.declared.control.Control.{Control}
 use Rattle.m51_control.specs.declared.control.Control.TheVariants.{Add, Cut, NoOverlay, Order}
 use Rattle.m51_control.specs.declared.control.Class.{Class}
@@ -14,13 +16,12 @@ use Rattle.m51_control.specs.declared.naming.Role.TheVariants as role
 use Rattle.m51_control.specs.Parts.{opening, closing, comma, hyphen, greater, tilde, is_sign, cut_at, word_in}
 use Rattle.m51_control.specs.Naming.{named, names_in}
 use Rattle.m51_control.specs.Reserve.{reserve}
-use Rattle.m51_control.specs.Grammar.{add, cut, overlay, no_overlay, class_of, ordered_of, order, by_word}
+use Rattle.m51_control.specs.Grammar.{add, cut, overlay, no_overlay, class_named, ordered_of, order, by_word}
 use Rattle.m51_control.specs.Written.{WritesName, WritesNames, WritesWord, Says, Adds, Cuts, Keeps, Reserves, Orders}
-use Rattle.m51_control.proofs.Passing.{both, is_false, goes_on, weaker, pass_append}
 use Rattle.m51_control.proofs.CutLaws.{cut_sound, cut_complete}
 use Rattle.m51_control.proofs.PartLaws.{is_field_byte, field_lacks}
 use Rattle.m51_control.proofs.NameLaws.{name_sound, name_complete, name_field, names_sound, names_complete, names_bytes, is_list_byte, word_sound, word_complete, word_field}
-use Rattle.m51_control.proofs.ReserveLaws.{same_value, WritesBounds, WritesReserve, reserve_sound, reserve_complete}
+use Rattle.m51_control.proofs.ReserveLaws.{WritesBounds, WritesReserve, reserve_sound, reserve_complete}
 
 -- one of two ways to a value
 either : {A P : Type 0} (b : Bool) (x y : Option A) (z : A) → cond b x y ≡ Some z → (b ≡ true → x ≡ Some z → P) → (b ≡ false → y ≡ Some z → P) → P
@@ -33,7 +34,7 @@ add_says word inside control is h =
     let from = goes_on _ (named role.Unit cut.value.0) control cut.goes in
     let to = goes_on _ (names_in role.Unit cut.value.1) control from.goes in
     Adds is (name_sound role.Unit cut.value.0 from.value from.found) (names_sound role.Unit cut.value.1 to.value to.found)
-    (cut_sound greater inside cut.value cut.found) (sym (same_value (Add from.value to.value) control to.goes))
+    (cut_sound greater inside cut.value cut.found) (sym (same_Some (Add from.value to.value) control to.goes))
 
 cut_says : (word inside : List ℕ) (control : Control) → word ≡ codes "OVERLAY" → cut inside ≡ Some control → Says word inside control
 cut_says word inside control is h =
@@ -41,7 +42,7 @@ cut_says word inside control is h =
     let from = goes_on _ (named role.Unit cut.value.0) control cut.goes in
     let to = goes_on _ (names_in role.Unit cut.value.1) control from.goes in
     Cuts is (name_sound role.Unit cut.value.0 from.value from.found) (names_sound role.Unit cut.value.1 to.value to.found)
-    (cut_sound tilde inside cut.value cut.found) (sym (same_value (Cut from.value to.value) control to.goes))
+    (cut_sound tilde inside cut.value cut.found) (sym (same_Some (Cut from.value to.value) control to.goes))
 
 overlay_says : (word inside : List ℕ) (control : Control) → word ≡ codes "OVERLAY" → overlay inside ≡ Some control → Says word inside control
 overlay_says word inside control is h = either (list_any (is_sign greater) inside) (add inside) (cut inside) control h (λ _ found. add_says word inside control is found) (λ _ found. cut_says word inside control is found)
@@ -49,7 +50,7 @@ overlay_says word inside control is h = either (list_any (is_sign greater) insid
 keep_says : (word inside : List ℕ) (control : Control) → word ≡ codes "NOOVERLAY" → no_overlay inside ≡ Some control → Says word inside control
 keep_says word inside control is h =
     let unit = goes_on _ (named role.Unit inside) control h in
-    Keeps is (name_sound role.Unit inside unit.value unit.found) (sym (same_value (NoOverlay unit.value) control unit.goes))
+    Keeps is (name_sound role.Unit inside unit.value unit.found) (sym (same_Some (NoOverlay unit.value) control unit.goes))
 
 reserve_says : (word inside : List ℕ) (control : Control) → word ≡ codes "RESERVE" → reserve inside ≡ Some control → Says word inside control
 reserve_says word inside control is h =
@@ -61,14 +62,14 @@ pub record WritesOrdered (inside : List ℕ) (ordered : Class × List ℕ) : Typ
   pub text : List ℕ
   pub name : List ℕ
   pub is_word : WritesWord text name
-  pub is_class : class_of name ≡ Some ordered.0
+  pub is_class : class_named name ≡ Some ordered.0
   pub is : inside ≡ text ++ comma ∷ ordered.1
 
 ordered_sound : (inside : List ℕ) (ordered : Class × List ℕ) → ordered_of inside ≡ Some ordered → WritesOrdered inside ordered
 ordered_sound inside ordered h =
     let cut = goes_on _ (cut_at comma inside) ordered h in
     let word = goes_on _ (word_in cut.value.0) ordered cut.goes in
-    let class = goes_on _ (class_of word.value) ordered word.goes in
+    let class = goes_on _ (class_named word.value) ordered word.goes in
     let whole : WritesOrdered inside (class.value, cut.value.1) = record {
       text = cut.value.0;
       name = word.value;
@@ -76,7 +77,7 @@ ordered_sound inside ordered h =
       is_class = class.found;
       is = cut_sound comma inside cut.value cut.found;
     } in
-    subst (λ (o : Class × List ℕ). WritesOrdered inside o) (same_value (class.value, cut.value.1) ordered class.goes) whole
+    subst (λ (o : Class × List ℕ). WritesOrdered inside o) (same_Some (class.value, cut.value.1) ordered class.goes) whole
 
 order_says : (word inside : List ℕ) (control : Control) → word ≡ codes "ORDER" → order inside ≡ Some control → Says word inside control
 order_says word inside control is h =
@@ -84,29 +85,22 @@ order_says word inside control is h =
     let segments = goes_on _ (names_in role.Segment ordered.value.1) control ordered.goes in
     let w = ordered_sound inside ordered.value ordered.found in
     Orders is w.is_word w.is_class (names_sound role.Segment ordered.value.1 segments.value segments.found) w.is
-    (sym (same_value (Order ordered.value.0 segments.value) control segments.goes))
-
-same_word : (word other : List ℕ) → bytes_eq word other ≡ true → word ≡ other
-same_word word other h = (bytes_eq-Decides word other).0 h
+    (sym (same_Some (Order ordered.value.0 segments.value) control segments.goes))
 
 pub says_sound : (word inside : List ℕ) (control : Control) → by_word word inside ≡ Some control → Says word inside control
 unfolding by_word
 says_sound word inside control h =
-    either (bytes_eq word (codes "OVERLAY")) (overlay inside) _ control h (λ is found. overlay_says word inside control (same_word word (codes "OVERLAY") is) found)
-    λ _ h2. either (bytes_eq word (codes "NOOVERLAY")) (no_overlay inside) _ control h2 (λ is found. keep_says word inside control (same_word word (codes "NOOVERLAY") is) found)
-    λ _ h3. either (bytes_eq word (codes "RESERVE")) (reserve inside) _ control h3 (λ is found. reserve_says word inside control (same_word word (codes "RESERVE") is) found)
-    λ _ h4. either (bytes_eq word (codes "ORDER")) (order inside) None control h4 (λ is found. order_says word inside control (same_word word (codes "ORDER") is) found)
+    either (bytes_eq word (codes "OVERLAY")) (overlay inside) _ control h (λ is found. overlay_says word inside control ((bytes_eq-Decides word (codes "OVERLAY")).0 is) found)
+    λ _ h2. either (bytes_eq word (codes "NOOVERLAY")) (no_overlay inside) _ control h2 (λ is found. keep_says word inside control ((bytes_eq-Decides word (codes "NOOVERLAY")).0 is) found)
+    λ _ h3. either (bytes_eq word (codes "RESERVE")) (reserve inside) _ control h3 (λ is found. reserve_says word inside control ((bytes_eq-Decides word (codes "RESERVE")).0 is) found)
+    λ _ h4. either (bytes_eq word (codes "ORDER")) (order inside) None control h4 (λ is found. order_says word inside control ((bytes_eq-Decides word (codes "ORDER")).0 is) found)
     λ _ h5. absurd (cc)
 
 none_any : (p : ℕ → Bool) (xs : List ℕ) → list_all (λ b. not (p b)) xs ≡ true → list_any p xs ≡ false
 none_any p [] h = refl
 none_any p (x ∷ xs) h =
-    let parts : (not (p x) ≡ true) × (list_all (λ b. not (p b)) xs ≡ true) = both (not (p x)) (list_all (λ b. not (p b)) xs) h in
-    ap (λ t. t || list_any p xs) (is_false (p x) parts.0) ∙ none_any p xs parts.1
-
-or_right : (x y : Bool) → y ≡ true → (x || y) ≡ true
-or_right true y h = refl
-or_right false y h = h
+    let parts : (not (p x) ≡ true) × (list_all (λ b. not (p b)) xs ≡ true) = and_parts (not (p x)) (list_all (λ b. not (p b)) xs) h in
+    ap (λ t. t || list_any p xs) (not-true (p x) parts.0) ∙ none_any p xs parts.1
 
 has_sign : (sign : ℕ) (a b : List ℕ) → list_any (is_sign sign) (a ++ sign ∷ b) ≡ true
 has_sign sign a b =
@@ -144,11 +138,11 @@ overlay_cuts left right from to u us =
     (weaker is_list_byte (λ b. not (is_sign greater b)) not_greater right (names_bytes role.Unit right to us))) in
     ap (λ t. cond t (add inside) (cut inside)) none ∙ calls_again Cut tilde left right from to refl u us
 
-order_again : (text list name : List ℕ) (class : Class) (segments : List (List ℕ)) → WritesWord text name → class_of name ≡ Some class → WritesNames role.Segment list segments → order (text ++ comma ∷ list) ≡ Some (Order class segments)
+order_again : (text list name : List ℕ) (class : Class) (segments : List (List ℕ)) → WritesWord text name → class_named name ≡ Some class → WritesNames role.Segment list segments → order (text ++ comma ∷ list) ≡ Some (Order class segments)
 order_again text list name class segments w is us =
-    ap (λ o. option_and_then (λ (ordered : Class × List ℕ). option_and_then (λ s. Some (Order ordered.0 s)) (names_in role.Segment ordered.1)) (option_and_then (λ (cut : List ℕ × List ℕ). option_and_then (λ word. option_and_then (λ c. Some (c, cut.1)) (class_of word)) (word_in cut.0)) o))
+    ap (λ o. option_and_then (λ (ordered : Class × List ℕ). option_and_then (λ s. Some (Order ordered.0 s)) (names_in role.Segment ordered.1)) (option_and_then (λ (cut : List ℕ × List ℕ). option_and_then (λ word. option_and_then (λ c. Some (c, cut.1)) (class_named word)) (word_in cut.0)) o))
     (cut_complete comma text list (field_lacks comma refl text (word_field text name w)))
-    ∙ ap (λ o. option_and_then (λ (ordered : Class × List ℕ). option_and_then (λ s. Some (Order ordered.0 s)) (names_in role.Segment ordered.1)) (option_and_then (λ word. option_and_then (λ c. Some (c, list)) (class_of word)) o)) (word_complete text name w)
+    ∙ ap (λ o. option_and_then (λ (ordered : Class × List ℕ). option_and_then (λ s. Some (Order ordered.0 s)) (names_in role.Segment ordered.1)) (option_and_then (λ word. option_and_then (λ c. Some (c, list)) (class_named word)) o)) (word_complete text name w)
     ∙ ap (λ o. option_and_then (λ (ordered : Class × List ℕ). option_and_then (λ s. Some (Order ordered.0 s)) (names_in role.Segment ordered.1)) (option_and_then (λ c. Some (c, list)) o)) is
     ∙ ap (λ o. option_and_then (λ s. Some (Order class s)) o) (names_complete role.Segment list segments us)
 

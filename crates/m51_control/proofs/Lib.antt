@@ -1,7 +1,5 @@
-pub mod Cuts
 pub mod Numbered
 pub mod Runs
-pub mod Passing
 pub mod CutLaws
 pub mod PartLaws
 pub mod NameLaws

@@ -1,18 +1,20 @@
 -- Names are read where they are written.
 use Rattle.std.proofs.Common.{◌≡◌, ℕ, ◌<◌, Bool, true, false, not, ◌&&◌, ◌||◌, ◌==◌, cond, nat_lt, nat_le, List, [], ◌∷◌, length, map, Option, Some, None, refl, sym, ap, ◌∙◌, subst, arith}
-use Rattle.std.specs.Char.{is_ascii_digit, digit_value, to_ascii_uppercase}
+use Rattle.std.specs.Char.{is_ascii_digit, digit_value as value_of, to_ascii_uppercase}
 use Rattle.std.specs.List.{list_all, slice_split, join_with_byte}
 use Rattle.std.specs.Option.{option_and_then}
 use Rattle.std.proofs.lemmas.Option.{cond_some}
 use Rattle.std.proofs.lemmas.List.Splits.{join_with_byte-slice_split, length-slice_split}
 use Rattle.std.proofs.lemmas.Bool.Decides.{nat_tests}
+use Rattle.std.proofs.lemmas.Bool.{and_from, and_parts}
+use Rattle.m51_cells.specs.Hex.{digit_value}
 use Rattle.m51_cells.specs.Name.{is_name_byte, is_name, name_of}
+use Rattle.m51_cells.proofs.Passing.{goes_on, guarded, pass_append, weaker}
 use Rattle.m51_control.specs.declared.naming.Role.{Role}
 use Rattle.m51_control.specs.declared.naming.Role.TheVariants as role
 use Rattle.m51_control.specs.Parts.{at_sign, comma, is_sign, part_of, word_in}
-use Rattle.m51_control.specs.Naming.{hex_value, hex4_value, title_of, name_as, named, all_named, names_in}
+use Rattle.m51_control.specs.Naming.{hex4_value, title_of, name_as, named, all_named, names_in}
 use Rattle.m51_control.specs.Written.{WritesName, AreNames, WritesNames, WritesWord}
-use Rattle.m51_control.proofs.Passing.{both, pass_both, guarded, goes_on, weaker, pass_append}
 use Rattle.m51_control.proofs.CutLaws.{split_complete, split_none}
 use Rattle.m51_control.proofs.PartLaws.{is_part_byte, is_field_byte, IsPart, part_sound, part_complete, field_bytes, field_lacks}
 
@@ -24,23 +26,23 @@ pub name_part : (part name : List ℕ) → name_of part ≡ Some name → IsPart
 name_part [] name h = absurd (cc)
 name_part (b ∷ bs) name h =
     let tests : (is_name (b ∷ bs) ≡ true) × (map to_ascii_uppercase (b ∷ bs) ≡ name) = cond_some (is_name (b ∷ bs)) (map to_ascii_uppercase (b ∷ bs)) name h in
-    let bytes : list_all is_name_byte (b ∷ bs) ≡ true = (both (not (is_ascii_digit b) && nat_le (length (b ∷ bs)) 31) (list_all is_name_byte (b ∷ bs)) tests.0).1 in
+    let bytes : list_all is_name_byte (b ∷ bs) ≡ true = (and_parts (not (is_ascii_digit b) && nat_le (length (b ∷ bs)) 31) (list_all is_name_byte (b ∷ bs)) tests.0).1 in
     record { some = omega arith; each = weaker is_name_byte is_part_byte name_byte (b ∷ bs) bytes }
 
-hex_byte : (b value : ℕ) → hex_value b ≡ Some value → is_part_byte b ≡ true
+hex_byte : (b value : ℕ) → digit_value b ≡ Some value → is_part_byte b ≡ true
 hex_byte b value h =
-    let test : nat_lt (digit_value b) 16 ≡ true = (guarded (nat_lt (digit_value b) 16) (Some (digit_value b)) value h).0 in
+    let test : nat_lt (value_of b) 16 ≡ true = (guarded (nat_lt (value_of b) 16) (Some (value_of b)) value h).0 in
     grind (arith, nat_tests, test)
 
 four_pass : (p : ℕ → Bool) (a b c d : ℕ) → p a ≡ true → p b ≡ true → p c ≡ true → p d ≡ true → list_all p (a ∷ b ∷ c ∷ d ∷ []) ≡ true
-four_pass p a b c d h i j k = pass_both (p a) _ h (pass_both (p b) _ i (pass_both (p c) _ j (pass_both (p d) true k refl)))
+four_pass p a b c d h i j k = and_from (p a) _ h (and_from (p b) _ i (and_from (p c) _ j (and_from (p d) true k refl)))
 
 hex4_bytes : (a b c d value : ℕ) → hex4_value a b c d ≡ Some value → list_all is_part_byte (a ∷ b ∷ c ∷ d ∷ []) ≡ true
 hex4_bytes a b c d value h =
-    let one = goes_on _ (hex_value a) value h in
-    let two = goes_on _ (hex_value b) value one.goes in
-    let three = goes_on _ (hex_value c) value two.goes in
-    let four = goes_on _ (hex_value d) value three.goes in
+    let one = goes_on _ (digit_value a) value h in
+    let two = goes_on _ (digit_value b) value one.goes in
+    let three = goes_on _ (digit_value c) value two.goes in
+    let four = goes_on _ (digit_value d) value three.goes in
     four_pass is_part_byte a b c d (hex_byte a one.value one.found) (hex_byte b two.value two.found) (hex_byte c three.value three.found) (hex_byte d four.value four.found)
 
 at_byte : (sign : ℕ) → (sign == at_sign) ≡ true → is_part_byte sign ≡ true
@@ -55,7 +57,7 @@ title_part (s ∷ a ∷ b ∷ c ∷ []) name h = absurd (cc)
 title_part (s ∷ a ∷ b ∷ c ∷ d ∷ []) name h =
     let tests = guarded (s == at_sign) _ name h in
     let digits = goes_on _ (hex4_value a b c d) name tests.1 in
-    record { some = omega arith; each = pass_both (is_part_byte s) (list_all is_part_byte (a ∷ b ∷ c ∷ d ∷ [])) (at_byte s tests.0) (hex4_bytes a b c d digits.value digits.found) }
+    record { some = omega arith; each = and_from (is_part_byte s) (list_all is_part_byte (a ∷ b ∷ c ∷ d ∷ [])) (at_byte s tests.0) (hex4_bytes a b c d digits.value digits.found) }
 title_part (s ∷ a ∷ b ∷ c ∷ d ∷ e ∷ more) name h = absurd (cc)
 
 unit_step : (s : ℕ) (digits name : List ℕ) (t : Bool) → cond t (title_of (s ∷ digits)) (name_of (s ∷ digits)) ≡ Some name → IsPart (s ∷ digits)

@@ -23,8 +23,8 @@ pub record Goes (controls : List (ℕ × Control)) (number : ℕ) (left all : Li
   pub rest : number + length left ≡ length all
   pub each : All (λ entry. IsAllowed entry.1) controls
 
-two_fronts : (front : List (ℕ × Control)) (number : ℕ) (control : Control) (behind : Read)
-    → before front (with_line number (Some control) behind) ≡ before (front ++ (number, control) ∷ []) behind
+two_fronts : (front : List (ℕ × Control)) (number : ℕ) (control : Control) (after : Read)
+    → before front (with_line number (Some control) after) ≡ before (front ++ (number, control) ∷ []) after
 two_fronts front number control (Ok controls) = ap Ok (sym (append_assoc front ((number, control) ∷ []) controls))
 two_fronts front number control (Err error) = refl
 

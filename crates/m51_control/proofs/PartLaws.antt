@@ -5,10 +5,11 @@ use Rattle.std.proofs.lemmas.Option.{cond_some}
 use Rattle.std.proofs.Math.Seq.{take-append_seam, drop-append_seam}
 use Rattle.std.proofs.lemmas.List.{take-append-drop}
 use Rattle.std.proofs.lemmas.Bool.Decides.{nat_tests}
+use Rattle.std.proofs.lemmas.Bool.{and_parts, or_right}
 use Rattle.m51_cells.specs.Name.{is_name_byte}
+use Rattle.m51_cells.proofs.Passing.{front_passes, pass_append, run_len, stops_at, weaker}
 use Rattle.m51_control.specs.Parts.{at_sign, is_blank, is_sign, before_blanks, part_of}
 use Rattle.m51_control.specs.Written.{AreBlanks, Surrounds}
-use Rattle.m51_control.proofs.Passing.{both, weaker, pass_append, run_len, stops_at, front_passes}
 use Rattle.m51_control.proofs.CutLaws.{Lacks}
 
 -- a byte of a word, name, title or number
@@ -39,13 +40,13 @@ part_sound text part h =
     let found : (list_all is_blank (drop m rest) ≡ true) × (take m rest ≡ part) = cond_some (list_all is_blank (drop m rest)) (take m rest) part h in
     record {
       before = take n text;
-      behind = drop m rest;
+      after = drop m rest;
       blank_before = front_passes is_blank text;
-      blank_behind = found.0;
+      blank_after = found.0;
       is = sym (take-append-drop n text) ∙ ap (λ l. take n text ++ l) (sym (take-append-drop m rest) ∙ ap (λ l. l ++ drop m rest) found.1);
     }
 
--- a part that comes first, with blanks behind it
+-- a part that comes first, with blanks after it
 pub before_sound : (text part : List ℕ) → before_blanks text ≡ Some part → (blanks : List ℕ) × AreBlanks blanks × (text ≡ part ++ blanks)
 before_sound text part h =
     let m = position_or_len is_blank text in
@@ -54,7 +55,7 @@ before_sound text part h =
 
 stops_blank : (blanks : List ℕ) → AreBlanks blanks → prefix_len (λ b. not (is_blank b)) blanks ≡ 0
 stops_blank [] all = refl
-stops_blank (b ∷ blanks) all = stops_at (λ b. not (is_blank b)) b blanks (ap not (both (is_blank b) (list_all is_blank blanks) all).0)
+stops_blank (b ∷ blanks) all = stops_at (λ b. not (is_blank b)) b blanks (ap not (and_parts (is_blank b) (list_all is_blank blanks) all).0)
 
 pub before_complete : (part blanks : List ℕ) → list_all is_part_byte part ≡ true → AreBlanks blanks → before_blanks (part ++ blanks) ≡ Some part
 before_complete part blanks each blank =
@@ -66,33 +67,29 @@ before_complete part blanks each blank =
 
 stops_part : (part rest : List ℕ) → IsPart part → prefix_len is_blank (part ++ rest) ≡ 0
 stops_part [] rest h = absurd (omega (arith, h.some))
-stops_part (b ∷ part) rest h = stops_at is_blank b (part ++ rest) (no_blank b (both (is_part_byte b) (list_all is_part_byte part) h.each).0)
+stops_part (b ∷ part) rest h = stops_at is_blank b (part ++ rest) (no_blank b (and_parts (is_part_byte b) (list_all is_part_byte part) h.each).0)
 
 -- the part of a text that was made of blanks, the part and blanks
 pub part_complete : (text part : List ℕ) → Surrounds part text → IsPart part → part_of text ≡ Some part
 part_complete text part s h =
-    let rest = part ++ s.behind in
+    let rest = part ++ s.after in
     ap part_of s.is
-    ∙ ap (λ n. before_blanks (drop n (s.before ++ rest))) (run_len is_blank s.before rest s.blank_before (stops_part part s.behind h))
+    ∙ ap (λ n. before_blanks (drop n (s.before ++ rest))) (run_len is_blank s.before rest s.blank_before (stops_part part s.after h))
     ∙ ap before_blanks (drop-append_seam s.before rest)
-    ∙ before_complete part s.behind h.each s.blank_behind
+    ∙ before_complete part s.after h.each s.blank_after
 
 pub blank_field : (b : ℕ) → is_blank b ≡ true → is_field_byte b ≡ true
 blank_field b h = ap (λ t. t || is_part_byte b) h
 
-or_true : (x y : Bool) → y ≡ true → (x || y) ≡ true
-or_true true y h = refl
-or_true false y h = h
-
 pub part_field : (b : ℕ) → is_part_byte b ≡ true → is_field_byte b ≡ true
-part_field b h = or_true (is_blank b) (is_part_byte b) h
+part_field b h = or_right (is_blank b) (is_part_byte b) h
 
 -- the bytes of a text that is a part between blanks
 pub field_bytes : (text part : List ℕ) → Surrounds part text → IsPart part → list_all is_field_byte text ≡ true
 field_bytes text part s h =
     ap (list_all is_field_byte) s.is
-    ∙ pass_append is_field_byte s.before (part ++ s.behind) (weaker is_blank is_field_byte blank_field s.before s.blank_before)
-    (pass_append is_field_byte part s.behind (weaker is_part_byte is_field_byte part_field part h.each) (weaker is_blank is_field_byte blank_field s.behind s.blank_behind))
+    ∙ pass_append is_field_byte s.before (part ++ s.after) (weaker is_blank is_field_byte blank_field s.before s.blank_before)
+    (pass_append is_field_byte part s.after (weaker is_part_byte is_field_byte part_field part h.each) (weaker is_blank is_field_byte blank_field s.after s.blank_after))
 
 differs : (sign : ℕ) → is_field_byte sign ≡ false → (b : ℕ) → is_field_byte b ≡ true → (t : Bool) → is_sign sign b ≡ t → not t ≡ true
 differs sign other b h true same =

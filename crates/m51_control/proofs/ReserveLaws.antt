@@ -1,19 +1,20 @@
 -- Reserves are read where they are written.
-use Rattle.std.proofs.Common.{◌≡◌, ℕ, ◌-◌, true, not, cond, nat_lt, nat_le, List, [], ◌∷◌, ◌++◌, Some, None, refl, sym, ap, ◌∙◌, subst, arith}
+use Rattle.std.proofs.Common.{◌≡◌, ℕ, ◌-◌, true, not, cond, nat_lt, nat_le, ◌&&◌, List, [], ◌∷◌, ◌++◌, Some, None, refl, sym, ap, ◌∙◌, subst, arith}
 use Rattle.std.specs.Char.{is_ascii_alphanumeric}
 use Rattle.std.specs.Option.{option_and_then}
 use Rattle.std.specs.List.{list_all}
-use Rattle.std.proofs.lemmas.Option.{cond_some}
+use Rattle.std.proofs.lemmas.Option.{cond_some, same_Some}
 use Rattle.std.proofs.lemmas.Bool.Decides.{nat_tests}
+use Rattle.std.proofs.lemmas.Bool.{and_from, and_parts, le-leb, leb-true, lt-ltb, ltb-true}
 use Rattle.m51_cells.specs.declared.cell.Space.{Space}
 use Rattle.m51_cells.specs.declared.cell.Space.TheVariants as space
 use Rattle.m51_lex.specs.Tokens.{tokens_of}
+use Rattle.m51_cells.proofs.Passing.{goes_on, guarded, pass_append, weaker}
 use Rattle.m51_control.specs.declared.control.Control.{Control}
 use Rattle.m51_control.specs.declared.control.Control.TheVariants.{Reserve}
 use Rattle.m51_control.specs.Parts.{opening, closing, hyphen, is_blank, is_sign, cut_at, part_of, word_in}
 use Rattle.m51_control.specs.Reserve.{number_of_tokens, number_of, number_in, bounds_of, space_of, is_range, IsRange, reserve_of, closed, memory_of, reserve}
 use Rattle.m51_control.specs.Written.{AreBlanks, WritesWord, WritesNumber}
-use Rattle.m51_control.proofs.Passing.{both, pass_both, guarded, goes_on, weaker, pass_append, less, passes_less, at_most, passes_at_most}
 use Rattle.m51_control.proofs.CutLaws.{Lacks, cut_sound, cut_complete}
 use Rattle.m51_control.proofs.PartLaws.{is_part_byte, is_field_byte, IsPart, part_sound, part_complete, field_bytes, field_lacks}
 use Rattle.m51_control.proofs.NameLaws.{word_sound, word_complete, word_field}
@@ -38,10 +39,6 @@ number_complete text number w = ap (λ o. option_and_then number_of o) (part_com
 number_field : (text : List ℕ) (number : ℕ) → WritesNumber text number → list_all is_field_byte text ≡ true
 number_field text number w = field_bytes text w.part w.surrounds (number_part w.part number w.is)
 
--- the value of an option that has one
-pub same_value : {A : Type 0} (x y : A) → Some x ≡ Some y → x ≡ y
-same_value x y h = cc
-
 -- two numbers with a hyphen between them
 pub record WritesBounds (text : List ℕ) (bounds : ℕ × ℕ) : Type 0 where
   pub lo : List ℕ
@@ -62,7 +59,7 @@ bounds_sound text bounds h =
       high = number_sound cut.value.1 high.value high.found;
       is = cut_sound hyphen text cut.value cut.found;
     } in
-    subst (λ (b : ℕ × ℕ). WritesBounds text b) (same_value (low.value, high.value) bounds high.goes) whole
+    subst (λ (b : ℕ × ℕ). WritesBounds text b) (same_Some (low.value, high.value) bounds high.goes) whole
 
 pub bounds_complete : (text : List ℕ) (bounds : ℕ × ℕ) → WritesBounds text bounds → bounds_of text ≡ Some bounds
 bounds_complete text bounds w =
@@ -92,16 +89,19 @@ closed_complete inside blanks lacks blank =
 
 range_fact : (memory : Space) (low high : ℕ) → is_range memory low high ≡ true → IsRange memory low high
 range_fact space.Ram low high h =
-    let tests = both (nat_le low high) (nat_le high 0xFF) h in
-    (at_most low high tests.0, at_most high 0xFF tests.1)
+    let tests = and_parts (nat_le low high) (nat_le high 0xFF) h in
+    (leb-true low high tests.0, leb-true high 0xFF tests.1)
 range_fact space.Xram low high h =
-    let tests = both (nat_le low high) (nat_lt (high - low) 65535) h in
-    (at_most low high tests.0, less (high - low) 65535 tests.1)
+    let tests = and_parts (nat_le low high) (nat_le high 0xFFFF && nat_lt (high - low) 65535) h in
+    let ends = and_parts (nat_le high 0xFFFF) (nat_lt (high - low) 65535) tests.1 in
+    (leb-true low high tests.0, leb-true high 0xFFFF ends.0, ltb-true (high - low) 65535 ends.1)
 range_fact space.Code low high h = absurd (cc)
 
 range_test : (memory : Space) (low high : ℕ) → IsRange memory low high → is_range memory low high ≡ true
-range_test space.Ram low high h = pass_both (nat_le low high) (nat_le high 0xFF) (passes_at_most low high h.0) (passes_at_most high 0xFF h.1)
-range_test space.Xram low high h = pass_both (nat_le low high) (nat_lt (high - low) 65535) (passes_at_most low high h.0) (passes_less (high - low) 65535 h.1)
+range_test space.Ram low high h = and_from (nat_le low high) (nat_le high 0xFF) (le-leb low high h.0) (le-leb high 0xFF h.1)
+range_test space.Xram low high h =
+    and_from (nat_le low high) (nat_le high 0xFFFF && nat_lt (high - low) 65535) (le-leb low high h.0)
+    (and_from (nat_le high 0xFFFF) (nat_lt (high - low) 65535) (le-leb high 0xFFFF h.1) (lt-ltb (high - low) 65535 h.2))
 range_test space.Code low high h = absurd h
 
 -- what a reserve is written of
@@ -135,17 +135,17 @@ memory_sound inside memory h =
     let word = goes_on _ (word_in cut.value.0) memory cut.goes in
     let named = goes_on _ (space_of word.value) memory word.goes in
     let range = goes_on _ (closed cut.value.1) memory named.goes in
-    let behind = closed_sound cut.value.1 range.value range.found in
+    let after = closed_sound cut.value.1 range.value range.found in
     let whole : WritesMemory inside (named.value, range.value) = record {
       text = cut.value.0;
       word = word.value;
-      blanks = behind.0;
+      blanks = after.0;
       is_word = word_sound cut.value.0 word.value word.found;
       is_memory = named.found;
-      blank = behind.1;
-      is = cut_sound opening inside cut.value cut.found ∙ ap (λ l. cut.value.0 ++ opening ∷ l) behind.2;
+      blank = after.1;
+      is = cut_sound opening inside cut.value cut.found ∙ ap (λ l. cut.value.0 ++ opening ∷ l) after.2;
     } in
-    subst (λ (m : Space × List ℕ). WritesMemory inside m) (same_value (named.value, range.value) memory range.goes) whole
+    subst (λ (m : Space × List ℕ). WritesMemory inside m) (same_Some (named.value, range.value) memory range.goes) whole
 
 pub reserve_sound : (inside : List ℕ) (control : Control) → reserve inside ≡ Some control → WritesReserve inside control
 reserve_sound inside control h =
@@ -171,11 +171,11 @@ reserve_sound inside control h =
 
 memory_complete : (inside : List ℕ) (memory : Space × List ℕ) → Lacks closing memory.1 → WritesMemory inside memory → memory_of inside ≡ Some memory
 memory_complete inside memory lacks w =
-    let behind = memory.1 ++ closing ∷ w.blanks in
+    let after = memory.1 ++ closing ∷ w.blanks in
     ap memory_of w.is
-    ∙ ap (λ o. option_and_then (λ (cut : List ℕ × List ℕ). option_and_then (λ word. option_and_then (λ m. option_and_then (λ i. Some (m, i)) (closed cut.1)) (space_of word)) (word_in cut.0)) o) (cut_complete opening w.text behind (field_lacks opening refl w.text (word_field w.text w.word w.is_word)))
-    ∙ ap (λ o. option_and_then (λ word. option_and_then (λ m. option_and_then (λ i. Some (m, i)) (closed behind)) (space_of word)) o) (word_complete w.text w.word w.is_word)
-    ∙ ap (λ o. option_and_then (λ m. option_and_then (λ i. Some (m, i)) (closed behind)) o) w.is_memory
+    ∙ ap (λ o. option_and_then (λ (cut : List ℕ × List ℕ). option_and_then (λ word. option_and_then (λ m. option_and_then (λ i. Some (m, i)) (closed cut.1)) (space_of word)) (word_in cut.0)) o) (cut_complete opening w.text after (field_lacks opening refl w.text (word_field w.text w.word w.is_word)))
+    ∙ ap (λ o. option_and_then (λ word. option_and_then (λ m. option_and_then (λ i. Some (m, i)) (closed after)) (space_of word)) o) (word_complete w.text w.word w.is_word)
+    ∙ ap (λ o. option_and_then (λ m. option_and_then (λ i. Some (m, i)) (closed after)) o) w.is_memory
     ∙ ap (λ o. option_and_then (λ i. Some (memory.0, i)) o) (closed_complete memory.1 w.blanks lacks w.blank)
 
 pub reserve_complete : (inside : List ℕ) (control : Control) → WritesReserve inside control → reserve inside ≡ Some control

@@ -1,7 +1,9 @@
 -- The controls of a file of control lines.
-use Rattle.std.specs.Prelude.{ℕ, ◌+◌, ◌≤◌, nat_lt, if◌then◌else◌, List, [], ◌∷◌, length, Option, Some, None, Result, Ok, Err}
+use Rattle.std.specs.Prelude.{ℕ, ◌+◌, ◌≤◌, nat_lt, if◌then◌else◌, List, [], ◌∷◌, length, Option, Some, None, Result, Ok}
+use Rattle.std.specs.Prelude.{Err}
 use Rattle.std.specs.List.{All}
 use Rattle.std.specs.Str.Lines.{lines}
+use Rattle.m51_cells.specs.declared.limits.TheConstants.{MOST_CONTROL_LINES}
 use Rattle.m51_control.specs.declared.control.Control.{Control}
 use Rattle.m51_control.specs.declared.control.Control.TheVariants.{Reserve}
 use Rattle.m51_control.specs.declared.error.ControlError.{ControlError}
@@ -13,14 +15,14 @@ use Rattle.m51_control.specs.Grammar.{control_of, is_skipped}
 abbrev pub Read : Type 0
 Read = Result (List (ℕ × Control)) ControlError
 
--- the control of the line with this number, before those of the lines behind it
+-- the control of the line with this number, before those of the lines after it
 abbrev pub with_line : ℕ → Option Control → Read → Read
-with_line number None behind = Err (C1 number)
+with_line number None after = Err (C1 number)
 with_line number (Some control) (Ok controls) = Ok ((number, control) ∷ controls)
 with_line number (Some control) (Err error) = Err error
 
--- The controls of lines, of which the first has this number; or the number of the first line that is out of the grammar.
--- Lines that are skipped count.
+-- The controls of lines, of which the first has this number; or the number of the first line that is out of the
+-- grammar. Lines that are skipped count.
 abbrev pub read_from : ℕ → List (List ℕ) → Read
 read_from number [] = Ok []
 read_from number (line ∷ more) =
@@ -29,7 +31,7 @@ read_from number (line ∷ more) =
 
 -- the controls of at most 1,000 lines
 abbrev pub read_lines : List (List ℕ) → Read
-read_lines all = if nat_lt 1000 (length all) then Err Limit else read_from 1 all
+read_lines all = if nat_lt MOST_CONTROL_LINES (length all) then Err Limit else read_from 1 all
 
 -- the controls of a file: its lines end in LF or CR LF, which the last may lack
 abbrev pub controls_of : List ℕ → Read
@@ -47,5 +49,5 @@ IsAllowed other = Unit {0}
 
 -- what the type of controls keeps
 pub record AreKept (controls : List (ℕ × Control)) : Type 0 where
-  pub few : length controls ≤ 1000
+  pub few : length controls ≤ MOST_CONTROL_LINES
   pub each : All (λ entry. IsAllowed entry.1) controls

@@ -1,5 +1,6 @@
 -- The grammar of control lines.
-use Rattle.std.specs.Prelude.{ℕ, Bool, true, ◌||◌, ◌==◌, nat_lt, if◌then◌else◌, List, [], ◌∷◌, length, codes, Option, Some, None}
+use Rattle.std.specs.Prelude.{ℕ, Bool, true, ◌||◌, ◌==◌, nat_lt, if◌then◌else◌, List, [], ◌∷◌, length, codes, Option}
+use Rattle.std.specs.Prelude.{Some, None}
 use Rattle.std.specs.List.{list_all, list_any}
 use Rattle.std.specs.Str.{bytes_eq}
 use Rattle.m51_cells.specs.Name.{name_of}
@@ -9,7 +10,8 @@ use Rattle.m51_control.specs.declared.control.Control.TheVariants.{Add, Cut, NoO
 use Rattle.m51_control.specs.declared.control.Class.{Class}
 use Rattle.m51_control.specs.declared.control.Class.TheVariants as class
 use Rattle.m51_control.specs.declared.naming.Role.TheVariants as role
-use Rattle.m51_control.specs.Parts.{◌>>=◌, opening, closing, comma, greater, tilde, is_blank, is_sign, cut_at, before_last, before_blanks, word_in}
+use Rattle.m51_control.specs.Parts.{◌>>=◌, opening, closing, comma, greater, tilde, is_blank, is_sign, cut_at}
+use Rattle.m51_control.specs.Parts.{before_last, before_blanks, word_in}
 use Rattle.m51_control.specs.Naming.{named, names_in}
 use Rattle.m51_control.specs.Reserve.{reserve}
 
@@ -38,8 +40,8 @@ abbrev pub no_overlay : List ℕ → Option Control
 no_overlay inside = named role.Unit inside >>= (λ unit. Some (NoOverlay unit))
 
 -- the class that a word names
-unfoldable pub class_of : List ℕ → Option Class
-class_of word =
+unfoldable pub class_named : List ℕ → Option Class
+class_named word =
     if bytes_eq word (codes "BITADDRESSABLE") then Some class.Bitaddressable
     else if bytes_eq word (codes "BIT") then Some class.Bits
     else if bytes_eq word (codes "DATA") then Some class.Direct
@@ -48,12 +50,12 @@ class_of word =
     else if bytes_eq word (codes "CODE") then Some class.Code
     else None
 
--- the class of an order, and what stands behind its comma
+-- the class of an order, and what stands after its comma
 abbrev pub ordered_of : List ℕ → Option (Class × List ℕ)
 ordered_of inside = do
   cut ← cut_at comma inside
   word ← word_in cut.0
-  class ← class_of word
+  class ← class_named word
   Some (class, cut.1)
 
 -- ORDER(class, s, t)
@@ -72,8 +74,8 @@ by_word word inside =
     else if bytes_eq word (codes "ORDER") then order inside
     else None
 
--- A word, from the first byte on, and what stands in its parentheses, of which the second is the last byte. Since words,
--- names and numbers hold letters, digits, ? and _ alone, no other byte than a tab and 20H to 7EH is in a form.
+-- A word, from the first byte on, and what stands in its parentheses, of which the second is the last byte. Since
+-- words, names and numbers hold only letters, digits, ? and _, no other byte than a tab and 20H to 7EH is in a form.
 abbrev pub call_of : List ℕ → Option (List ℕ × List ℕ)
 call_of line = do
   cut ← cut_at opening line
@@ -86,7 +88,7 @@ call_of line = do
 abbrev pub control_of : List ℕ → Option Control
 control_of line = if nat_lt 255 (length line) then None else call_of line >>= (λ call. by_word call.0 call.1)
 
--- a line that says nothing: it is empty, holds blanks alone, or begins with ;
+-- a line that says nothing: it is empty, holds only blanks, or begins with ;
 abbrev pub is_skipped : List ℕ → Bool
 is_skipped [] = true
 is_skipped (first ∷ rest) = first == semicolon || list_all is_blank (first ∷ rest)

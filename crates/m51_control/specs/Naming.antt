@@ -1,28 +1,25 @@
 -- How control lines name units and segments.
-use Rattle.std.specs.Prelude.{ℕ, ◌+◌, ◌*◌, ◌==◌, nat_lt, if◌then◌else◌, List, [], ◌∷◌, Option, Some, None}
-use Rattle.std.specs.Char.{digit_value}
+use Rattle.std.specs.Prelude.{ℕ, ◌+◌, ◌*◌, ◌==◌, if◌then◌else◌, List, [], ◌∷◌, Option, Some, None}
 use Rattle.std.specs.List.{slice_split}
+use Rattle.m51_cells.specs.Hex.{digit_value}
 use Rattle.m51_cells.specs.Name.{name_of, title_at}
 use Rattle.m51_control.specs.declared.naming.Role.{Role}
 use Rattle.m51_control.specs.declared.naming.Role.TheVariants as role
 use Rattle.m51_control.specs.Parts.{◌>>=◌, at_sign, comma, is_sign, part_of}
 
--- the value of a hexadecimal digit, in either case
-abbrev pub hex_value : ℕ → Option ℕ
-hex_value byte = if nat_lt (digit_value byte) 16 then Some (digit_value byte) else None
-
 -- the number of four hexadecimal digits
 abbrev pub hex4_value : ℕ → ℕ → ℕ → ℕ → Option ℕ
 hex4_value a b c d = do
-  a ← hex_value a
-  b ← hex_value b
-  c ← hex_value c
-  d ← hex_value d
+  a ← digit_value a
+  b ← digit_value b
+  c ← digit_value c
+  d ← digit_value d
   Some (a * 4096 + b * 256 + c * 16 + d)
 
 -- the title of an absolute segment that a text writes: @ and four hexadecimal digits
 abbrev pub title_of : List ℕ → Option (List ℕ)
-title_of (sign ∷ a ∷ b ∷ c ∷ d ∷ []) = if sign == at_sign then hex4_value a b c d >>= (λ base. Some (title_at base)) else None
+title_of (sign ∷ a ∷ b ∷ c ∷ d ∷ []) =
+    if sign == at_sign then hex4_value a b c d >>= (λ base. Some (title_at base)) else None
 title_of _ = None
 
 -- a unit is written by its name or, if it is absolute, by its title
@@ -35,7 +32,7 @@ abbrev pub name_as : Role → List ℕ → Option (List ℕ)
 name_as role.Unit part = unit_of part
 name_as role.Segment part = name_of part
 
--- the name of a text, with blanks before and behind it
+-- the name of a text, with blanks before and after it
 abbrev pub named : Role → List ℕ → Option (List ℕ)
 named r text = part_of text >>= name_as r
 

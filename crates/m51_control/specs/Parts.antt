@@ -1,6 +1,8 @@
 -- The parts of a control line: words and signs, round which blanks may stand.
-use Rattle.std.specs.Prelude.{ℕ, ◌-◌, Bool, ◌||◌, ◌&&◌, ◌==◌, nat_lt, if◌then◌else◌, List, take, drop, length, Option, Some, None, option_and_then, slice_index}
-use Rattle.std.specs.List.{list_all, prefix_len, position_or_len, before_first, after_first}
+use Rattle.std.specs.Prelude.{◌≡◌, ℕ, ◌-◌, Bool, ◌||◌, ◌&&◌, ◌==◌, nat_lt, if◌then◌else◌, List, [], ◌∷◌, take, drop}
+use Rattle.std.specs.Prelude.{length, Option}
+use Rattle.std.specs.Prelude.{Some, None, option_and_then, slice_index}
+use Rattle.std.specs.List.{list_all, prefix_len, position_or_len, slice_split, before_first, after_first}
 use Rattle.m51_cells.specs.Name.{name_of}
 use Rattle.m51_lex.specs.Characters.{space, tab}
 
@@ -39,27 +41,38 @@ is_blank byte = byte == space || byte == tab
 abbrev pub is_sign : ℕ → ℕ → Bool
 is_sign sign byte = byte == sign
 
--- what stands before the first of these signs, and what stands behind it
+-- what stands before the first of these signs, and what stands after it
 abbrev pub cut_at : ℕ → List ℕ → Option (List ℕ × List ℕ)
 cut_at sign text =
-    if nat_lt (position_or_len (is_sign sign) text) (length text) then Some (before_first (is_sign sign) text, after_first (is_sign sign) text)
+    if nat_lt (position_or_len (is_sign sign) text) (length text)
+    then Some (before_first (is_sign sign) text, after_first (is_sign sign) text)
     else None
+
+-- the text is the one part between such signs
+abbrev pub IsOnePart : ℕ → List ℕ → Type 0
+IsOnePart sign text = slice_split (is_sign sign) text ≡ text ∷ []
+
+-- the first part between such signs, and the rest with the others
+abbrev pub SplitsInto : ℕ → List ℕ → List ℕ → List ℕ → Type 0
+SplitsInto sign text first rest = slice_split (is_sign sign) text ≡ first ∷ slice_split (is_sign sign) rest
 
 -- what stands before this sign, where it is the last byte
 abbrev pub before_last : ℕ → List ℕ → Option (List ℕ)
 before_last sign text =
-    if nat_lt 0 (length text) && is_sign sign (slice_index text (length text - 1)) then Some (take (length text - 1) text) else None
+    if nat_lt 0 (length text) && is_sign sign (slice_index text (length text - 1))
+    then Some (take (length text - 1) text)
+    else None
 
--- the part that comes first, behind which blanks alone stand
+-- the part that comes first, after which only blanks stand
 abbrev pub before_blanks : List ℕ → Option (List ℕ)
 before_blanks text =
     let len = position_or_len is_blank text in
     if list_all is_blank (drop len text) then Some (take len text) else None
 
--- the one part of a text, with blanks before and behind it
+-- the one part of a text, with blanks before and after it
 abbrev pub part_of : List ℕ → Option (List ℕ)
 part_of text = before_blanks (drop (prefix_len is_blank text) text)
 
--- the word or name of a text, in upper case, with blanks before and behind it
+-- the word or name of a text, in upper case, with blanks before and after it
 abbrev pub word_in : List ℕ → Option (List ℕ)
 word_in text = part_of text >>= name_of

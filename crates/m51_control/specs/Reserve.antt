@@ -1,5 +1,6 @@
 -- Ranges of memory that a control line keeps free: `DATA(lo-hi)` and `XDATA(lo-hi)`.
-use Rattle.std.specs.Prelude.{ℕ, ◌-◌, ◌<◌, ◌≤◌, Bool, false, ◌&&◌, nat_lt, nat_le, if◌then◌else◌, List, [], ◌∷◌, codes, Option, Some, None, Ok}
+use Rattle.std.specs.Prelude.{ℕ, ◌-◌, ◌<◌, ◌≤◌, Bool, false, ◌&&◌, nat_lt, nat_le, if◌then◌else◌, List, [], ◌∷◌, codes}
+use Rattle.std.specs.Prelude.{Option, Some, None, Ok}
 use Rattle.std.specs.Char.{is_ascii_alphanumeric}
 use Rattle.std.specs.List.{list_all}
 use Rattle.std.specs.Str.{bytes_eq}
@@ -26,7 +27,7 @@ number_of_tokens _ = None
 abbrev pub number_of : List ℕ → Option ℕ
 number_of run = if list_all is_ascii_alphanumeric run then number_of_tokens (tokens_of run) else None
 
--- the number of a text, with blanks before and behind it
+-- the number of a text, with blanks before and after it
 abbrev pub number_in : List ℕ → Option ℕ
 number_in text = part_of text >>= number_of
 
@@ -48,20 +49,20 @@ space_of word =
 -- the addresses are a range of the memory, with at most 65,535 bytes
 abbrev pub is_range : Space → ℕ → ℕ → Bool
 is_range space.Ram low high = nat_le low high && nat_le high 0xFF
-is_range space.Xram low high = nat_le low high && nat_lt (high - low) 65535
+is_range space.Xram low high = nat_le low high && (nat_le high 0xFFFF && nat_lt (high - low) 65535)
 is_range space.Code low high = false
 
 -- the same as a fact
 abbrev pub IsRange : Space → ℕ → ℕ → Type 0
 IsRange space.Ram low high = (low ≤ high) × (high ≤ 0xFF)
-IsRange space.Xram low high = (low ≤ high) × (high - low < 65535)
+IsRange space.Xram low high = (low ≤ high) × (high ≤ 0xFFFF) × (high - low < 65535)
 IsRange space.Code low high = ⊥
 
 -- the reserve of these addresses, where they are a range
 abbrev pub reserve_of : Space → ℕ × ℕ → Option Control
 reserve_of memory bounds = if is_range memory bounds.0 bounds.1 then Some (Reserve memory bounds.0 bounds.1) else None
 
--- what stands in parentheses of which the first is passed, and behind which blanks alone stand
+-- what stands in parentheses of which the first is passed, and after which only blanks stand
 abbrev pub closed : List ℕ → Option (List ℕ)
 closed text = cut_at closing text >>= (λ cut. if list_all is_blank cut.1 then Some cut.0 else None)
 

@@ -11,19 +11,19 @@ use Rattle.m51_control.specs.declared.naming.Role.TheVariants as role
 use Rattle.m51_control.specs.Parts.{opening, closing, comma, hyphen, greater, tilde, is_blank}
 use Rattle.m51_control.specs.Naming.{name_as}
 use Rattle.m51_control.specs.Reserve.{IsRange, number_of, space_of}
-use Rattle.m51_control.specs.Grammar.{class_of}
+use Rattle.m51_control.specs.Grammar.{class_named}
 
--- blanks alone, or nothing
+-- only blanks, or nothing
 abbrev pub AreBlanks : List ℕ → Type 0
 AreBlanks text = list_all is_blank text ≡ true
 
--- the text is the part, with blanks before and behind it
+-- the text is the part, with blanks before and after it
 pub record Surrounds (part text : List ℕ) : Type 0 where
   pub before : List ℕ
-  pub behind : List ℕ
+  pub after : List ℕ
   pub blank_before : AreBlanks before
-  pub blank_behind : AreBlanks behind
-  pub is : text ≡ before ++ (part ++ behind)
+  pub blank_after : AreBlanks after
+  pub is : text ≡ before ++ (part ++ after)
 
 -- the text writes the name of a unit or of a segment
 pub record WritesName (r : Role) (text name : List ℕ) : Type 0 where
@@ -59,22 +59,29 @@ pub record WritesNumber (text : List ℕ) (number : ℕ) : Type 0 where
 -- what a word and a text in parentheses write
 pub data Says (word inside : List ℕ) (control : Control) : Type 0 where
   -- OVERLAY(u > v, w)
-  Adds : {left right from : List ℕ} {to : List (List ℕ)} → word ≡ codes "OVERLAY" → WritesName role.Unit left from → WritesNames role.Unit right to
-      → inside ≡ left ++ greater ∷ right → control ≡ Add from to → Says word inside control
+  Adds : {left right from : List ℕ} {to : List (List ℕ)} → word ≡ codes "OVERLAY" → WritesName role.Unit left from
+      → WritesNames role.Unit right to → inside ≡ left ++ greater ∷ right → control ≡ Add from to
+      → Says word inside control
   -- OVERLAY(u ~ v, w)
-  Cuts : {left right from : List ℕ} {to : List (List ℕ)} → word ≡ codes "OVERLAY" → WritesName role.Unit left from → WritesNames role.Unit right to
-      → inside ≡ left ++ tilde ∷ right → control ≡ Cut from to → Says word inside control
+  Cuts : {left right from : List ℕ} {to : List (List ℕ)} → word ≡ codes "OVERLAY" → WritesName role.Unit left from
+      → WritesNames role.Unit right to → inside ≡ left ++ tilde ∷ right → control ≡ Cut from to
+      → Says word inside control
   -- NOOVERLAY(u)
-  Keeps : {unit : List ℕ} → word ≡ codes "NOOVERLAY" → WritesName role.Unit inside unit → control ≡ NoOverlay unit → Says word inside control
+  Keeps : {unit : List ℕ} → word ≡ codes "NOOVERLAY" → WritesName role.Unit inside unit → control ≡ NoOverlay unit
+      → Says word inside control
   -- RESERVE(memory(lo-hi))
-  Reserves : {text memory lo hi : List ℕ} {space : Space} {low high : ℕ} (blanks : List ℕ) → word ≡ codes "RESERVE" → WritesWord text memory → space_of memory ≡ Some space
+  Reserves : {text memory lo hi : List ℕ} {space : Space} {low high : ℕ} (blanks : List ℕ)
+      → word ≡ codes "RESERVE" → WritesWord text memory → space_of memory ≡ Some space
       → WritesNumber lo low → WritesNumber hi high → IsRange space low high → AreBlanks blanks
-      → inside ≡ text ++ opening ∷ (lo ++ hyphen ∷ hi ++ closing ∷ blanks) → control ≡ Reserve space low high → Says word inside control
+      → inside ≡ text ++ opening ∷ (lo ++ hyphen ∷ hi ++ closing ∷ blanks) → control ≡ Reserve space low high
+      → Says word inside control
   -- ORDER(class, s, t)
-  Orders : {text name list : List ℕ} {class : Class} {segments : List (List ℕ)} → word ≡ codes "ORDER" → WritesWord text name → class_of name ≡ Some class
-      → WritesNames role.Segment list segments → inside ≡ text ++ comma ∷ list → control ≡ Order class segments → Says word inside control
+  Orders : {text name list : List ℕ} {class : Class} {segments : List (List ℕ)} → word ≡ codes "ORDER"
+      → WritesWord text name → class_named name ≡ Some class
+      → WritesNames role.Segment list segments → inside ≡ text ++ comma ∷ list → control ≡ Order class segments
+      → Says word inside control
 
--- The line writes the control: a word in either case, blanks, and a text in parentheses; none stands before or behind.
+-- The line writes the control: a word in either case, blanks, and a text in parentheses; none stands before or after.
 pub record Writes (line : List ℕ) (control : Control) : Type 0 where
   pub short : length line ≤ 255
   pub part : List ℕ

@@ -1,9 +1,12 @@
 //! What a control line says.
-use m51_cells::{Name, Names, Space};
+ghost use Rattle.std.specs.Prelude.{◌≡◌, ◌↔◌, IsTrue};
+ghost use Rattle.m51_control.specs.Classes.{class_of, same_class};
+
+use m51_cells::{Kind, Name, Names, Reloc, Space};
 
 /// A class of segments, as an order names it.
 ///
-/// Source: RL51 guide.
+/// Source: own choice ("Control lines").
 #[derive(Clone, Copy, Debug, PartialEq, Eq)]
 pub enum Class {
     /// DATA segments whose bits have addresses.
@@ -36,4 +39,32 @@ pub enum Control {
     Reserve(Space, u16, u16),
     /// `ORDER(class, s, t)`: of the segments of the class that share no cell, these are placed first, in this order.
     Order(Class, Names),
+}
+
+/// The class of a segment of this kind and type: none where the segment is absolute, or has no kind.
+///
+/// Source: own choice ("Control lines").
+pub fn class_of(kind: Kind, reloc: Reloc) -> Option<Class>
+    ensures { result ≡ class_of kind reloc }
+{
+    match (kind, reloc) {
+        (_, Reloc::Abs) => None,
+        (Kind::Direct, Reloc::Bitaddressable) => Some(Class::Bitaddressable),
+        (Kind::Direct, _) => Some(Class::Direct),
+        (Kind::Bits, _) => Some(Class::Bits),
+        (Kind::Idata, _) => Some(Class::Idata),
+        (Kind::Xdata, _) => Some(Class::Xdata),
+        (Kind::Code, _) => Some(Class::Code),
+        (Kind::Number, _) => None,
+    }
+}
+
+/// Whether the classes are one.
+///
+/// Source: own choice ("Control lines").
+pub fn same_class(one: Class, two: Class) -> bool
+    ensures word { result ≡ same_class one two }
+    ensures same { IsTrue result ↔ one ≡ two }
+{
+    one == two
 }

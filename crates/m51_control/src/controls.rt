@@ -7,11 +7,6 @@ use crate::Control;
 use std::alloc::Global;
 use std::marker::Model;
 
-/// The most lines that a file of control lines has.
-///
-/// Source: own choice ("Limits").
-pub const MOST_LINES: usize = 1000;
-
 /// Controls, each with the number of its line, which contracts see as the list of these pairs. There are at most 1,000,
 /// and each reserve is a range of RAM, up to 0FFH, or of external data memory, with at most 65,535 bytes.
 ///

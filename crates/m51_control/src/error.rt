@@ -10,14 +10,14 @@ use thiserror::Error;
 /// Source: own choice ("Control lines").
 #[derive(Clone, Copy, Debug, PartialEq, Eq, Error)]
 pub enum ControlError {
-    /// The first line that is out of the grammar, counted from 1, skipped lines among them.
-    #[error("CONTROL LINE {line}: C1")]
+    /// The first line that is neither skipped nor a control, counted from 1 with the skipped lines.
+    #[error("line {line} is not a control line")]
     C1 { line: u32 },
     /// There are over 1,000 lines.
-    #[error("LIMIT CONTROLLINES 1000")]
+    #[error("there are over 1,000 control lines")]
     Limit,
     /// Want of memory.
-    #[error("MEMORY")]
+    #[error("out of memory")]
     Memory,
 }
 

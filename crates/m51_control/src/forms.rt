@@ -3,7 +3,8 @@ ghost use Rattle.std.specs.Prelude.{◌≡◌, IfOk, IfSome, option_map};
 ghost use Rattle.std.specs.List.{list_any};
 ghost use Rattle.m51_control.specs.Controls.{IsAllowed};
 ghost use Rattle.m51_control.specs.Parts.{is_sign};
-ghost use Rattle.m51_control.specs.Grammar.{add, cut, overlay, no_overlay, class_of, ordered_of, order, by_word, call_of, control_of, is_skipped};
+ghost use Rattle.m51_control.specs.Grammar.{add, cut, overlay, no_overlay, class_named, ordered_of, order, by_word};
+ghost use Rattle.m51_control.specs.Grammar.{call_of, control_of, is_skipped};
 
 use crate::naming::{Role, named, names_in};
 use crate::parts::{are_blanks, before_blanks, before_last, cut_at, word_in};
@@ -73,9 +74,9 @@ fn no_overlay(inside: &[u8]) -> Option<Control>
 }
 
 // The class that a word names.
-#[tactic(auto, unfolding(crate::specs::Grammar::class_of))]
-fn class_of(word: &[u8]) -> Option<Class>
-    ensures { result ≡ class_of word.now }
+#[tactic(auto, unfolding(crate::specs::Grammar::class_named))]
+fn class_named(word: &[u8]) -> Option<Class>
+    ensures { result ≡ class_named word.now }
 {
     if word == b"BITADDRESSABLE".as_slice() {
         Some(Class::Bitaddressable)
@@ -94,13 +95,13 @@ fn class_of(word: &[u8]) -> Option<Class>
     }
 }
 
-// The class of an order, and what stands behind its comma.
+// The class of an order, and what stands after its comma.
 fn ordered_of(inside: &[u8]) -> Option<(Class, &[u8])>
     ensures { option_map (λ o. (o.0, o.1.now)) result ≡ ordered_of inside.now }
 {
     let (class, segments) = cut_at(b',', inside)?;
     let class = word_in(class)?;
-    Some((class_of(class.bytes())?, segments))
+    Some((class_named(class.bytes())?, segments))
 }
 
 // What stands in the parentheses of ORDER.
@@ -139,16 +140,12 @@ fn by_word(alloc: Global, word: &[u8], inside: &[u8]) -> Result<Option<Control>,
 fn call_of(line: &[u8]) -> Option<(Name, &[u8])>
     ensures { option_map (λ c. (c.0, c.1.now)) result ≡ call_of line.now }
 {
-    let (before, behind) = cut_at(b'(', line)?;
+    let (before, after) = cut_at(b'(', line)?;
     let word = Name::of(before_blanks(before)?)?;
-    Some((word, before_last(b')', behind)?))
+    Some((word, before_last(b')', after)?))
 }
 
-/// The control of a line, if the line is in the grammar.
-///
-/// Errors: want of memory.
-///
-/// Source: own choice ("Control lines").
+// The control of a line, if the line is in the grammar.
 pub(crate) fn control_of(alloc: Global, line: &[u8]) -> Result<Option<Control>, NoMemory>
     ensures control { IfOk result (λ control. control ≡ control_of line.now) }
     ensures allowed { IfOk result (λ control. IfSome control IsAllowed) }
@@ -162,9 +159,7 @@ pub(crate) fn control_of(alloc: Global, line: &[u8]) -> Result<Option<Control>, 
     }
 }
 
-/// Whether a line says nothing: it is empty, holds blanks alone, or begins with `;`.
-///
-/// Source: own choice ("Control lines").
+// Whether a line says nothing: it is empty, holds only blanks, or begins with `;`.
 pub(crate) fn is_skipped(line: &[u8]) -> bool
     ensures { result ≡ is_skipped line.now }
 {

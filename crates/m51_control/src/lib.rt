@@ -12,7 +12,7 @@ mod reserving;
 #[cfg(test)]
 mod tests;
 
-pub use control::{Class, Control};
-pub use controls::{Controls, MOST_LINES};
+pub use control::{Class, Control, class_of, same_class};
+pub use controls::Controls;
 pub use error::ControlError;
 pub use reading::read_controls;

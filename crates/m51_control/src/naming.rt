@@ -1,40 +1,28 @@
 //! How control lines name units and segments.
 ghost use Rattle.std.specs.Prelude.{◌≡◌, IfOk, option_map};
-ghost use Rattle.m51_control.specs.Naming.{hex_value, hex4_value, title_of, unit_of, name_as, named, names_in};
+ghost use Rattle.m51_control.specs.Naming.{hex4_value, title_of, unit_of, name_as, named, names_in};
 
 use crate::parts::{cut_at, part_of};
-use m51_cells::{Name, Names, NoMemory};
+use m51_cells::{Name, Names, NoMemory, digit_value};
 use std::alloc::Global;
 
-/// What a name in a control line stands for.
-///
-/// Source: own choice ("Control lines").
+// What a name in a control line stands for.
 #[derive(Clone, Copy)]
 pub(crate) enum Role {
-    /// A unit, which may be written by the title of an absolute segment.
+    // A unit, which may be written by the title of an absolute segment.
     Unit,
-    /// A segment.
+    // A segment.
     Segment,
-}
-
-// The value of a hexadecimal digit.
-fn hex_value(byte: u8) -> Option<u16>
-    ensures { result ≡ hex_value byte }
-{
-    match char::from(byte).to_digit(16) {
-        Some(digit) => Some(digit as u16),
-        None => None,
-    }
 }
 
 // The number of four hexadecimal digits.
 fn hex4_value(a: u8, b: u8, c: u8, d: u8) -> Option<u16>
     ensures { result ≡ hex4_value a b c d }
 {
-    let a = hex_value(a)?;
-    let b = hex_value(b)?;
-    let c = hex_value(c)?;
-    let d = hex_value(d)?;
+    let a = u16::from(digit_value(a)?);
+    let b = u16::from(digit_value(b)?);
+    let c = u16::from(digit_value(c)?);
+    let d = u16::from(digit_value(d)?);
     Some(a * 4096 + b * 256 + c * 16 + d)
 }
 
@@ -69,31 +57,25 @@ fn name_as(role: Role, part: &[u8]) -> Option<Name>
     }
 }
 
-/// The name of a text, with blanks before and behind it.
-///
-/// Source: own choice ("Control lines").
+// The name of a text, with blanks before and after it.
 pub(crate) fn named(role: Role, text: &[u8]) -> Option<Name>
     ensures { result ≡ named role text.now }
 {
     name_as(role, part_of(text)?)
 }
 
-/// One or more names, with commas between them, if the text is that.
-///
-/// Errors: want of memory.
-///
-/// Source: own choice ("Control lines").
+// One or more names, with commas between them, if the text is that.
 pub(crate) fn names_in(alloc: Global, role: Role, text: &[u8]) -> Result<Option<Names>, NoMemory>
     ensures { IfOk result (λ names. names ≡ names_in role text.now) }
 {
     let mut names = Vec::new(alloc);
     let mut rest = text;
-    while let Some((first, behind)) = cut_at(b',', rest) {
+    while let Some((first, after)) = cut_at(b',', rest) {
         match named(role, first) {
             Some(name) => names.push(name)?,
             None => return Ok(None),
         }
-        rest = behind;
+        rest = after;
     }
     match named(role, rest) {
         Some(name) => names.push(name)?,

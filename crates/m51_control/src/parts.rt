@@ -1,22 +1,19 @@
 //! The parts of a control line.
-ghost use Rattle.std.specs.Prelude.{◌≡◌, ◌≤◌, ◌<◌, [], ◌∷◌, IfSome, MatchOption, length, option_map};
-ghost use Rattle.std.specs.List.{list_all, prefix_len, position_or_len, slice_split};
-ghost use Rattle.m51_control.specs.Parts.{is_blank, is_sign, cut_at, before_last, before_blanks, part_of, word_in};
+ghost use Rattle.std.specs.Prelude.{◌≡◌, ◌≤◌, ◌<◌, IfSome, MatchOption, length, option_map};
+ghost use Rattle.std.specs.List.{list_all, prefix_len, position_or_len};
+ghost use Rattle.m51_control.specs.Parts.{IsOnePart, SplitsInto, is_blank, is_sign, cut_at, before_last, before_blanks};
+ghost use Rattle.m51_control.specs.Parts.{part_of, word_in};
 
 use m51_cells::Name;
 
-/// Whether the byte is a space or a tab.
-///
-/// Source: own choice ("Control lines").
+// Whether the byte is a space or a tab.
 pub(crate) fn is_blank(byte: u8) -> bool
     ensures { result ≡ is_blank byte }
 {
     byte == b' ' || byte == b'\t'
 }
 
-/// Whether each byte is a space or a tab.
-///
-/// Source: own choice ("Control lines").
+// Whether each byte is a space or a tab.
 pub(crate) fn are_blanks(text: &[u8]) -> bool
     ensures { result ≡ list_all is_blank text.now }
 {
@@ -47,12 +44,10 @@ fn sign_place(sign: u8, text: &[u8]) -> usize
     text.iter().take_while(|byte| **byte != sign).count()
 }
 
-/// What stands before the first of these signs, and what stands behind it.
-///
-/// Source: own choice ("Control lines").
+// What stands before the first of these signs, and what stands after it.
 pub(crate) fn cut_at(sign: u8, text: &[u8]) -> Option<(&[u8], &[u8])>
     ensures cut { option_map (λ cut. (cut.0.now, cut.1.now)) result ≡ cut_at sign text.now }
-    ensures parts { MatchOption result (slice_split (is_sign sign) text.now ≡ text.now ∷ []) (λ cut. slice_split (is_sign sign) text.now ≡ cut.0.now ∷ slice_split (is_sign sign) cut.1.now) }
+    ensures parts { MatchOption result (IsOnePart sign text.now) (λ cut. SplitsInto sign text.now cut.0.now cut.1.now) }
     ensures shorter { IfSome result (λ cut. length cut.1.now < length text.now) }
 {
     let place = sign_place(sign, text);
@@ -63,9 +58,7 @@ pub(crate) fn cut_at(sign: u8, text: &[u8]) -> Option<(&[u8], &[u8])>
     }
 }
 
-/// What stands before this sign, where it is the last byte.
-///
-/// Source: own choice ("Control lines").
+// What stands before this sign, where it is the last byte.
 pub(crate) fn before_last(sign: u8, text: &[u8]) -> Option<&[u8]>
     ensures { option_map (λ front. front.now) result ≡ before_last sign text.now }
 {
@@ -77,9 +70,7 @@ pub(crate) fn before_last(sign: u8, text: &[u8]) -> Option<&[u8]>
     }
 }
 
-/// The part that comes first, behind which blanks alone stand.
-///
-/// Source: own choice ("Control lines").
+// The part that comes first, after which only blanks stand.
 pub(crate) fn before_blanks(text: &[u8]) -> Option<&[u8]>
     ensures { option_map (λ part. part.now) result ≡ before_blanks text.now }
 {
@@ -91,18 +82,14 @@ pub(crate) fn before_blanks(text: &[u8]) -> Option<&[u8]>
     }
 }
 
-/// The one part of a text, with blanks before and behind it.
-///
-/// Source: own choice ("Control lines").
+// The one part of a text, with blanks before and after it.
 pub(crate) fn part_of(text: &[u8]) -> Option<&[u8]>
     ensures { option_map (λ part. part.now) result ≡ part_of text.now }
 {
     before_blanks(&text[blank_len(text)..])
 }
 
-/// The word or name of a text, with blanks before and behind it.
-///
-/// Source: own choice ("Control lines").
+// The word or name of a text, with blanks before and after it.
 pub(crate) fn word_in(text: &[u8]) -> Option<Name>
     ensures { result ≡ word_in text.now }
 {

@@ -1,39 +1,18 @@
 //! Reads a file of control lines.
-ghost use Rattle.std.specs.Prelude.{◌≡◌, ◌↔◌, ◌≤◌, ◌<◌, ◌∷◌, ℕ, List, Some, length};
-ghost use Rattle.std.specs.Str.Lines.{lines, strip_carriage_return};
+ghost use Rattle.std.specs.Prelude.{◌≡◌, ◌↔◌, ◌≤◌, ℕ, List, Some, length};
+ghost use Rattle.std.specs.Str.Lines.{lines};
+ghost use Rattle.m51_cells.specs.declared.limits.TheConstants.{MOST_CONTROL_LINES};
 ghost use Rattle.m51_cells.specs.Outcome.{Gives};
 ghost use Rattle.m51_control.specs.declared.control.Control.{Control};
 ghost use Rattle.m51_control.specs.Grammar.{control_of};
 ghost use Rattle.m51_control.specs.Written.{Writes};
 ghost use Rattle.m51_control.specs.Controls.{read_from, controls_of, refusal_of};
 
-use crate::controls::{Controls, MOST_LINES};
+use crate::controls::Controls;
 use crate::error::ControlError;
 use crate::forms::{control_of, is_skipped};
-use crate::parts::cut_at;
+use m51_cells::{MOST_CONTROL_LINES, first_line};
 use std::alloc::Global;
-
-// A line that a line feed ends, without the carriage return before it.
-fn without_return(line: &[u8]) -> &[u8]
-    ensures { result.now ≡ strip_carriage_return line.now }
-{
-    match line {
-        [front @ .., b'\r'] => front,
-        _ => line,
-    }
-}
-
-// The first line, and what follows its end.
-fn split_line(text: &[u8]) -> (&[u8], &[u8])
-    requires { 0 < length text.now }
-    ensures lines { lines text.now ≡ result.0.now ∷ lines result.1.now }
-    ensures shorter { length result.1.now < length text.now }
-{
-    match cut_at(b'\n', text) {
-        Some((line, behind)) => (without_return(line), behind),
-        None => (text, &text[text.len()..]),
-    }
-}
 
 // How many lines there are.
 fn line_count(bytes: &[u8]) -> usize
@@ -41,26 +20,24 @@ fn line_count(bytes: &[u8]) -> usize
 {
     let mut count = 0;
     let mut rest = bytes;
-    while !rest.is_empty() {
-        let (_line, behind) = split_line(rest);
+    while let Some((_line, after)) = first_line(rest) {
         count += 1;
-        rest = behind;
+        rest = after;
     }
     count
 }
 
 // The controls of at most 1,000 lines.
 fn read_lines(alloc: Global, bytes: &[u8]) -> Result<Controls, ControlError>
-    requires { length (lines bytes.now) ≤ 1000 }
+    requires { length (lines bytes.now) ≤ MOST_CONTROL_LINES }
     ensures { Gives (λ controls. controls) refusal_of result (read_from 1 (lines bytes.now)) }
 {
     let mut controls = Vec::new(alloc);
     let mut rest = bytes;
     let mut number = 0;
-    while !rest.is_empty() {
-        let (line, behind) = split_line(rest);
+    while let Some((line, after)) = first_line(rest) {
         number += 1;
-        rest = behind;
+        rest = after;
         if is_skipped(line) {
             continue;
         }
@@ -72,11 +49,11 @@ fn read_lines(alloc: Global, bytes: &[u8]) -> Result<Controls, ControlError>
     Ok(Controls::of(controls))
 }
 
-/// Reads a file of control lines. A line ends in LF or CR LF, which the last may lack. A line that is empty, holds blanks
-/// alone or begins with `;` is skipped, and counts.
+/// Reads a file of control lines. A line ends in LF or CR LF, which the last may lack. A line that is empty, holds only
+/// blanks or begins with `;` is skipped, and counts.
 ///
-/// Errors: `Limit` for over 1,000 lines, or else `C1` with the first line out of the grammar, counted from 1; or want of
-/// memory.
+/// Errors: `Limit` for over 1,000 lines, or else `C1` with the first line that is no control, counted from 1; or want
+/// of memory.
 ///
 /// Source: own choice ("Control lines").
 pub fn read_controls(alloc: Global, bytes: &[u8]) -> Result<Controls, ControlError>
@@ -85,7 +62,7 @@ pub fn read_controls(alloc: Global, bytes: &[u8]) -> Result<Controls, ControlErr
     // What a line is read as is what is written in it, and nothing else is.
     ensures grammar { (line : List ℕ) (control : Control) → (control_of line ≡ Some control) ↔ Writes line control }
 {
-    if line_count(bytes) > MOST_LINES {
+    if line_count(bytes) > MOST_CONTROL_LINES {
         return Err(ControlError::Limit);
     }
     read_lines(alloc, bytes)

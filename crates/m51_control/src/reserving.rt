@@ -3,7 +3,8 @@ ghost use Rattle.std.specs.Prelude.{◌≡◌, Ok, IfOk, IfSome, IsTrue, option_
 ghost use Rattle.std.specs.Char.{is_ascii_alphanumeric};
 ghost use Rattle.std.specs.List.{list_all};
 ghost use Rattle.m51_control.specs.Controls.{IsAllowed};
-ghost use Rattle.m51_control.specs.Reserve.{number_of_tokens, number_of, number_in, bounds_of, space_of, is_range, IsRange, reserve_of, closed, memory_of, reserve};
+ghost use Rattle.m51_control.specs.Reserve.{number_of_tokens, number_of, number_in, bounds_of, space_of, is_range};
+ghost use Rattle.m51_control.specs.Reserve.{IsRange, reserve_of, closed, memory_of, reserve};
 
 use crate::Control;
 use crate::parts::{are_blanks, cut_at, part_of, word_in};
@@ -50,7 +51,7 @@ fn number_of_tokens(tokens: &[Token]) -> Option<u16>
     }
 }
 
-// The number of a text, with blanks before and behind it.
+// The number of a text, with blanks before and after it.
 fn number_in(alloc: Global, text: &[u8]) -> Result<Option<u16>, NoMemory>
     ensures { IfOk result (λ number. number ≡ number_in text.now) }
 {
@@ -117,12 +118,12 @@ fn reserve_of(space: Space, low: u16, high: u16) -> Option<Control>
     }
 }
 
-// What stands in parentheses of which the first is passed, and behind which blanks alone stand.
+// What stands in parentheses of which the first is passed, and after which only blanks stand.
 fn closed(text: &[u8]) -> Option<&[u8]>
     ensures { option_map (λ inside. inside.now) result ≡ closed text.now }
 {
-    let (inside, behind) = cut_at(b')', text)?;
-    if are_blanks(behind) {
+    let (inside, after) = cut_at(b')', text)?;
+    if are_blanks(after) {
         Some(inside)
     } else {
         None
@@ -133,17 +134,13 @@ fn closed(text: &[u8]) -> Option<&[u8]>
 fn memory_of(text: &[u8]) -> Option<(Space, &[u8])>
     ensures { option_map (λ m. (m.0, m.1.now)) result ≡ memory_of text.now }
 {
-    let (before, behind) = cut_at(b'(', text)?;
+    let (before, after) = cut_at(b'(', text)?;
     let word = word_in(before)?;
     let space = space_of(word.bytes())?;
-    Some((space, closed(behind)?))
+    Some((space, closed(after)?))
 }
 
-/// The reserve that a text writes: the memory, and in parentheses the first and the last address.
-///
-/// Errors: want of memory.
-///
-/// Source: own choice ("Control lines").
+// The reserve that a text writes: the memory, and in parentheses the first and the last address.
 pub(crate) fn reserve(alloc: Global, text: &[u8]) -> Result<Option<Control>, NoMemory>
     ensures control { IfOk result (λ control. control ≡ reserve text.now) }
     ensures allowed { IfOk result (λ control. IfSome control IsAllowed) }

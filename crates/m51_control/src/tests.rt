@@ -43,7 +43,7 @@ fn put_control(text: &mut String, control: &Control) -> Result<(), AllocError> {
     }
 }
 
-// The controls of a file, each as its line's number and what it says, with a semicolon behind each.
+// The controls of a file, each as its line's number and what it says, with a semicolon after each.
 fn told(alloc: Global, bytes: &[u8]) -> Result<String, ControlError> {
     let mut text = String::new(alloc);
     for (line, control) in read_controls(alloc, bytes)?.lines().iter() {
@@ -180,14 +180,6 @@ fn skipped_lines_count(rt: HostRuntime) -> Result<(), Fail> {
 fn no_controls_have_no_line(rt: HostRuntime) {
     assert_eq!(rt; Controls::none(rt.alloc()).lines().len(), 0);
     assert_eq!(rt; Controls::of(Vec::new(rt.alloc())).lines().len(), 0);
-}
-
-#[test]
-fn an_error_is_printed_with_its_line(rt: HostRuntime) -> Result<(), Fail> {
-    let mut text = String::new(rt.alloc());
-    write!(text, "{}", ControlError::C1 { line: 12 })?;
-    assert_eq!(rt; text.as_str(), "CONTROL LINE 12: C1");
-    Ok(())
 }
 
 #[test]

@@ -1,7 +1,6 @@
 -- What is in the grammar, and does not go on, is read.
-use Rattle.std.proofs.Common.{◌≡◌, ℕ, ◌+◌, ◌-◌, ◌*◌, ◌<◌, ◌≤◌, ◌==◌, cond, true, false, List, length, Option, Some, None, option_map, refl, sym, ap, ◌∙◌, arith, subst, ⊎_elim, slice_get}
+use Rattle.std.proofs.Common.{◌≡◌, ℕ, ◌+◌, ◌-◌, ◌*◌, ◌<◌, ◌≤◌, ◌==◌, cond, true, List, length, Option, Some, None, option_map, refl, sym, ap, ◌∙◌, arith, subst, ⊎_elim, slice_get}
 use Rattle.std.proofs.str.Laws.{order}
-use Rattle.std.proofs.lemmas.Grind.{common_steps}
 use Rattle.m51_lex.specs.declared.token.Token.{Token}
 use Rattle.std.proofs.lemmas.Option.{slice_get_within}
 use Rattle.m51_expr.specs.declared.symbol.Symbol.{Symbol}
@@ -11,11 +10,8 @@ use Rattle.m51_expr.specs.Ranks.{prefix_of, is_open, is_close, leaf_of}
 use Rattle.m51_expr.specs.Reading.{Line, Reads, and_on, closed, leaf_at, read, more, enough, expression_at}
 use Rattle.m51_expr.specs.Grammar.{Writes, Leaf, Parens, Before, Between, Tighter, Ends, IsExpression}
 use Rattle.m51_expr.proofs.Ranking.{of_prefix, infix_below, leaf_no_prefix, leaf_not_open, open_no_prefix, close_no_infix, no_tighter_infix, no_looser_prefix, ends_at, ends_above}
-use Rattle.m51_expr.proofs.Steps.{read_operand, read_prefix, read_plain, more_ends, more_goes}
+use Rattle.m51_expr.proofs.Steps.{below, read_operand, read_prefix, read_plain, more_ends, more_goes}
 use Rattle.m51_expr.proofs.Sound.{it}
-
-apart : (rank : ℕ) → rank < 8 → (rank == 8) ≡ false
-apart rank h = grind (arith, common_steps)
 
 -- an expression begins with no prefix operator of a lower rank
 starts : {line : Line} {r at : ℕ} {e : Tree} {to : ℕ} → Writes line r at e to → (low : ℕ) → low < r → prefix_of (line at) low ≡ None
@@ -49,7 +45,7 @@ record Reached (n : ℕ) (line : Line) (rank at : ℕ) (e : Tree) (to : ℕ) : T
   is : read n line rank at ≡ reach steps line rank e to
 
 reach_low : (m : ℕ) (line : Line) (rank : ℕ) (e : Tree) (to : ℕ) → rank < 8 → reach m line rank e to ≡ more m line rank e to
-reach_low m line rank e to low = ap (λ b. cond b (it e to) (more m line rank e to)) (apart rank low)
+reach_low m line rank e to low = ap (λ b. cond b (it e to) (more m line rank e to)) (below rank low)
 
 reach_ends : (m : ℕ) (line : Line) (rank : ℕ) (e : Tree) (to : ℕ) → rank ≤ 8 → 9 ≤ m + rank → Ends line rank to → reach m line rank e to ≡ it e to
 reach_ends m line rank e to le some ends =

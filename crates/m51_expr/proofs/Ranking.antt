@@ -1,7 +1,9 @@
 -- Which symbols are operators of which rank.
-use Rattle.std.proofs.Common.{◌≡◌, ℕ, ◌+◌, ◌<◌, ◌≤◌, ◌==◌, cond, Bool, true, false, Option, Some, None, refl, sym, ap, ◌∙◌, arith, ⊎_elim}
+use Rattle.std.proofs.Common.{◌≡◌, ℕ, ◌+◌, ◌<◌, ◌≤◌, ◌==◌, cond, true, false, Option, Some, None, refl, sym, ap, ◌∙◌, arith, ⊎_elim}
 use Rattle.std.proofs.str.Laws.{order}
+use Rattle.std.proofs.lemmas.Bool.{eqb-true}
 use Rattle.std.proofs.lemmas.Grind.{common_steps}
+use Rattle.std.proofs.lemmas.Option.{cond_some}
 use Rattle.m51_expr.specs.declared.tree.Unary.{Unary}
 use Rattle.m51_expr.specs.declared.tree.Unary.TheVariants as unary
 use Rattle.m51_expr.specs.declared.tree.Binary.{Binary}
@@ -13,14 +15,6 @@ use Rattle.m51_expr.specs.Ranks.{of_rank, prefix_of, prefix_rank, prefix_operato
 use Rattle.m51_expr.specs.Reading.{Line}
 use Rattle.m51_expr.specs.Grammar.{Ends}
 
--- a test that let something through holds
-holds : {X : Type 0} (b : Bool) (x y : X) → cond b (Some x) None ≡ Some y → b ≡ true
-holds true x y h = refl
-holds false x y h = absurd (cc h)
-
-same_rank : (a b : ℕ) → (a == b) ≡ true → a ≡ b
-same_rank a b h = grind (arith, common_steps, h)
-
 above : (a b : ℕ) → a < b → (b == a) ≡ false
 above a b h = grind (arith, common_steps)
 
@@ -30,7 +24,7 @@ below a b h = grind (arith, common_steps)
 -- an operator that has a rank has no other
 other_rank : {Op : Type 0} (rank_of : Op → ℕ) (rank r : ℕ) (o : Option Op) (op : Op) → of_rank rank_of rank o ≡ Some op → (r == rank) ≡ false → of_rank rank_of r o ≡ None
 other_rank rank_of rank r None op h differ = refl
-other_rank rank_of rank r (Some o) op h differ = ap (λ b. cond b (Some o) None) (ap (λ n. r == n) (sym (same_rank rank (rank_of o) (holds (rank == rank_of o) o op h))) ∙ differ)
+other_rank rank_of rank r (Some o) op h differ = ap (λ b. cond b (Some o) None) (ap (λ n. r == n) (sym (eqb-true rank (rank_of o) (cond_some (rank == rank_of o) o op h).0)) ∙ differ)
 
 -- a rank that no operator has
 rank_of_none : {Op : Type 0} (rank_of : Op → ℕ) (r : ℕ) (o : Option Op) → ((op : Op) → (r == rank_of op) ≡ false) → of_rank rank_of r o ≡ None
@@ -65,7 +59,7 @@ pub record PrefixRank (rank : ℕ) : Type 0 where
 prefix_rank_of : (rank : ℕ) (o : Option Unary) (op : Unary) → of_rank prefix_rank rank o ≡ Some op → PrefixRank rank
 prefix_rank_of rank None op h = absurd (cc h)
 prefix_rank_of rank (Some o) op h =
-    let is = same_rank rank (prefix_rank o) (holds (rank == prefix_rank o) o op h) in
+    let is = eqb-true rank (prefix_rank o) (cond_some (rank == prefix_rank o) o op h).0 in
     record {
       low = omega (arith, is, prefix_low o);
       none = λ s. rank_of_none infix_rank rank (infix_operator s) (λ b. ap (λ n. n == infix_rank b) is ∙ not_prefix_rank o b);
@@ -76,7 +70,7 @@ of_prefix s rank op h = prefix_rank_of rank (prefix_operator s) op h
 
 infix_low_of : (rank : ℕ) (o : Option Binary) (op : Binary) → of_rank infix_rank rank o ≡ Some op → rank < 8
 infix_low_of rank None op h = absurd (cc h)
-infix_low_of rank (Some o) op h = omega (arith, same_rank rank (infix_rank o) (holds (rank == infix_rank o) o op h), infix_low o)
+infix_low_of rank (Some o) op h = omega (arith, eqb-true rank (infix_rank o) (cond_some (rank == infix_rank o) o op h).0, infix_low o)
 
 -- an operator between two operands has a rank below that of operands
 pub infix_below : (s : Option Symbol) (rank : ℕ) (op : Binary) → infix_of s rank ≡ Some op → rank < 8

@@ -8,14 +8,15 @@ use Rattle.m51_expr.specs.declared.fault.ReadError.{ReadError}
 use Rattle.m51_expr.specs.declared.fault.ReadError.TheVariants.{Fault, Memory}
 use Rattle.m51_expr.specs.Tree.{Tree, One, Two, tree_of}
 use Rattle.m51_expr.specs.Ranks.{prefix_of, infix_of}
-use Rattle.m51_expr.specs.Reading.{Line, Reads, and_on, operand, prefixed, followed, read, more, GivesTree, or_fault_6}
+use Rattle.m51_expr.specs.Reading.{Line, Reads, and_on, operand, prefixed, followed, read, more, GivesTree, or_no_expression}
 
 -- what an answer has read
 abbrev read_in : Result (Tree × ℕ) ℕ → Reads
 read_in (Ok r) = Some r
 read_in (Err k) = None
 
-below : (rank : ℕ) → rank < 8 → (rank == 8) ≡ false
+-- a rank of operators is not that of operands
+pub below : (rank : ℕ) → rank < 8 → (rank == 8) ≡ false
 below rank h = grind (arith, common_steps)
 
 pub read_operand : (n m : ℕ) (line : Line) (at : ℕ) → n ≡ suc m → read n line 8 at ≡ operand line at (read m line 0 (at + 1))
@@ -44,7 +45,7 @@ more_goes n m line rank left at op e is = ap (λ k. more k line rank left at) e 
 
 -- an error of a part is that of the whole
 pub err_step : (e : ReadError) (part whole : Reads) (go : Tree → ℕ → Reads) → GivesTree (Err e) part → whole ≡ and_on part go → GivesTree (Err e) whole
-err_step (Fault k) None whole go h is = ap or_fault_6 is ∙ h
+err_step (Fault k) None whole go h is = ap or_no_expression is ∙ h
 err_step (Fault k) (Some r) whole go h is = absurd (cc h)
 err_step Memory part whole go h is = tt
 

@@ -3,6 +3,7 @@ use Rattle.std.specs.Prelude.{ℕ, Bool, true, false, not, if◌then◌else◌, 
 use Rattle.m51_cells.specs.declared.kind.Base.{Base}
 use Rattle.m51_cells.specs.declared.kind.Base.TheVariants as base
 use Rattle.m51_expr.specs.declared.value.Value.{Value}
+use Rattle.m51_cells.specs.declared.fault.TheConstants.{BASE_NOT_ALLOWED}
 use Rattle.m51_expr.specs.Value.{Valued, fault, counted}
 
 -- what names stand for, the place of the statement, and which segments are absolute or bit-addressable
@@ -25,4 +26,4 @@ is_unplaced names (base.External n) = true
 
 -- what an operand counts as where no base may stand but an absolute one
 abbrev pub as_number : Meanings → Value → Valued ℕ
-as_number names v = if is_unplaced names v.base then fault 8 else Ok (counted v)
+as_number names v = if is_unplaced names v.base then fault BASE_NOT_ALLOWED else Ok (counted v)

@@ -1,5 +1,6 @@
 -- Operators on values, but the dot (this project's rules on numbers, bases and classes).
-use Rattle.std.specs.Prelude.{ℕ, ◌+◌, ◌-◌, ◌*◌, ◌/◌, ◌%◌, ◌^◌, ◌==◌, Bool, true, false, not, ◌&&◌, ◌||◌, nat_lt, nat_le, if◌then◌else◌, Option, Some, None, Ok, bit_and, bit_or, bit_xor}
+use Rattle.std.specs.Prelude.{ℕ, ◌+◌, ◌-◌, ◌*◌, ◌/◌, ◌%◌, ◌^◌, ◌==◌, Bool, true, false, not, ◌&&◌, ◌||◌, nat_lt, nat_le}
+use Rattle.std.specs.Prelude.{if◌then◌else◌, Option, Some, None, Ok, bit_and, bit_or, bit_xor}
 use Rattle.m51_cells.specs.declared.kind.Base.{Base}
 use Rattle.m51_cells.specs.declared.kind.Base.TheVariants as base
 use Rattle.m51_cells.specs.declared.kind.Kind.{Kind}
@@ -11,9 +12,12 @@ use Rattle.m51_expr.specs.declared.tree.Unary.{Unary}
 use Rattle.m51_expr.specs.declared.tree.Unary.TheVariants as op1
 use Rattle.m51_expr.specs.declared.tree.Binary.{Binary}
 use Rattle.m51_expr.specs.declared.tree.Binary.TheVariants as op2
-use Rattle.m51_expr.specs.Value.{Valued, and_then, fault, plain, is_whole, counted}
+use Rattle.m51_cells.specs.declared.fault.TheConstants.{BASE_NOT_ALLOWED, DIVISION_BY_ZERO}
+use Rattle.m51_cells.specs.Outcome.{and_then}
+use Rattle.m51_expr.specs.Value.{Valued, fault, plain, is_whole, counted}
 use Rattle.m51_expr.specs.Meanings.{Meanings, is_absolute, is_unplaced, as_number}
 
+-- a value of this base and part under HIGH or LOW, where it keeps its base
 abbrev pub under : Part → Value → Base → Part → Option Value
 under part v base.None old = None
 under part v b Whole = Some (record v { class = kind.Number; part = part })
@@ -23,6 +27,7 @@ under part v b old = None
 abbrev pub kept_under : Part → Value → Option Value
 kept_under part v = under part v v.base v.part
 
+-- that value, or else what the number gives
 abbrev pub or_number : Option Value → Valued ℕ → (ℕ → ℕ) → Valued Value
 or_number (Some v) n f = Ok v
 or_number None n f = and_then n (λ n. Ok (plain (f n) kind.Number))
@@ -43,20 +48,23 @@ settled names v = if is_unplaced names v.base || is_whole v.part then v else pla
 abbrev pub beside : Meanings → Base → Value → Value
 beside names other v = if is_unplaced names other && is_absolute names v.base then plain v.number v.class else v
 
+-- the bases are one
 abbrev pub same_base : Base → Base → Bool
 same_base base.None base.None = true
 same_base (base.Segment s) (base.Segment t) = s == t
 same_base (base.External s) (base.External t) = s == t
 same_base a b = false
 
+-- a truth as a number
 abbrev pub truth : Bool → ℕ
 truth b = if b then 65535 else 0
 
--- an operator between two numbers, unsigned and modulo 65,536
+-- an operator between two numbers, unsigned and modulo 65,536; never asked of the dot, which is no operator between
+-- numbers
 abbrev pub arithmetic : Binary → ℕ → ℕ → Valued ℕ
 arithmetic op2.Mul a b = Ok (a * b % 65536)
-arithmetic op2.Div a b = if b == 0 then fault 9 else Ok (a / b)
-arithmetic op2.Rem a b = if b == 0 then fault 9 else Ok (a % b)
+arithmetic op2.Div a b = if b == 0 then fault DIVISION_BY_ZERO else Ok (a / b)
+arithmetic op2.Rem a b = if b == 0 then fault DIVISION_BY_ZERO else Ok (a % b)
 arithmetic op2.Shl a b = Ok (if nat_lt b 16 then a * 2 ^ b % 65536 else 0)
 arithmetic op2.Shr a b = Ok (if nat_lt b 16 then a / 2 ^ b else 0)
 arithmetic op2.Add a b = Ok ((a + b) % 65536)
@@ -87,8 +95,10 @@ base_of op2.Add base.None y = Some y
 base_of op2.Sub x y = if same_base x y then Some base.None else None
 base_of op x y = None
 
+-- the number that counts from a base, or else the number without one
 abbrev pub on_base : Kind → Option Base → Valued ℕ → Valued ℕ → Valued Value
-on_base class (Some b) from_base number = and_then from_base (λ n. Ok (record { number = n; class = class; base = b; part = Whole }))
+on_base class (Some b) from_base number =
+    and_then from_base (λ n. Ok (record { number = n; class = class; base = b; part = Whole }))
 on_base class None from_base number = and_then number (λ n. Ok (plain n class))
 
 -- an operator between what two operands count as
@@ -97,12 +107,14 @@ of_numbers names op x y = and_then (as_number names x) (λ a. and_then (as_numbe
 
 -- an operator between two values that are under no HIGH, LOW or dot
 abbrev pub of_wholes : Meanings → Binary → Kind → Value → Value → Valued Value
-of_wholes names op class x y = on_base class (base_of op x.base y.base) (arithmetic op x.number y.number) (of_numbers names op x y)
+of_wholes names op class x y =
+    on_base class (base_of op x.base y.base) (arithmetic op x.number y.number) (of_numbers names op x y)
 
+-- the same between two values that may be under one; then no base may stand
 abbrev pub of_settled : Meanings → Binary → Kind → Value → Value → Valued Value
 of_settled names op class x y =
     if is_whole x.part && is_whole y.part then of_wholes names op class (beside names y.base x) (beside names x.base y)
-    else fault 8
+    else fault BASE_NOT_ALLOWED
 
 -- an operator between two operands, but the dot
 abbrev pub binary : Meanings → Binary → Value → Value → Valued Value

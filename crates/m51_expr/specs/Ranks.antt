@@ -1,7 +1,8 @@
 -- The ranks of operators. A higher rank is tighter.
 use Rattle.std.specs.Prelude.{ℕ, Bool, true, false, ◌==◌, if◌then◌else◌, Option, Some, None}
 use Rattle.m51_expr.specs.declared.symbol.Symbol.{Symbol}
-use Rattle.m51_expr.specs.declared.symbol.Symbol.TheVariants.{Number, Name, Here, Open, Close, Plus, Minus, Prefix, Infix}
+use Rattle.m51_expr.specs.declared.symbol.Symbol.TheVariants.{Number, Name, Here, Open, Close, Plus, Minus, Prefix}
+use Rattle.m51_expr.specs.declared.symbol.Symbol.TheVariants.{Infix}
 use Rattle.m51_expr.specs.declared.tree.Unary.{Unary}
 use Rattle.m51_expr.specs.declared.tree.Unary.TheVariants as unary
 use Rattle.m51_expr.specs.declared.tree.Binary.{Binary}
@@ -15,6 +16,7 @@ abbrev pub prefix_rank : Unary → ℕ
 prefix_rank unary.Not = 2
 prefix_rank op = 6
 
+-- the rank of an operator between two operands
 abbrev pub infix_rank : Binary → ℕ
 infix_rank binary.Or = 0
 infix_rank binary.Xor = 0
@@ -56,15 +58,17 @@ prefix_of symbol rank = of_rank prefix_rank rank (prefix_operator symbol)
 abbrev pub infix_of : Option Symbol → ℕ → Option Binary
 infix_of symbol rank = of_rank infix_rank rank (infix_operator symbol)
 
+-- an opening parenthesis
 abbrev pub is_open : Option Symbol → Bool
 is_open (Some Open) = true
 is_open _ = false
 
+-- a closing parenthesis
 abbrev pub is_close : Option Symbol → Bool
 is_close (Some Close) = true
 is_close _ = false
 
--- the tree that a symbol is alone: a number, a name, the place of the statement
+-- the tree that a symbol is of itself: a number, a name, the place of the statement
 abbrev pub leaf_of : Option Symbol → Option Tree
 leaf_of (Some (Number n)) = Some (tree.Number n)
 leaf_of (Some (Name name)) = Some (tree.Name name)

@@ -1,6 +1,8 @@
--- The tree that symbols write, by the ranks of their operators.
-use Rattle.std.specs.Prelude.{ℕ, zero, suc, ◌+◌, ◌-◌, ◌*◌, ◌==◌, if◌then◌else◌, List, length, Option, Some, None, Result, Ok, Err, Bool, true, false}
+-- The tree that symbols write, by the ranks of their operators, as a function. What it means is said in Grammar.
+use Rattle.std.specs.Prelude.{ℕ, zero, suc, ◌+◌, ◌-◌, ◌*◌, ◌==◌, if◌then◌else◌, List, length, Option, Some, None}
+use Rattle.std.specs.Prelude.{Result, Ok, Err, Bool, true, false}
 use Rattle.m51_cells.specs.Outcome.{Gives}
+use Rattle.m51_cells.specs.declared.fault.TheConstants.{NO_EXPRESSION}
 use Rattle.m51_lex.specs.declared.token.Token.{Token}
 use Rattle.m51_expr.specs.declared.tree.Unary.{Unary}
 use Rattle.m51_expr.specs.declared.tree.Binary.{Binary}
@@ -30,20 +32,23 @@ abbrev pub closed : Bool → Tree → ℕ → Reads
 closed true e at = Some (e, at + 1)
 closed false e at = None
 
+-- an operand of one symbol, and the place after it
 abbrev pub leaf_at : Option Tree → ℕ → Reads
 leaf_at None at = None
 leaf_at (Some e) at = Some (e, at + 1)
 
 -- an expression in parentheses, which `inner` reads, or else a number, a name or the place of the statement
 abbrev pub operand : Line → ℕ → Reads → Reads
-operand line at inner = if is_open (line at) then and_on inner (λ e next. closed (is_close (line next)) e next) else leaf_at (leaf_of (line at)) at
+operand line at inner =
+    if is_open (line at) then and_on inner (λ e next. closed (is_close (line next)) e next)
+    else leaf_at (leaf_of (line at)) at
 
 -- an operator before its operand, which `inner` reads, or else what has no such operator
 abbrev pub prefixed : Option Unary → Reads → Reads → Reads
 prefixed (Some op) inner plain = and_on inner (λ e next. Some (One op e, next))
 prefixed None inner plain = plain
 
--- operators behind an operand
+-- operators after an operand
 abbrev pub followed : Option Binary → Tree → ℕ → (Binary → Reads) → Reads
 followed None left at go = Some (left, at)
 followed (Some op) left at go = go op
@@ -51,18 +56,20 @@ followed (Some op) left at go = go op
 -- Reading takes a bound on its steps, which grows with the line: see `enough`.
 unfoldable mutual
   -- The expression of this rank that begins at a place: an operator of the rank and an expression of the rank, or an
-  -- expression of the next rank and operators of this one behind it. An operand has rank 8.
+  -- expression of the next rank and operators of this one after it. An operand has rank 8.
   pub read : ℕ → Line → ℕ → ℕ → Reads
   read zero line rank at = None
   read (suc n) line rank at =
       if rank == 8 then operand line at (read n line 0 (at + 1))
-      else prefixed (prefix_of (line at) rank) (read n line rank (at + 1)) (and_on (read n line (rank + 1) at) (λ left next. more n line rank left next))
+      else prefixed (prefix_of (line at) rank) (read n line rank (at + 1))
+      (and_on (read n line (rank + 1) at) (λ left next. more n line rank left next))
 
   -- an expression of this rank goes on, from left to right, as long as operators of the rank come
   pub more : ℕ → Line → ℕ → Tree → ℕ → Reads
   more zero line rank left at = None
   more (suc n) line rank left at =
-      followed (infix_of (line at) rank) left at (λ op. and_on (read n line (rank + 1) (at + 1)) (λ right next. more n line rank (Two op left right) next))
+      followed (infix_of (line at) rank) left at
+      (λ op. and_on (read n line (rank + 1) (at + 1)) (λ right next. more n line rank (Two op left right) next))
 
 -- how many steps are enough for an expression of this rank before the end of so many symbols
 abbrev pub enough : ℕ → ℕ → ℕ
@@ -76,16 +83,16 @@ expression_at line tokens at = read (enough (length tokens - at) 0) (symbol_at l
 abbrev pub tree_and_place : Expr × ℕ → Tree × ℕ
 tree_and_place r = (tree_of r.0, r.1)
 
--- the number of a fault; want of memory has none
+-- the number of a fault; out of memory has none
 abbrev pub fault_of : ReadError → Option ℕ
 fault_of (Fault k) = Some k
 fault_of Memory = None
 
--- what is read, or fault 6 where there is none
-abbrev pub or_fault_6 : Reads → Result (Tree × ℕ) ℕ
-or_fault_6 (Some r) = Ok r
-or_fault_6 None = Err 6
+-- what is read, or the fault that no expression stands there
+abbrev pub or_no_expression : Reads → Result (Tree × ℕ) ℕ
+or_no_expression (Some r) = Ok r
+or_no_expression None = Err NO_EXPRESSION
 
--- a function gave this tree and place, or fault 6 where there is none, unless memory ran out
+-- a function gave this tree and place, or that fault where there is none, unless it is out of memory
 abbrev pub GivesTree : Result (Expr × ℕ) ReadError → Reads → Type 0
-GivesTree result reads = Gives tree_and_place fault_of result (or_fault_6 reads)
+GivesTree result reads = Gives tree_and_place fault_of result (or_no_expression reads)

@@ -1,5 +1,6 @@
 -- What a token is in an expression (the assembler's rules of words, texts and signs).
-use Rattle.std.specs.Prelude.{ℕ, ◌+◌, ◌-◌, ◌*◌, ◌==◌, if◌then◌else◌, List, [], ◌∷◌, length, Option, Some, None, option_map, codes, slice_get, slice_range, max}
+use Rattle.std.specs.Prelude.{ℕ, ◌+◌, ◌-◌, ◌*◌, ◌==◌, if◌then◌else◌, List, [], ◌∷◌, length, Option, Some, None}
+use Rattle.std.specs.Prelude.{option_map, codes, slice_get, slice_range, max}
 use Rattle.std.specs.Str.{bytes_eq}
 use Rattle.m51_cells.specs.Name.{name_of}
 use Rattle.m51_lex.specs.Characters.{quote}
@@ -7,7 +8,8 @@ use Rattle.m51_lex.specs.declared.token.What.{What}
 use Rattle.m51_lex.specs.declared.token.What.TheVariants as what
 use Rattle.m51_lex.specs.declared.token.Token.{Token}
 use Rattle.m51_expr.specs.declared.symbol.Symbol.{Symbol}
-use Rattle.m51_expr.specs.declared.symbol.Symbol.TheVariants.{Number, Name, Word, Text, Here, Open, Close, Plus, Minus, Prefix, Infix, Comma, Colon, Hash, At, Other}
+use Rattle.m51_expr.specs.declared.symbol.Symbol.TheVariants.{Number, Name, Word, Text, Here, Open, Close, Plus, Minus}
+use Rattle.m51_expr.specs.declared.symbol.Symbol.TheVariants.{Prefix, Infix, Comma, Colon, Hash, At, Other}
 use Rattle.m51_expr.specs.declared.tree.Unary.TheVariants as unary
 use Rattle.m51_expr.specs.declared.tree.Binary.TheVariants as binary
 use Rattle.m51_expr.specs.Words.{is_language_word}
@@ -18,11 +20,13 @@ next_character [] = None
 next_character (c ∷ []) = Some (c, [])
 next_character (c ∷ d ∷ more) = if c == quote then Some (c, more) else Some (c, d ∷ more)
 
+-- a character with the one that follows it, if no third does
 abbrev pub two_characters : ℕ → Option (ℕ × List ℕ) → Option ℕ
 two_characters first None = Some first
 two_characters first (Some (second, [])) = Some (256 * first + second)
 two_characters first (Some (second, c ∷ more)) = None
 
+-- the same from the first character on
 abbrev pub one_or_two_characters : Option (ℕ × List ℕ) → Option ℕ
 one_or_two_characters None = None
 one_or_two_characters (Some (first, more)) = two_characters first (next_character more)
@@ -31,21 +35,21 @@ one_or_two_characters (Some (first, more)) = two_characters first (next_characte
 abbrev pub text_value : List ℕ → Option ℕ
 text_value text = one_or_two_characters (next_character text)
 
--- what a sign is, by its character
+-- what a sign is, by its character, which stands after it; no other character is a sign
 abbrev pub sign_symbol : ℕ → Symbol
 sign_symbol sign =
-    if sign == 0x24 then Here
-    else if sign == 0x28 then Open
-    else if sign == 0x29 then Close
-    else if sign == 0x2B then Plus
-    else if sign == 0x2D then Minus
-    else if sign == 0x2A then Infix binary.Mul
-    else if sign == 0x2F then Infix binary.Div
-    else if sign == 0x2E then Infix binary.Dot
-    else if sign == 0x2C then Comma
-    else if sign == 0x3A then Colon
-    else if sign == 0x23 then Hash
-    else if sign == 0x40 then At
+    if sign == 0x24 then Here  -- $
+    else if sign == 0x28 then Open  -- (
+    else if sign == 0x29 then Close  -- )
+    else if sign == 0x2B then Plus  -- +
+    else if sign == 0x2D then Minus  -- -
+    else if sign == 0x2A then Infix binary.Mul  -- *
+    else if sign == 0x2F then Infix binary.Div  -- /
+    else if sign == 0x2E then Infix binary.Dot  -- .
+    else if sign == 0x2C then Comma  -- ,
+    else if sign == 0x3A then Colon  -- :
+    else if sign == 0x23 then Hash  -- #
+    else if sign == 0x40 then At  -- @
     else Other
 
 -- the operator that a word is
@@ -68,6 +72,7 @@ operator_of word =
     else if bytes_eq word (codes "XOR") then Some (Infix binary.Xor)
     else None
 
+-- an operator, or else a word of the language or a name
 abbrev pub operator_or_word : List ℕ → Option Symbol → Symbol
 operator_or_word word (Some symbol) = symbol
 operator_or_word word None = if is_language_word word then Word word else Name word
@@ -76,10 +81,12 @@ operator_or_word word None = if is_language_word word then Word word else Name w
 abbrev pub word_symbol : List ℕ → Symbol
 word_symbol word = operator_or_word word (operator_of word)
 
+-- a text with a number, or one without
 abbrev pub number_or_text : Option ℕ → Symbol
 number_or_text (Some n) = Number n
 number_or_text None = Text
 
+-- a word, where its bytes are a name; never asked of others, since a name has at most 31 bytes
 abbrev pub word_or_other : Option (List ℕ) → Symbol
 word_or_other (Some word) = word_symbol word
 word_or_other None = Other

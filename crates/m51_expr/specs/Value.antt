@@ -1,5 +1,6 @@
 -- Values of expressions: what parts and bit addresses are (this project's rules of values).
-use Rattle.std.specs.Prelude.{ℕ, ◌+◌, ◌-◌, ◌*◌, ◌/◌, ◌%◌, ◌==◌, Bool, true, false, ◌&&◌, nat_lt, nat_le, if◌then◌else◌, Option, Some, None, Result, Ok, Err, unwrap_or}
+use Rattle.std.specs.Prelude.{ℕ, ◌+◌, ◌-◌, ◌*◌, ◌/◌, ◌%◌, ◌==◌, Bool, true, false, ◌&&◌, nat_lt, nat_le, if◌then◌else◌}
+use Rattle.std.specs.Prelude.{Option, Some, None, Result, Err, unwrap_or}
 use Rattle.m51_cells.specs.declared.kind.Base.TheVariants as base
 use Rattle.m51_cells.specs.declared.kind.Kind.{Kind}
 use Rattle.m51_expr.specs.declared.value.Part.{Part}
@@ -11,11 +12,7 @@ use Rattle.m51_expr.specs.declared.fault.ExprError.{ExprError}
 abbrev pub Valued : Type 0 → Type 0
 Valued A = Result A ExprError
 
--- goes on with a value
-abbrev pub and_then : {A B : Type 0} → Valued A → (A → Valued B) → Valued B
-and_then (Ok a) go = go a
-and_then (Err e) go = Err e
-
+-- the fault of this number
 abbrev pub fault : {A : Type 0} → ℕ → Valued A
 fault k = Err (record { number = k })
 
@@ -23,6 +20,7 @@ fault k = Err (record { number = k })
 abbrev pub plain : ℕ → Kind → Value
 plain n class = record { number = n; class = class; base = base.None; part = Whole }
 
+-- neither HIGH, LOW nor the dot stands over the number
 abbrev pub is_whole : Part → Bool
 is_whole Whole = true
 is_whole part = false
@@ -35,7 +33,8 @@ bit_address byte bit =
     else if (nat_le 0x80 byte && nat_le byte 0xF8) && byte % 8 == 0 then Some (byte + bit)
     else None
 
--- a number under HIGH, LOW or the dot
+-- A number under HIGH, LOW or the dot. A byte without a bit address is never asked: a value under the dot that has no
+-- base, or an absolute one, was made of a byte with bits.
 abbrev pub part_of : ℕ → Part → ℕ
 part_of n Whole = n
 part_of n High = n / 256

@@ -52,7 +52,8 @@ is_among word words = list_any (λ w. bytes_eq w word) words
 
 -- a mnemonic, a directive, a kind, a type or a register: no expression begins with it
 unfoldable pub is_language_word : List ℕ → Bool
-is_language_word word = ((is_among word mnemonics || is_among word directives) || is_among word kinds_and_types) || is_among word registers
+is_language_word word =
+    ((is_among word mnemonics || is_among word directives) || is_among word kinds_and_types) || is_among word registers
 
 -- what nothing can define
 unfoldable pub is_reserved : List ℕ → Bool

@@ -6,7 +6,7 @@ use crate::fault::ExprError;
 use crate::lookup::{Lookup, as_number, is_unplaced};
 use crate::operators::same_base;
 use crate::value::{Part, Value, bit_address, counted, is_whole, plain};
-use m51_cells::{Base, Kind};
+use m51_cells::{BASE_NOT_ALLOWED, Base, Kind, NO_BIT};
 
 // Whether a base that the link places has bits with addresses.
 fn has_bits<L: Lookup>(names: &L, base: Base, class: Kind) -> bool
@@ -31,7 +31,7 @@ fn bit_of<L: Lookup>(names: &L, x: Value, bit: u16) -> Result<Value, ExprError>
     ensures { result ≡ bit_of (L.meanings names.now) x bit }
 {
     if bit > 7 {
-        return Err(ExprError { number: 10 });
+        return Err(ExprError { number: NO_BIT });
     }
     let kept = Value {
         class: Kind::Bits,
@@ -42,11 +42,11 @@ fn bit_of<L: Lookup>(names: &L, x: Value, bit: u16) -> Result<Value, ExprError>
         return if has_bits(names, x.base, x.class) {
             Ok(kept)
         } else {
-            Err(ExprError { number: 10 })
+            Err(ExprError { number: NO_BIT })
         };
     }
     match bit_address(counted(x), bit) {
-        None => Err(ExprError { number: 10 }),
+        None => Err(ExprError { number: NO_BIT }),
         Some(_) if keeps_base(x) => Ok(kept),
         Some(address) => Ok(plain(address, Kind::Bits)),
     }
@@ -57,7 +57,9 @@ pub(crate) fn dot<L: Lookup>(names: &L, x: Value, n: Value) -> Result<Value, Exp
     ensures { result ≡ dot (L.meanings names.now) x n }
 {
     if is_unplaced(names, x.base) && !is_whole(x.part) {
-        return Err(ExprError { number: 8 });
+        return Err(ExprError {
+            number: BASE_NOT_ALLOWED,
+        });
     }
     let bit = as_number(names, n)?;
     bit_of(names, x, bit)

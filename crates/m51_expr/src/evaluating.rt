@@ -9,8 +9,9 @@ use crate::lookup::Lookup;
 use crate::operators::{binary, unary};
 use crate::tree::{Binary, Expr};
 use crate::value::{Value, plain};
-use m51_cells::Kind;
+use m51_cells::{Kind, UNKNOWN_NAME};
 
+// Whether the operator is the dot.
 fn is_dot(op: Binary) -> bool
     ensures { result ≡ is_dot op }
 {
@@ -47,7 +48,9 @@ pub fn value_of<L: Lookup>(expr: &Expr, names: &L) -> Result<Value, ExprError>
         Expr::Here => Ok(names.here()),
         Expr::Name(name) => match names.value(name) {
             Some(value) => Ok(value),
-            None => Err(ExprError { number: 7 }),
+            None => Err(ExprError {
+                number: UNKNOWN_NAME,
+            }),
         },
         Expr::One(op, inner) => {
             let value = value_of(inner, names)?;

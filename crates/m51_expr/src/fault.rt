@@ -8,9 +8,9 @@ use std::alloc::{AllocError, AllocFailed};
 /// Source: own choice ("Faults of a line").
 #[derive(Clone, Copy, Debug, PartialEq, Eq)]
 pub enum ReadError {
-    /// The fault E`number`, which is 6: no expression stands there.
+    /// The fault E`number`, which is `NO_EXPRESSION`: no expression stands there.
     Fault { number: u8 },
-    /// Want of memory.
+    /// Out of memory.
     Memory,
 }
 
@@ -34,8 +34,9 @@ impl<T: Drop> From<AllocFailed<T>> for ReadError {
     }
 }
 
-/// The fault E`number` of an expression that has no value: 7 for a name without a value, 8 for a base where none may
-/// stand, 9 for a division by 0, 10 for a bit number over 7 or a byte whose bits have no addresses.
+/// The fault E`number` of an expression that has no value: `UNKNOWN_NAME` for a name without a value,
+/// `BASE_NOT_ALLOWED` for a base where none may stand, `DIVISION_BY_ZERO`, and `NO_BIT` for a bit number over 7 or a
+/// byte whose bits have no addresses.
 ///
 /// Source: own choice ("Faults of a line").
 #[derive(Clone, Copy, Debug, PartialEq, Eq)]

@@ -17,10 +17,10 @@ mod words;
 
 pub use evaluating::value_of;
 pub use fault::{ExprError, ReadError};
-pub use lookup::Lookup;
+pub use lookup::{Lookup, is_absolute, is_unplaced};
 pub use m51_cells::Base;
 pub use reading::read_expr;
 pub use symbol::{Symbol, symbol_at};
 pub use tree::{Binary, Expr, Unary};
-pub use value::{Part, Value};
-pub use words::is_reserved;
+pub use value::{Part, Value, bit_address, counted, plain};
+pub use words::{BANK_REGISTERS, is_reserved};

@@ -4,7 +4,7 @@ ghost use Rattle.m51_expr.specs.Meanings.{Meanings, is_absolute, is_unplaced, as
 
 use crate::fault::ExprError;
 use crate::value::{Value, counted};
-use m51_cells::{Base, Name};
+use m51_cells::{BASE_NOT_ALLOWED, Base, Name};
 
 /// What the names and the place of a statement stand for. No method takes memory.
 ///
@@ -30,7 +30,9 @@ pub trait Lookup {
 }
 
 /// Whether the base is an absolute segment.
-pub(crate) fn is_absolute<L: Lookup>(names: &L, base: Base) -> bool
+///
+/// Source: own choice ("Values with a base").
+pub fn is_absolute<L: Lookup>(names: &L, base: Base) -> bool
     ensures { result ≡ is_absolute (L.meanings names.now) base }
 {
     match base {
@@ -40,7 +42,9 @@ pub(crate) fn is_absolute<L: Lookup>(names: &L, base: Base) -> bool
 }
 
 /// Whether the base is relocatable or external, so that the link places it.
-pub(crate) fn is_unplaced<L: Lookup>(names: &L, base: Base) -> bool
+///
+/// Source: own choice ("Values with a base").
+pub fn is_unplaced<L: Lookup>(names: &L, base: Base) -> bool
     ensures { result ≡ is_unplaced (L.meanings names.now) base }
 {
     match base {
@@ -55,7 +59,9 @@ pub(crate) fn as_number<L: Lookup>(names: &L, value: Value) -> Result<u16, ExprE
     ensures { result ≡ as_number (L.meanings names.now) value }
 {
     if is_unplaced(names, value.base) {
-        return Err(ExprError { number: 8 });
+        return Err(ExprError {
+            number: BASE_NOT_ALLOWED,
+        });
     }
     Ok(counted(value))
 }

@@ -1,12 +1,18 @@
 //! Operators on values, but the dot.
 ghost use Rattle.std.specs.Prelude.{◌≡◌};
-ghost use Rattle.m51_expr.specs.Operators.{kept_under, unary, settled, beside, same_base, truth, arithmetic, class_of, base_of, of_wholes, binary};
+ghost use Rattle.m51_expr.specs.Operators.{kept_under, unary, settled, beside, same_base, truth, arithmetic, class_of};
+ghost use Rattle.m51_expr.specs.Operators.{base_of, of_wholes, binary};
 
 use crate::fault::ExprError;
 use crate::lookup::{Lookup, as_number, is_absolute, is_unplaced};
 use crate::tree::{Binary, Unary};
 use crate::value::{Part, Value, counted, is_whole, plain};
-use m51_cells::{Base, Kind};
+use m51_cells::{BASE_NOT_ALLOWED, Base, DIVISION_BY_ZERO, Kind};
+
+// A division by 0.
+const BY_ZERO: ExprError = ExprError {
+    number: DIVISION_BY_ZERO,
+};
 
 // The whole value of a base, which keeps it under one HIGH or LOW.
 fn kept_under(part: Part, value: Value) -> Option<Value>
@@ -78,6 +84,7 @@ pub(crate) fn same_base(a: Base, b: Base) -> bool
     }
 }
 
+// A truth as a number.
 fn truth(holds: bool) -> u16
     ensures { result ≡ truth holds }
 {
@@ -90,9 +97,9 @@ fn arithmetic(op: Binary, a: u16, b: u16) -> Result<u16, ExprError>
 {
     match op {
         Binary::Mul => Ok(a.wrapping_mul(b)),
-        Binary::Div if b == 0 => Err(ExprError { number: 9 }),
+        Binary::Div if b == 0 => Err(BY_ZERO),
         Binary::Div => Ok(a / b),
-        Binary::Rem if b == 0 => Err(ExprError { number: 9 }),
+        Binary::Rem if b == 0 => Err(BY_ZERO),
         Binary::Rem => Ok(a % b),
         Binary::Shl if b < 16 => Ok(a << b),
         Binary::Shr if b < 16 => Ok(a >> b),
@@ -111,6 +118,7 @@ fn arithmetic(op: Binary, a: u16, b: u16) -> Result<u16, ExprError>
     }
 }
 
+// The class of a sum, a difference or what another operator gives.
 fn class_of(op: Binary, x: Kind, y: Kind) -> Kind
     ensures { result ≡ class_of op x y }
 {
@@ -171,7 +179,9 @@ pub(crate) fn binary<L: Lookup>(
     let class = class_of(op, x.class, y.class);
     let (x, y) = (settled(names, x), settled(names, y));
     if !is_whole(x.part) || !is_whole(y.part) {
-        return Err(ExprError { number: 8 });
+        return Err(ExprError {
+            number: BASE_NOT_ALLOWED,
+        });
     }
     of_wholes(
         names,

@@ -1,7 +1,8 @@
 //! The ranks of operators.
-ghost use Rattle.std.specs.Prelude.{◌≡◌, IsSome, option_map, true};
+ghost use Rattle.std.specs.Prelude.{◌≡◌, IsSome, option_map};
 ghost use Rattle.m51_expr.specs.Tree.{tree_of};
-ghost use Rattle.m51_expr.specs.Ranks.{prefix_operator, infix_operator, prefix_of, infix_of, is_open, is_close, leaf_of, prefix_rank, infix_rank};
+ghost use Rattle.m51_expr.specs.Ranks.{prefix_operator, infix_operator, prefix_of, infix_of, leaf_of, prefix_rank};
+ghost use Rattle.m51_expr.specs.Ranks.{infix_rank};
 
 use crate::symbol::Symbol;
 use crate::tree::{Binary, Expr, Unary};
@@ -9,6 +10,7 @@ use crate::tree::{Binary, Expr, Unary};
 /// The rank of operands, which is the tightest.
 pub(crate) const OPERAND: u8 = 8;
 
+// The rank of an operator before an operand.
 fn prefix_rank(op: Unary) -> u8
     ensures { result ≡ prefix_rank op }
 {
@@ -18,6 +20,7 @@ fn prefix_rank(op: Unary) -> u8
     }
 }
 
+// The rank of an operator between two operands.
 fn infix_rank(op: Binary) -> u8
     ensures { result ≡ infix_rank op }
 {
@@ -83,29 +86,7 @@ pub(crate) fn infix_of(symbol: &Option<Symbol>, rank: u8) -> Option<Binary>
     }
 }
 
-/// Whether it is an opening parenthesis.
-pub(crate) fn is_open(symbol: &Option<Symbol>) -> bool
-    ensures open { result ≡ is_open symbol.now }
-    ensures some { result ≡ true → IsSome symbol.now }
-{
-    match symbol {
-        Some(Symbol::Open) => true,
-        _ => false,
-    }
-}
-
-/// Whether it is a closing parenthesis.
-pub(crate) fn is_close(symbol: &Option<Symbol>) -> bool
-    ensures close { result ≡ is_close symbol.now }
-    ensures some { result ≡ true → IsSome symbol.now }
-{
-    match symbol {
-        Some(Symbol::Close) => true,
-        _ => false,
-    }
-}
-
-/// The expression that a symbol is alone: a number, a name or the place of the statement.
+/// The expression that a symbol is of itself: a number, a name or the place of the statement.
 pub(crate) fn leaf_of(symbol: &Option<Symbol>) -> Option<Expr>
     ensures leaf { option_map tree_of result ≡ leaf_of symbol.now }
     ensures some { IsSome result → IsSome symbol.now }

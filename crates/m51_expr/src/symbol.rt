@@ -1,7 +1,9 @@
 //! What a token is in an expression.
-ghost use Rattle.std.specs.Prelude.{◌≡◌, ◌<◌, All, IsSome, length, option_map};
+ghost use Rattle.std.specs.Prelude.{◌≡◌, ◌<◌, All, IsSome, length, option_map, Some};
 ghost use Rattle.m51_lex.specs.Tokens.{IsWithin};
-ghost use Rattle.m51_expr.specs.Symbol.{next_character, text_value, sign_symbol, operator_of, word_symbol, symbol_of, symbol_at};
+ghost use Rattle.m51_expr.specs.Ranks.{is_open, is_close};
+ghost use Rattle.m51_expr.specs.Symbol.{next_character, text_value, sign_symbol, operator_of, word_symbol, symbol_of};
+ghost use Rattle.m51_expr.specs.Symbol.{symbol_at};
 
 use crate::tree::{Binary, Unary};
 use crate::words::is_language_word;
@@ -47,6 +49,26 @@ pub enum Symbol {
     Other,
 }
 
+impl Symbol {
+    /// Whether it is an opening parenthesis.
+    ///
+    /// Source: own choice ("Words and names").
+    pub fn is_open(&self) -> bool
+        ensures { result ≡ is_open (Some self.now) }
+    {
+        matches!(self, Symbol::Open)
+    }
+
+    /// Whether it is a closing parenthesis.
+    ///
+    /// Source: own choice ("Words and names").
+    pub fn is_close(&self) -> bool
+        ensures { result ≡ is_close (Some self.now) }
+    {
+        matches!(self, Symbol::Close)
+    }
+}
+
 // The first character of what stands between quotes, and what follows it. Two quotes stand for one.
 fn next_character(text: &[u8]) -> Option<(u8, &[u8])>
     ensures { option_map (λ c. (c.0, c.1.now)) result ≡ next_character text.now }
@@ -73,6 +95,7 @@ fn text_value(text: &[u8]) -> Option<u16>
     }
 }
 
+// What a sign is, by its character.
 fn sign_symbol(sign: u8) -> Symbol
     ensures { result ≡ sign_symbol sign }
 {

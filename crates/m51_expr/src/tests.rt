@@ -29,7 +29,12 @@ impl Lookup for OneLetter {
     ghost use Rattle.m51_cells.specs.declared.kind.Kind.TheVariants as kind;
     ghost use Rattle.m51_expr.specs.declared.value.Part.TheVariants.{Whole};
 
-    ghost meanings = { λ t. record { value = λ name. option_map (λ v. v.1) (find (λ v. v.0 == slice_index name 0) t.values); here = record { number = 0x1234; class = kind.Code; base = base.Segment 1; part = Whole }; fixed = λ s. s == 1; bitaddressable = λ s. s == 3 } };
+    ghost meanings = { λ t. record {
+      value = λ name. option_map (λ v. v.1) (find (λ v. v.0 == slice_index name 0) t.values);
+      here = record { number = 0x1234; class = kind.Code; base = base.Segment 1; part = Whole };
+      fixed = λ s. s == 1;
+      bitaddressable = λ s. s == 3;
+    } };
 
     fn value(&self, name: &Name) -> Option<Value> {
         let letter = letter_of(name);
@@ -77,7 +82,7 @@ fn names() -> OneLetter {
     }
 }
 
-// The value of a line that is an expression, or the number of its fault, which is 0 for want of memory.
+// The value of a line that is an expression, or the number of its fault, which is 0 for out of memory.
 fn answer(alloc: Global, line: &str) -> Result<Value, u8> {
     let found = match tokens(alloc, line) {
         Ok(found) => found,

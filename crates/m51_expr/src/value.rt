@@ -32,8 +32,10 @@ pub struct Value {
     pub part: Part,
 }
 
-/// A number without a base.
-pub(crate) fn plain(number: u16, class: Kind) -> Value
+/// A value of a number and a class, without a base and whole.
+///
+/// Source: own choice ("Values with a base").
+pub fn plain(number: u16, class: Kind) -> Value
     ensures { result ≡ plain number class }
 {
     Value {
@@ -54,8 +56,11 @@ pub(crate) fn is_whole(part: Part) -> bool
     }
 }
 
-/// The bit address of a bit of a byte, if it has one.
-pub(crate) fn bit_address(byte: u16, bit: u16) -> Option<u16>
+/// The bit address, from 0 to 255, of a bit of a byte: the bits 0 to 7 of the bytes 20H to 2FH, and of the multiples of
+/// 8 from 80H to 0F8H. `None` for each other byte or bit.
+///
+/// Source: family manual.
+pub fn bit_address(byte: u16, bit: u16) -> Option<u16>
     ensures { result ≡ bit_address byte bit }
 {
     if bit > 7 {
@@ -69,8 +74,11 @@ pub(crate) fn bit_address(byte: u16, bit: u16) -> Option<u16>
     }
 }
 
-/// What a value with no base or an absolute one counts as in an operator.
-pub(crate) fn counted(value: Value) -> u16
+/// What a value with no base or an absolute one counts as: its number, or that number's high byte, low byte or the
+/// address of its bit, which is 0 where it has none.
+///
+/// Source: own choice ("Values with a base").
+pub fn counted(value: Value) -> u16
     ensures { result ≡ counted value }
 {
     match value.part {

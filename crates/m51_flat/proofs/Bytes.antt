@@ -1,5 +1,5 @@
 -- Bytes and their bits.
-use Rattle.std.proofs.Common.{◌≡◌, ◌≢◌, ℕ, zero, suc, ◌+◌, ◌-◌, ◌*◌, ◌/◌, ◌%◌, ◌^◌, ◌<◌, Bool, true, false, cond, List, refl, sym, ap, subst, ◌∙◌, arith, length, get_or-set_same, get_or-set_other, ⊎_elim, pow_pos}
+use Rattle.std.proofs.Common.{◌≡◌, ◌≢◌, ℕ, zero, suc, ◌+◌, ◌-◌, ◌*◌, ◌/◌, ◌%◌, ◌^◌, ◌<◌, Bool, true, false, cond, List, Some, None, refl, sym, ap, subst, ◌∙◌, arith, length, get_or-set_same, get_or-set_other, ⊎_elim, pow_pos}
 use Rattle.std.specs.Prelude.{slice_index, slice_set, bit_and, bit_or, if◌then◌else◌, nat_eq, nat_lt}
 use Rattle.std.specs.Int.{bit_at, w8}
 use Rattle.std.proofs.Math.Arith.{mod-mul}
@@ -9,7 +9,7 @@ use Rattle.std.proofs.lemmas.Bool.Decides.{eqb_tells}
 use Rattle.m51_alu.specs.Arithmetic.{bit_of}
 use Rattle.m51_flat.specs.declared.state.Put.TheVariants.{Bit}
 use Rattle.m51_flat.specs.declared.state.Seen.TheVariants.{Value}
-use Rattle.m51_flat.specs.States.{States, Holds, Absent, on_value, answered, ram_cell, bits_seen, byte_seen, states_after}
+use Rattle.m51_flat.specs.States.{CellState, States, Holds, Absent, on_value, answered, ram_cell, bits_seen, byte_seen, state_over, states_after}
 use Rattle.m51_flat.specs.Flat.{FlatBytes, flat_cells}
 use Rattle.m51_flat.specs.Sfr.{with_bit}
 use Rattle.m51_flat.proofs.Flat.{same_states}
@@ -114,8 +114,13 @@ ram_with_bit ram address b n h len =
     rw t.0 (ap (λ x. cond (nat_lt n 2048) (Holds x) Absent) (other_cell ram address b n h len t.1)))
     (eqb_tells n (256 + address))
 
+-- a cell that is written where a test passes
+over_if : (b : Bool) (v : ℕ) (old : CellState) → cond b (Holds v) old ≡ state_over (cond b (Some v) None) old
+over_if true v old = refl
+over_if false v old = refl
+
 -- the cells of flat memory after a bit is written
 pub flat_bit : (m : FlatBytes) (address : ℕ) (b : Bool) → address < 256 → length m.ram ≡ 256 → flat_cells (record { ram = set_bit m.ram address b; xram = m.xram }) ≡ states_after (Bit address b) (flat_cells m)
 flat_bit m address b h len =
     same_states (flat_cells (record { ram = set_bit m.ram address b; xram = m.xram })) (states_after (Bit address b) (flat_cells m))
-    (λ n. ram_with_bit m.ram address b n h len) (λ n. refl)
+    (λ n. ram_with_bit m.ram address b n h len ∙ over_if (nat_eq n (256 + address)) (bit_of b) ((flat_cells m).ram n)) (λ n. refl)

@@ -17,13 +17,13 @@ Names s r = IfErr (value_or_missing r) (IsMissing s)
 
 ram_names : (s : States) (n : ℕ) (c : CellState) → s.ram n ≡ c → n < 2048 → Names s (answered (ram_cell n) c)
 ram_names s n (Holds v) e h = tt
-ram_names s n Absent e h = (h, e)
-ram_names s n Fresh e h = (h, e)
+ram_names s n Absent e h = ((tt, h), e)
+ram_names s n Fresh e h = ((tt, h), e)
 
 xram_names : (s : States) (n : ℕ) (c : CellState) → s.xram n ≡ c → n < 65536 → Names s (answered (xram_cell n) c)
 xram_names s n (Holds v) e h = tt
-xram_names s n Absent e h = (h, e)
-xram_names s n Fresh e h = (h, e)
+xram_names s n Absent e h = ((tt, h), e)
+xram_names s n Fresh e h = ((tt, h), e)
 
 more_names : (s : States) (first rest : Seen) → Names s first → Names s rest → Names s (on_value first (λ b. on_value rest (λ v. Value (b + 2 * v))))
 more_names s (Value b) (Value v) h k = tt
@@ -61,14 +61,14 @@ first_is_barred : (barred : Cell → Bool) (k n : ℕ) → n + k ≤ 2048 → If
 first_is_barred barred zero n h = tt
 first_is_barred barred (suc k) n h =
     let below : n < 2048 = omega arith in
-    tested barred (ram_cell n) (barred (ram_cell n)) (first_barred barred k (n + 1)) refl (λ e. (below, e)) (first_is_barred barred k (n + 1) (omega arith))
+    tested barred (ram_cell n) (barred (ram_cell n)) (first_barred barred k (n + 1)) refl (λ e. ((tt, below), e)) (first_is_barred barred k (n + 1) (omega arith))
 
 shut_is_barred : (barred : Cell → Bool) (put : Put) → Fits put → IfSome (shut_of barred put) (IsBarred barred)
 unfolding shut_of
 shut_is_barred barred Nothing h = tt
 shut_is_barred barred (Byte address value) h = first_is_barred barred 8 (8 * address) (omega arith)
 shut_is_barred barred (Bit address value) h = first_is_barred barred 1 (256 + address) (omega arith)
-shut_is_barred barred (Xbyte address value) h = tested barred (xram_cell address) (barred (xram_cell address)) None refl (λ e. (h, e)) tt
+shut_is_barred barred (Xbyte address value) h = tested barred (xram_cell address) (barred (xram_cell address)) None refl (λ e. ((tt, h), e)) tt
 
 -- the lowest barred cell of a put exists
 pub shut_barred : (barred : Cell → Bool) (put : Put) (r : Option Cell) → Fits put → r ≡ shut_of barred put → IfSome r (IsBarred barred)

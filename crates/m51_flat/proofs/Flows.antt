@@ -24,7 +24,7 @@ use Rattle.m51_flat.specs.Parts.{branched, with_carry, with_dptr, with_pair, wit
 use Rattle.m51_flat.specs.Arithmetic.{assigned, changed, combined, digits_exchanged, exchanged, summed, with_turn}
 use Rattle.m51_flat.specs.Moves.{code_loaded, external_loaded, external_stored, popped, pushed}
 use Rattle.m51_flat.specs.Bits.{bit_flipped, branched_on_bit, carry_merged, tested_and_cleared}
-use Rattle.m51_flat.specs.Transfers.{called, compared, counted_down, returned}
+use Rattle.m51_flat.specs.Transfers.{called, compared, counted_down, returned, stacked}
 use Rattle.m51_flat.specs.Actions.{action_of}
 use Rattle.m51_flat.specs.Meaning.{plan, plan_of, started}
 use Rattle.m51_flat.specs.Laws.{Always, FlowIsKept, Follows, GoesOn, IsCall, next_address}
@@ -172,7 +172,7 @@ other_place : (n : ℕ) → n < 80 → n ≢ 80
 other_place n h e = omega (arith, h, e)
 
 -- SP reads as it was written
-sp_written : (v : ℕ) (e : Effect) → length e.cpu.regs ≡ 128 → latch (with_sfr sp v e).cpu sp ≡ v
+pub sp_written : (v : ℕ) (e : Effect) → length e.cpu.regs ≡ 128 → latch (with_sfr sp v e).cpu sp ≡ v
 unfolding with_sfr latch has_register with_parity
 sp_written v e len =
     let regs = slice_set e.cpu.regs 1 v in
@@ -184,8 +184,8 @@ latch_of : (cpu : Cpu) (pc a : ℕ) → latch (record cpu { pc = pc }) a ≡ lat
 unfolding latch
 latch_of cpu pc a = refl
 
-called_calls : (e : Effect) (target : ℕ) → length e.cpu.regs ≡ 128 → IsCall e.cpu.pc (latch e.cpu sp) (called e target)
-unfolding called
+pub called_calls : (e : Effect) (target : ℕ) → length e.cpu.regs ≡ 128 → IsCall e.cpu.pc (latch e.cpu sp) (called e target)
+unfolding called stacked
 called_calls e target len =
     let top = latch e.cpu sp in
     let raised = with_sfr sp ((top + 2) % 256) e in
@@ -196,7 +196,7 @@ called_calls e target len =
       stack = latch_of raised.cpu target sp ∙ sp_written ((top + 2) % 256) e len;
     }
 
-returns_by : ReturnFrom → Flow
+unfoldable pub returns_by : ReturnFrom → Flow
 returns_by Subroutine = FlowRet
 returns_by Interrupt = FlowReti
 
@@ -218,7 +218,7 @@ returned_returns next e Interrupt len = λ high low.
     }
 
 -- the flow of an action
-abbrev action_flow : Action → Flow
+abbrev pub action_flow : Action → Flow
 action_flow (JumpTo target) = Branch
 action_flow (JumpNear address) = Branch
 action_flow (JumpBy rel) = Branch
@@ -268,7 +268,7 @@ plan_flow image ext e (CallTo target) len h = called_calls e _ len
 plan_flow image ext e (CallNear address) len h = called_calls e _ len
 plan_flow image ext e (Return from) len h = returned_returns e.cpu.pc e from len
 
-same_flow : (instr : Instr) → action_flow (action_of instr) ≡ flow_of instr
+pub same_flow : (instr : Instr) → action_flow (action_of instr) ≡ flow_of instr
 unfolding returns_by
 same_flow Nop = refl
 same_flow _ = refl

@@ -7,3 +7,7 @@ pub mod Flows
 pub mod BitLaws
 pub mod Causes
 pub mod Whole
+pub mod RegisterLaws
+pub mod Levels
+pub mod Devices
+pub mod Done

@@ -1,6 +1,7 @@
 -- From what holds of every plan to what holds of every outcome.
 use Rattle.std.proofs.Common.{◌≡◌, ℕ, Bool, true, false, cond, List, length, Option, Some, None, Result, Ok, Err, refl, ap, ◌∙◌, sym, subst}
 use Rattle.m51_cells.specs.declared.cell.Cell.{Cell}
+use Rattle.m51_cells.specs.Outcome.{and_then}
 use Rattle.m51_isa.specs.declared.instr.Instr.{Instr}
 use Rattle.m51_flat.specs.declared.state.Cpu.{Cpu}
 use Rattle.m51_flat.specs.declared.state.Pins.{Pins}
@@ -10,7 +11,7 @@ use Rattle.m51_flat.specs.declared.state.Missing.TheVariants.{Outside as Missing
 use Rattle.m51_flat.specs.declared.state.Outcome.{Outcome}
 use Rattle.m51_flat.specs.declared.state.Outcome.TheVariants.{Done, Outside, Unset, PowerDown}
 use Rattle.m51_flat.specs.States.{States, shut_of}
-use Rattle.m51_flat.specs.Reads.{Reads, Ends, Read, CellMap, Agrees, answer, access_seen, and_then, value_or_missing}
+use Rattle.m51_flat.specs.Reads.{Reads, Ends, Read, CellMap, Agrees, answer, access_seen, value_or_missing}
 use Rattle.m51_flat.specs.Sfr.{flag, has_register, latch, pcon, sp}
 use Rattle.m51_flat.specs.Actions.{action_of}
 use Rattle.m51_flat.specs.Meaning.{concluded, outcome_of, outcome_over, plan_of, started, unless_shut}
@@ -18,7 +19,9 @@ use Rattle.m51_flat.specs.Laws.{Always, Follows, HasParity, IfDone, next_address
 use Rattle.m51_flat.specs.Reset.{reset_cpu}
 use Rattle.m51_flat.proofs.Readings.{readings}
 use Rattle.m51_flat.proofs.Parity.{IsRight, plan_right}
+use Rattle.m51_flat.specs.LevelLaws.{LevelsFollow, may_hold_off}
 use Rattle.m51_flat.proofs.Flows.{flow_is_kept}
+use Rattle.m51_flat.proofs.Levels.{levels_are_kept}
 use Rattle.m51_isa.specs.Table.{flow_of}
 
 -- what an instruction comes to over a store, it comes to over every map that agrees with it
@@ -87,3 +90,10 @@ keeps_parity r cpu s barred instr image ext e len h = subst (λ r. IfDone r (λ 
 
 pub keeps_control : (r : Outcome) (cpu : Cpu) (s : States) (barred : Cell → Bool) (instr : Instr) (image : List ℕ) (ext : Pins) → r ≡ outcome_of cpu s barred instr image ext → length cpu.regs ≡ 128 → IfDone r (λ e. Follows (flow_of instr) (next_address cpu instr) (latch cpu sp) e)
 keeps_control r cpu s barred instr image ext e len = subst (λ r. IfDone r (λ e. Follows (flow_of instr) (next_address cpu instr) (latch cpu sp) e)) (sym e) (outcome_control cpu s barred instr image ext len)
+
+-- so are the levels in progress
+pub keeps_levels : (r : Outcome) (cpu : Cpu) (s : States) (barred : Cell → Bool) (instr : Instr) (image : List ℕ) (ext : Pins) → r ≡ outcome_of cpu s barred instr image ext → IfDone r (λ e. LevelsFollow (flow_of instr) (may_hold_off instr) cpu e)
+unfolding outcome_of
+keeps_levels r cpu s barred instr image ext e =
+    subst (λ r. IfDone r (λ e. LevelsFollow (flow_of instr) (may_hold_off instr) cpu e)) (sym e)
+    (always_done (λ e. LevelsFollow (flow_of instr) (may_hold_off instr) cpu e) barred s (plan_of cpu instr image ext) (levels_are_kept cpu instr image ext))

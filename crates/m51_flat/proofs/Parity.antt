@@ -21,7 +21,7 @@ use Rattle.m51_flat.specs.Parts.{branched, jumped, with_carry, with_dptr, with_p
 use Rattle.m51_flat.specs.Arithmetic.{assigned, changed, combined, digits_exchanged, exchanged, summed, with_turn}
 use Rattle.m51_flat.specs.Moves.{code_loaded, external_loaded, external_stored, popped, pushed}
 use Rattle.m51_flat.specs.Bits.{bit_flipped, branched_on_bit, carry_merged, tested_and_cleared}
-use Rattle.m51_flat.specs.Transfers.{called, compared, counted_down, returned}
+use Rattle.m51_flat.specs.Transfers.{called, compared, counted_down, returned, stacked}
 use Rattle.m51_flat.specs.Meaning.{plan}
 use Rattle.m51_flat.specs.Laws.{Always}
 use Rattle.m51_alu.specs.declared.sum.Sum.{Sum}
@@ -179,8 +179,8 @@ code_right : (image : List ℕ) (e : Effect) (base : _) → IsRight e.cpu → Is
 unfolding code_loaded
 code_right image e base r = search (rules, sfr_right)
 
-called_right : (e : Effect) (target : ℕ) → IsRight e.cpu → IsRight (called e target).cpu
-unfolding called
+pub called_right : (e : Effect) (target : ℕ) → IsRight e.cpu → IsRight (called e target).cpu
+unfolding called stacked
 called_right e target r = let s = sfr_right sp ((latch e.cpu sp + 2) % 256) e r in record { len = s.len; parity = s.parity }
 
 returned_right : (e : Effect) (from : ReturnFrom) → IsRight e.cpu → AlwaysRight (returned e from)

@@ -3,9 +3,10 @@ use Rattle.std.proofs.Common.{◌≡◌, ℕ, zero, suc, ◌+◌, ◌*◌, List,
 use Rattle.m51_flat.specs.declared.state.Seen.{Seen}
 use Rattle.m51_flat.specs.declared.state.Seen.TheVariants.{Value, Outside, Unset}
 use Rattle.m51_cells.specs.declared.cell.Cell.{Cell}
+use Rattle.m51_cells.specs.Outcome.{and_then}
 use Rattle.m51_flat.specs.declared.state.Missing.{Missing}
 use Rattle.m51_flat.specs.States.{States, CellState, Holds, Absent, Fresh, answered, on_value, bits_seen, byte_seen, ram_cell, xram_cell}
-use Rattle.m51_flat.specs.Reads.{Access, ByteAt, BitAt, XbyteAt, Reads, Ends, Read, then_read, and_then, value_or_missing, access_seen, answer, CellMap, bits_in, value_in, result_over, accesses_over, first_missing, goes_on, up_to_missing, Agrees}
+use Rattle.m51_flat.specs.Reads.{Access, ByteAt, BitAt, XbyteAt, Reads, Ends, Read, then_read, value_or_missing, access_seen, answer, CellMap, bits_in, value_in, result_over, accesses_over, first_missing, goes_on, up_to_missing, Agrees}
 
 bind_step : {A B : Type 0} (r : Result ℕ Missing) (f : ℕ → Result A Missing) (g h : A → Result B Missing) (k : ℕ → Result B Missing) → ((v : ℕ) → k v ≡ and_then (f v) g) → and_then r k ≡ and_then (and_then r f) g
 bind_step (Ok v) f g h k e = e v

@@ -5,6 +5,8 @@ use Rattle.std.proofs.lemmas.Bool.Decides.{leb_tells}
 use Rattle.m51_cells.specs.declared.cell.Cell.{Cell}
 use Rattle.m51_cells.specs.declared.cell.Space.{Space}
 use Rattle.m51_cells.specs.declared.cell.Space.TheVariants.{Ram, Xram, Code}
+use Rattle.m51_cells.specs.Cells.{IsDataCell}
+use Rattle.m51_cells.specs.Outcome.{and_then}
 use Rattle.m51_isa.specs.declared.instr.Instr.{Instr}
 use Rattle.m51_flat.specs.declared.state.Cpu.{Cpu}
 use Rattle.m51_flat.specs.declared.state.Pins.{Pins}
@@ -15,9 +17,9 @@ use Rattle.m51_flat.specs.declared.state.Missing.{Missing}
 use Rattle.m51_flat.specs.declared.state.Missing.TheVariants.{Outside as MissingOutside, Unset as MissingUnset}
 use Rattle.m51_flat.specs.declared.state.Outcome.TheVariants.{Outside, Unset}
 use Rattle.m51_flat.specs.States.{AreCells, CellState, Holds, Absent, Fresh, States, first_barred, ram_cell, shut_of, xram_cell}
-use Rattle.m51_flat.specs.Reads.{Access, Agrees, CellMap, access_seen, accesses_over, and_then, first_missing, result_over, value_or_missing}
+use Rattle.m51_flat.specs.Reads.{Access, Agrees, CellMap, access_seen, accesses_over, first_missing, result_over, value_or_missing}
 use Rattle.m51_flat.specs.Meaning.{allowed, concluded, outcome_of, outcome_over, plan_of, unless_shut}
-use Rattle.m51_flat.specs.Causes.{IsCause, IsCellAt, IsWhole, state_at, unless_down}
+use Rattle.m51_flat.specs.Causes.{IsCause, IsWhole, state_at, unless_down}
 use Rattle.m51_flat.proofs.Outcomes.{outcomes_agree}
 
 holds_same : (c : CellState) (v w : ℕ) → c ≡ Holds v → c ≡ Holds w → w ≡ v
@@ -40,10 +42,10 @@ whole_agrees s barred m cells w = record {
 }
 
 -- each cell that exists holds a value
-always_held : (s : States) (barred : Cell → Bool) (m : CellMap) → IsWhole s barred m → (space : Space) (at : ℕ) → IsCellAt space at → (v : ℕ) × (state_at s space at ≡ Holds v)
-always_held s barred m w Ram at h = (m.ram at, w.ram at h)
-always_held s barred m w Xram at h = (m.xram at, w.xram at h)
-always_held s barred m w Code at h = absurd h
+always_held : (s : States) (barred : Cell → Bool) (m : CellMap) → IsWhole s barred m → (space : Space) (at : ℕ) → IsDataCell (record { space = space; at = at }) → (v : ℕ) × (state_at s space at ≡ Holds v)
+always_held s barred m w Ram at h = (m.ram at, w.ram at h.1)
+always_held s barred m w Xram at h = (m.xram at, w.xram at h.1)
+always_held s barred m w Code at h = absurd h.0
 
 not_absent : (c : CellState) → (v : ℕ) × (c ≡ Holds v) → c ≡ Absent → ⊥
 not_absent c (v, e) f = cc (e, f)

@@ -13,7 +13,8 @@ use Rattle.m51_flat.specs.declared.actions.Logic.TheVariants.{Or, And, Xor}
 use Rattle.m51_flat.specs.declared.actions.Count.{Count}
 use Rattle.m51_flat.specs.declared.actions.Count.TheVariants.{Increment, Decrement}
 use Rattle.m51_flat.specs.declared.actions.Turning.{Turning}
-use Rattle.m51_flat.specs.declared.actions.Turning.TheVariants.{RotateRight, RotateRightCarry, RotateLeft, RotateLeftCarry, SwapDigits, Complement, Adjust}
+use Rattle.m51_flat.specs.declared.actions.Turning.TheVariants.{RotateRight, RotateRightCarry, RotateLeft}
+use Rattle.m51_flat.specs.declared.actions.Turning.TheVariants.{RotateLeftCarry, SwapDigits, Complement, Adjust}
 use Rattle.m51_flat.specs.Reads.{Reads, Ends, then_read}
 use Rattle.m51_flat.specs.Sfr.{acc, latch, with_sfr}
 use Rattle.m51_flat.specs.Operands.{location_of, latch_at, found_at, operand_value, with_location}

@@ -3,7 +3,8 @@ use Rattle.std.specs.Prelude.{◌≡◌, ◌≢◌, ℕ, ◌+◌, ◌%◌, ◌<�
 use Rattle.std.specs.Int.{bit_at}
 use Rattle.m51_alu.specs.declared.sum.Sum.{Sum}
 use Rattle.m51_alu.specs.Arithmetic.{bit_of}
-use Rattle.m51_flat.specs.declared.actions.Turning.TheVariants.{RotateRight, RotateRightCarry, RotateLeft, RotateLeftCarry, SwapDigits, Complement}
+use Rattle.m51_flat.specs.declared.actions.Turning.TheVariants.{RotateRight, RotateRightCarry, RotateLeft}
+use Rattle.m51_flat.specs.declared.actions.Turning.TheVariants.{RotateLeftCarry, SwapDigits, Complement}
 use Rattle.m51_flat.specs.Sfr.{with_bit}
 use Rattle.m51_flat.specs.Parts.{with_flags}
 use Rattle.m51_flat.specs.Arithmetic.{turned}

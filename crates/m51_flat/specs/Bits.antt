@@ -6,7 +6,8 @@ use Rattle.m51_flat.specs.declared.state.Effect.{Effect}
 use Rattle.m51_flat.specs.declared.actions.CarryChange.{CarryChange}
 use Rattle.m51_flat.specs.declared.actions.CarryChange.TheVariants.{CarryClear, CarrySet, CarryFlip}
 use Rattle.m51_flat.specs.declared.actions.CarryMerge.{CarryMerge}
-use Rattle.m51_flat.specs.declared.actions.CarryMerge.TheVariants.{CarryLoad, CarryAnd, CarryAndNot, CarryOr, CarryOrNot}
+use Rattle.m51_flat.specs.declared.actions.CarryMerge.TheVariants.{CarryLoad, CarryAnd, CarryAndNot, CarryOr}
+use Rattle.m51_flat.specs.declared.actions.CarryMerge.TheVariants.{CarryOrNot}
 use Rattle.m51_flat.specs.declared.actions.BitSource.{BitSource}
 use Rattle.m51_flat.specs.declared.actions.BitSource.TheVariants.{One, Zero, FromCarry}
 use Rattle.m51_flat.specs.declared.actions.BitTest.{BitTest}

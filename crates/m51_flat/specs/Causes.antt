@@ -3,6 +3,7 @@ use Rattle.std.specs.Prelude.{◌≡◌, ◌⊎◌, ℕ, ◌<◌, Bool, true, fa
 use Rattle.m51_cells.specs.declared.cell.Space.{Space}
 use Rattle.m51_cells.specs.declared.cell.Space.TheVariants.{Ram, Xram, Code}
 use Rattle.m51_cells.specs.declared.cell.Cell.{Cell}
+use Rattle.m51_cells.specs.Cells.{IsDataCell}
 use Rattle.m51_flat.specs.declared.state.Effect.{Effect}
 use Rattle.m51_flat.specs.declared.state.Missing.{Missing}
 use Rattle.m51_flat.specs.declared.state.Missing.TheVariants.{Outside as MissingOutside, Unset as MissingUnset}
@@ -12,12 +13,6 @@ use Rattle.m51_flat.specs.States.{CellState, States, Holds, Absent, Fresh}
 use Rattle.m51_flat.specs.Reads.{CellMap}
 use Rattle.m51_flat.specs.Sfr.{flag, pcon}
 
--- internal RAM has 2,048 cells, and external memory 65,536
-abbrev pub IsCellAt : Space → ℕ → Type 0
-IsCellAt Ram at = at < 2048
-IsCellAt Xram at = at < 65536
-IsCellAt Code at = ⊥
-
 -- what a cell of that memory holds; program memory is no part of a store
 abbrev pub state_at : States → Space → ℕ → CellState
 state_at s Ram at = s.ram at
@@ -26,7 +21,7 @@ state_at s Code at = Absent
 
 -- the cell exists, and this is what it holds
 abbrev pub IsCell : States → Cell → CellState → Type 0
-IsCell s c state = IsCellAt c.space c.at × (state_at s c.space c.at ≡ state)
+IsCell s c state = IsDataCell c × (state_at s c.space c.at ≡ state)
 
 -- a read without a value names a cell that is outside, or was never written
 abbrev pub IsMissing : States → Missing → Type 0
@@ -35,7 +30,7 @@ IsMissing s (MissingUnset c) = IsCell s c Fresh
 
 -- the cell exists and may not be written
 abbrev pub IsBarred : (Cell → Bool) → Cell → Type 0
-IsBarred barred c = IsCellAt c.space c.at × (barred c ≡ true)
+IsBarred barred c = IsDataCell c × (barred c ≡ true)
 
 -- so does an outcome that is no effect: its cell is outside or barred, or was never written
 abbrev pub IsCause : States → (Cell → Bool) → Outcome → Type 0

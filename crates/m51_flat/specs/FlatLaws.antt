@@ -26,7 +26,9 @@ past_end c inside e = ap (λ inside. if inside then c else Absent) e
 
 pub flat_are_cells : (m : FlatBytes) → AreCells (flat_cells m)
 flat_are_cells m = record {
-  bits = λ n v e. bit_inside (nat_lt n 2048) (bit_at (slice_index m.ram (n / 8)) (n % 8)) v (bit_at-lt (slice_index m.ram (n / 8)) (n % 8)) e;
+  bits = λ n v e.
+      let byte = slice_index m.ram (n / 8) in
+      bit_inside (nat_lt n 2048) (bit_at byte (n % 8)) v (bit_at-lt byte (n % 8)) e;
   ram_end = λ n h. past_end (Holds (bit_at (slice_index m.ram (n / 8)) (n % 8))) (nat_lt n 2048) (le-ltb n 2048 h);
   xram_end = λ n h. past_end (Holds (slice_index m.xram n)) (nat_lt n 65536) (le-ltb n 65536 h);
 }

@@ -3,7 +3,8 @@ use Rattle.std.specs.Prelude.{◌≡◌, ℕ, ◌+◌, ◌/◌, ◌%◌, ◌⊎�
 use Rattle.std.specs.Int.{bit_at}
 use Rattle.m51_alu.specs.Arithmetic.{bit_of, parity_of}
 use Rattle.m51_isa.specs.declared.instr.Flow.{Flow}
-use Rattle.m51_isa.specs.declared.instr.Flow.TheVariants.{Next as FlowNext, Branch, Call as FlowCall, Ret as FlowRet, Reti as FlowReti}
+use Rattle.m51_isa.specs.declared.instr.Flow.TheVariants.{Next as FlowNext, Branch, Call as FlowCall, Ret as FlowRet}
+use Rattle.m51_isa.specs.declared.instr.Flow.TheVariants.{Reti as FlowReti}
 use Rattle.m51_isa.specs.declared.instr.Instr.{Instr}
 use Rattle.m51_isa.specs.Table.{flow_of, length_of}
 use Rattle.m51_flat.specs.declared.state.Cpu.{Cpu}
@@ -15,7 +16,8 @@ use Rattle.m51_flat.specs.declared.state.Effect.{Effect}
 use Rattle.m51_flat.specs.declared.state.Outcome.{Outcome}
 use Rattle.m51_flat.specs.declared.state.Outcome.TheVariants.{Done}
 use Rattle.m51_flat.specs.States.{States}
-use Rattle.m51_flat.specs.Reads.{Reads, Ends, Read, CellMap, Agrees, answer, accesses_over, result_over, first_missing, up_to_missing}
+use Rattle.m51_flat.specs.Reads.{Reads, Ends, Read, CellMap, Agrees, answer, accesses_over, result_over, first_missing}
+use Rattle.m51_flat.specs.Reads.{up_to_missing}
 use Rattle.m51_flat.specs.Sfr.{acc, psw, sp, latch}
 use Rattle.m51_flat.specs.Meaning.{plan_of}
 

@@ -1,6 +1,7 @@
 pub mod States
 pub mod Reads
 pub mod Sfr
+pub mod Flags
 pub mod Operands
 pub mod Parts
 pub mod Actions
@@ -15,3 +16,7 @@ pub mod Reset
 pub mod Causes
 pub mod Laws
 pub mod BitLaws
+pub mod DeviceLaws
+pub mod Vectors
+pub mod OutcomeLaws
+pub mod LevelLaws

@@ -14,7 +14,13 @@ use Rattle.m51_flat.specs.declared.state.Missing.TheVariants.{Outside as Missing
 use Rattle.m51_flat.specs.declared.state.Outcome.{Outcome}
 use Rattle.m51_flat.specs.declared.state.Outcome.TheVariants.{Done, Outside, Unset, PowerDown}
 use Rattle.m51_flat.specs.declared.actions.Action.{Action}
-use Rattle.m51_flat.specs.declared.actions.Action.TheVariants.{Skip, Assign, Accumulate, Combine, Change, Turn, Multiply, Divide, Exchange, ExchangeDigit, LoadDptr, AdvanceDptr, LoadExternal, StoreExternal, LoadCode, Push, Pop, ChangeCarry, CarryWith, StoreBit, FlipBit, JumpTo, JumpNear, JumpBy, JumpIndirect, BranchOn, BranchOnBit, TestAndClear, Compare, CountDown, CallTo, CallNear, Return}
+use Rattle.m51_flat.specs.declared.actions.Action.TheVariants.{Skip, Assign, Accumulate, Combine, Change, Turn}
+use Rattle.m51_flat.specs.declared.actions.Action.TheVariants.{Multiply, Divide, Exchange, ExchangeDigit, LoadDptr}
+use Rattle.m51_flat.specs.declared.actions.Action.TheVariants.{AdvanceDptr, LoadExternal, StoreExternal, LoadCode, Push}
+use Rattle.m51_flat.specs.declared.actions.Action.TheVariants.{Pop, ChangeCarry, CarryWith, StoreBit, FlipBit, JumpTo}
+use Rattle.m51_flat.specs.declared.actions.Action.TheVariants.{JumpNear, JumpBy, JumpIndirect, BranchOn, BranchOnBit}
+use Rattle.m51_flat.specs.declared.actions.Action.TheVariants.{TestAndClear, Compare, CountDown, CallTo, CallNear}
+use Rattle.m51_flat.specs.declared.actions.Action.TheVariants.{Return}
 use Rattle.m51_flat.specs.Actions.{action_of}
 use Rattle.m51_flat.specs.States.{States, shut_of}
 use Rattle.m51_flat.specs.Reads.{Reads, Ends, CellMap, answer, accesses_over, result_over, first_missing}
@@ -83,11 +89,13 @@ abbrev pub unless_shut : Option Cell → Outcome → Outcome
 unless_shut None outcome = outcome
 unless_shut (Some c) outcome = Outside c
 
+-- the lowest cell that may not be written of the first put, then of the second, or else this outcome
+abbrev pub unless_barred : (Cell → Bool) → Effect → Outcome → Outcome
+unless_barred barred e outcome = unless_shut (shut_of barred e.first) (unless_shut (shut_of barred e.second) outcome)
+
 -- an effect whose puts may be written and that does not power down
 abbrev pub allowed : (Cell → Bool) → Effect → Outcome
-allowed barred e =
-    unless_shut (shut_of barred e.first) (unless_shut (shut_of barred e.second)
-    (if flag e.cpu pcon 1 then PowerDown else Done e))
+allowed barred e = unless_barred barred e (if flag e.cpu pcon 1 then PowerDown else Done e)
 
 -- the first read that has no value, or else the effect where it is allowed
 abbrev pub concluded : (Cell → Bool) → Result Effect Missing → Outcome

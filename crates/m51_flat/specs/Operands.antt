@@ -51,7 +51,8 @@ byte_of_bit n = n - n % 8
 
 -- a bit for an operand that is changed: of a port that of its latch
 unfoldable pub bit_latch_at : Cpu → ℕ → Reads ℕ
-bit_latch_at cpu n = if nat_lt n 0x80 then Read (BitAt n) (λ v. Ends v) else Ends (bit_at (latch cpu (byte_of_bit n)) (n % 8))
+bit_latch_at cpu n =
+    if nat_lt n 0x80 then Read (BitAt n) (λ v. Ends v) else Ends (bit_at (latch cpu (byte_of_bit n)) (n % 8))
 
 -- what a read finds in a bit: at a port the level of its pin
 unfoldable pub bit_found_at : Cpu → Pins → ℕ → Reads ℕ

@@ -28,7 +28,8 @@ with_sum s e = with_sfr acc s.value (with_sfr psw (with_flags s (latch e.cpu psw
 
 -- A, B and OV after MUL or DIV, with CY cleared
 unfoldable pub with_pair : ℕ × ℕ × Bool → Effect → Effect
-with_pair p e = with_sfr acc p.0 (with_sfr breg p.1 (with_sfr psw (with_bit (with_bit (latch e.cpu psw) 7 false) 2 p.2) e))
+with_pair p e =
+    with_sfr acc p.0 (with_sfr breg p.1 (with_sfr psw (with_bit (with_bit (latch e.cpu psw) 7 false) 2 p.2) e))
 
 -- DPTR
 unfoldable pub dptr_of : Cpu → ℕ

@@ -1,5 +1,6 @@
 -- What an instruction reads, in order, and what it comes to: a tree of reads, over a store and over a map.
 use Rattle.std.specs.Prelude.{◌≡◌, ℕ, zero, suc, ◌+◌, ◌*◌, List, [], ◌∷◌, Result, Ok, Err}
+use Rattle.m51_cells.specs.Outcome.{and_then}
 use Rattle.m51_flat.specs.declared.state.Seen.{Seen}
 use Rattle.m51_flat.specs.declared.state.Seen.TheVariants.{Value, Outside as SeenOutside, Unset as SeenUnset}
 use Rattle.m51_flat.specs.declared.state.Missing.{Missing}
@@ -33,11 +34,6 @@ abbrev pub value_or_missing : Seen → Result ℕ Missing
 value_or_missing (Value v) = Ok v
 value_or_missing (SeenOutside c) = Err (Outside c)
 value_or_missing (SeenUnset c) = Err (Unset c)
-
--- goes on with a value, or answers why there is none
-abbrev pub and_then : {A B : Type 0} → Result A Missing → (A → Result B Missing) → Result B Missing
-and_then (Ok v) go = go v
-and_then (Err e) go = Err e
 
 -- over a store: the result, or the answer to the first read that has no value
 abbrev pub answer : {A : Type 0} → States → Reads A → Result A Missing

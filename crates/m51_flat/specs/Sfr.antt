@@ -1,5 +1,6 @@
 -- The special function registers, from the family manual: their addresses, what a read finds and what a write changes.
-use Rattle.std.specs.Prelude.{ℕ, ◌-◌, ◌^◌, Bool, true, false, ◌||◌, ◌==◌, if◌then◌else◌, Option, Some, None, List, [], ◌∷◌, slice_index, slice_set, bit_and, bit_or}
+use Rattle.std.specs.Prelude.{ℕ, ◌-◌, ◌^◌, Bool, true, false, ◌||◌, ◌==◌, if◌then◌else◌, Option, Some, None, List, []}
+use Rattle.std.specs.Prelude.{◌∷◌, slice_index, slice_set, bit_and, bit_or}
 use Rattle.std.specs.Option.{option_or}
 use Rattle.std.specs.Int.{bit_at}
 use Rattle.m51_alu.specs.Arithmetic.{parity_of}
@@ -103,7 +104,8 @@ has_register a = is_one_of sfr_addresses a
 -- the number of the port whose latch stands there
 unfoldable pub port_of : ℕ → Option ℕ
 port_of a =
-    if a == p0 then Some 0 else (if a == p1 then Some 1 else (if a == p2 then Some 2 else (if a == p3 then Some 3 else None)))
+    if a == p0 then Some 0 else (if a == p1 then Some 1 else (
+    if a == p2 then Some 2 else (if a == p3 then Some 3 else None)))
 
 -- what stands in a register; an address without one reads 0
 unfoldable pub latch : Cpu → ℕ → ℕ
@@ -126,13 +128,22 @@ unfoldable pub with_bit : ℕ → ℕ → Bool → ℕ
 with_bit byte k true = bit_or byte (2 ^ k)
 with_bit byte k false = bit_and byte (255 - 2 ^ k)
 
+-- a device stores a value in a register: no port is told, and no interrupt is held off
+unfoldable pub with_latch : Cpu → ℕ → ℕ → Cpu
+with_latch cpu a v = if has_register a then record cpu { regs = slice_set cpu.regs (a - 0x80) v } else cpu
+
+-- a device writes one bit of a register
+unfoldable pub with_flag : Cpu → ℕ → ℕ → Bool → Cpu
+with_flag cpu a k b = with_latch cpu a (with_bit (latch cpu a) k b)
+
 -- bit 0 of PSW is made the parity of ACC
 unfoldable pub with_parity : List ℕ → List ℕ
 with_parity regs =
     slice_set regs (psw - 0x80) (with_bit (slice_index regs (psw - 0x80)) 0 (parity_of (slice_index regs (acc - 0x80))))
 
--- a register is written: SBUF hands on the byte to be sent and keeps the received one, and an address without a register
--- ignores it; a port that was written is told by its number, and a write of IE or IP holds interrupts off for a step
+-- a register is written: SBUF hands on the byte to be sent and keeps the received one, and an address without a
+-- register ignores it; a port that was written is told by its number, and a write of IE or IP holds interrupts off for
+-- a step
 unfoldable pub with_sfr : ℕ → ℕ → Effect → Effect
 with_sfr a v e =
     if a == sbuf then record e { sbuf = Some v } else (

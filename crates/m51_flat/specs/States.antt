@@ -1,8 +1,10 @@
--- What the cells of a store hold, what a read of them answers, which of them a put may write, and what it makes of them.
-use Rattle.std.specs.Prelude.{◌≡◌, ℕ, zero, suc, ◌+◌, ◌*◌, ◌/◌, ◌%◌, ◌<◌, ◌≤◌, Bool, Option, Some, None, nat_eq, if◌then◌else◌}
+-- What the cells of a store hold, what a read of them answers, what a put writes, and which cells it may write.
+use Rattle.std.specs.Prelude.{◌≡◌, ℕ, zero, suc, ◌+◌, ◌*◌, ◌/◌, ◌%◌, ◌<◌, ◌≤◌, Bool, Option, Some, None, nat_eq}
+use Rattle.std.specs.Prelude.{if◌then◌else◌}
 use Rattle.std.specs.Int.{bit_at}
 use Rattle.m51_alu.specs.Arithmetic.{bit_of}
-use Rattle.m51_cells.specs.declared.cell.Space.TheVariants.{Ram, Xram}
+use Rattle.m51_cells.specs.declared.cell.Space.{Space}
+use Rattle.m51_cells.specs.declared.cell.Space.TheVariants.{Ram, Xram, Code}
 use Rattle.m51_cells.specs.declared.cell.Cell.{Cell}
 use Rattle.m51_flat.specs.declared.state.Put.{Put}
 use Rattle.m51_flat.specs.declared.state.Put.TheVariants.{Nothing, Byte, Bit, Xbyte}
@@ -50,7 +52,8 @@ on_value (Value v) go = go v
 on_value (Outside c) go = Outside c
 on_value (Unset c) go = Unset c
 
--- the number whose bits so many cells hold from this one on, the lowest first; or the answer of the lowest that holds none
+-- the number whose bits so many cells hold from this one on, the lowest first; or the answer of the lowest that holds
+-- none
 abbrev pub bits_seen : States → ℕ → ℕ → Seen
 bits_seen s zero n = Value 0
 bits_seen s (suc k) n = on_value (bit_seen s n) (λ b. on_value (bits_seen s k (n + 1)) (λ v. Value (b + 2 * v)))
@@ -59,21 +62,39 @@ bits_seen s (suc k) n = on_value (bit_seen s n) (λ b. on_value (bits_seen s k (
 unfoldable pub byte_seen : States → ℕ → Seen
 byte_seen s a = bits_seen s 8 (8 * a)
 
--- a cell of internal RAM after a put
-abbrev pub ram_after : Put → (ℕ → CellState) → ℕ → CellState
-ram_after Nothing old n = old n
-ram_after (Byte address value) old n = if nat_eq (n / 8) address then Holds (bit_at value (n % 8)) else old n
-ram_after (Bit address value) old n = if nat_eq n (256 + address) then Holds (bit_of value) else old n
-ram_after (Xbyte address value) old n = old n
+-- the value that a put writes into a cell of internal RAM, if it does
+abbrev pub ram_written : Put → ℕ → Option ℕ
+ram_written Nothing at = None
+ram_written (Byte address value) at = if nat_eq (at / 8) address then Some (bit_at value (at % 8)) else None
+ram_written (Bit address value) at = if nat_eq at (256 + address) then Some (bit_of value) else None
+ram_written (Xbyte address value) at = None
 
--- a cell of external memory after a put
-abbrev pub xram_after : Put → (ℕ → CellState) → ℕ → CellState
-xram_after (Xbyte address value) old n = if nat_eq n address then Holds value else old n
-xram_after _ old n = old n
+-- the value that it writes into a cell of external memory
+abbrev pub xram_written : Put → ℕ → Option ℕ
+xram_written (Xbyte address value) at = if nat_eq at address then Some value else None
+xram_written _ at = None
+
+-- the value that it writes into a cell of a memory; program memory is never written
+abbrev pub written_in : Put → Space → ℕ → Option ℕ
+written_in put Ram at = ram_written put at
+written_in put Xram at = xram_written put at
+written_in put Code at = None
+
+-- the value that a put writes into a cell, if it does
+abbrev pub written_to : Put → Cell → Option ℕ
+written_to put c = written_in put c.space c.at
+
+-- what a cell holds after that
+abbrev pub state_over : Option ℕ → CellState → CellState
+state_over None old = old
+state_over (Some v) old = Holds v
 
 -- the states after a put: its cells hold what was put, and all others are as before
 abbrev pub states_after : Put → States → States
-states_after put s = record { ram = ram_after put s.ram; xram = xram_after put s.xram }
+states_after put s = record {
+  ram = λ n. state_over (ram_written put n) (s.ram n);
+  xram = λ n. state_over (xram_written put n) (s.xram n);
+}
 
 -- the lowest barred cell of internal RAM among so many from this one on
 abbrev pub first_barred : (Cell → Bool) → ℕ → ℕ → Option Cell

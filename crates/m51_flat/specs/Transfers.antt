@@ -38,23 +38,27 @@ counted_down e place rel =
     let w = (v + 255) % 256 in
     Ends (branched (not (w == 0)) rel (with_location at w e))))
 
--- SP is raised by two, and the address of the next instruction stored, low byte first
-unfoldable pub called : Effect → ℕ → Effect
-called e target =
+-- SP is raised by two, and PC stored above the stack, low byte first
+unfoldable pub stacked : Effect → Effect
+stacked e =
     let top = latch e.cpu sp in
-    let raised = with_sfr sp ((top + 2) % 256) e in
-    jumped target Call (record raised {
+    record (with_sfr sp ((top + 2) % 256) e) {
       first = Byte ((top + 1) % 256) (e.cpu.pc % 256);
       second = Byte ((top + 2) % 256) (e.cpu.pc / 256);
-    })
+    }
 
--- the return from an interrupt ends the higher level in progress, and holds interrupts off for a step
+-- the address of the next instruction is stored, and control goes to a target
+unfoldable pub called : Effect → ℕ → Effect
+called e target = jumped target Call (stacked e)
+
+-- the higher level in progress ends, and interrupts are held off for a step
+abbrev pub level_ended : Cpu → Cpu
+level_ended cpu = record cpu { high = false; low = cpu.high && cpu.low; held = true }
+
+-- the return from an interrupt ends the higher level in progress
 abbrev pub returned_from : ReturnFrom → Effect → Effect
 returned_from Subroutine e = record e { transfer = Ret }
-returned_from Interrupt e = record e {
-  cpu = record e.cpu { high = false; low = e.cpu.high && e.cpu.low; held = true };
-  transfer = Reti;
-}
+returned_from Interrupt e = record e { cpu = level_ended e.cpu; transfer = Reti }
 
 -- the high byte is read at SP, then the low byte below it, and SP is lowered by two
 unfoldable pub returned : Effect → ReturnFrom → Reads Effect

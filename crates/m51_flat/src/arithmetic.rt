@@ -1,12 +1,13 @@
 //! Moves, arithmetic and logic.
 ghost use Rattle.std.specs.Prelude.{◌≡◌, length, IfErr};
 ghost use Rattle.m51_flat.specs.Causes.{IsMissing};
-ghost use Rattle.m51_flat.specs.Arithmetic.{assigned, summed, combined, changed, with_turn, exchanged, digits_exchanged, sum_by, logic_of, stepped, turned};
+ghost use Rattle.m51_flat.specs.Arithmetic.{assigned, summed, combined, changed, with_turn, exchanged};
+ghost use Rattle.m51_flat.specs.Arithmetic.{digits_exchanged, sum_by, logic_of, stepped, turned};
 ghost use Rattle.m51_flat.specs.Reads.{answer};
 
 use crate::actions::{Addition, ByteOperand, Count, Logic, Place, Turning};
 use crate::operands::{find_at, locate, read_latch_at, read_operand, write_location};
-use crate::sfr::{ACC, read_latch, write_sfr};
+use crate::sfr::{ACC, write_sfr};
 use crate::state::{Effect, Missing, Pins};
 use crate::store::CellStore;
 use crate::writing::{read_auxiliary_carry, read_carry, write_carry, write_sum};
@@ -89,12 +90,7 @@ pub(crate) fn accumulate<M: CellStore>(
     ensures missing { IfErr result (IsMissing (M.cells store.now)) }
 {
     let value = read_operand(store, &effect.cpu, ext, from)?;
-    let sum = add_by(
-        op,
-        read_latch(&effect.cpu, ACC),
-        value,
-        read_carry(&effect.cpu),
-    );
+    let sum = add_by(op, effect.cpu.latch(ACC), value, read_carry(&effect.cpu));
     Ok(write_sum(effect, sum))
 }
 
@@ -141,7 +137,7 @@ pub(crate) fn turn(effect: Effect, by: Turning) -> Effect
     let cpu = &effect.cpu;
     let (a, carry) = turn_by(
         by,
-        read_latch(cpu, ACC),
+        cpu.latch(ACC),
         read_carry(cpu),
         read_auxiliary_carry(cpu),
     );
@@ -161,7 +157,7 @@ pub(crate) fn exchange<M: CellStore>(
 {
     let location = locate(store, &effect.cpu, place)?;
     let value = find_at(store, &effect.cpu, ext, location)?;
-    let a = read_latch(&effect.cpu, ACC);
+    let a = effect.cpu.latch(ACC);
     Ok(write_location(write_sfr(effect, ACC, value), location, a))
 }
 
@@ -178,7 +174,7 @@ pub(crate) fn exchange_digit<M: CellStore>(
 {
     let location = locate(store, &effect.cpu, place)?;
     let value = find_at(store, &effect.cpu, ext, location)?;
-    let a = read_latch(&effect.cpu, ACC);
+    let a = effect.cpu.latch(ACC);
     let effect = write_sfr(effect, ACC, a / 16 * 16 + value % 16);
     Ok(write_location(effect, location, value / 16 * 16 + a % 16))
 }

@@ -1,13 +1,14 @@
 //! Operations on bits.
 ghost use Rattle.std.specs.Prelude.{◌≡◌, IfErr};
 ghost use Rattle.m51_flat.specs.Causes.{IsMissing};
-ghost use Rattle.m51_flat.specs.Bits.{passes, changed_carry, merged_carry, bit_from, carry_merged, bit_flipped, branched_on_bit, tested_and_cleared};
+ghost use Rattle.m51_flat.specs.Bits.{passes, changed_carry, merged_carry, bit_from, carry_merged, bit_flipped};
+ghost use Rattle.m51_flat.specs.Bits.{branched_on_bit, tested_and_cleared};
 ghost use Rattle.m51_flat.specs.Operands.{bit_latch_at, bit_found_at, with_bit_at};
 ghost use Rattle.m51_flat.specs.Reads.{answer};
 
 use crate::actions::{BitSource, BitTest, CarryChange, CarryMerge};
 use crate::operands::read_bit;
-use crate::sfr::{read_found, read_latch, replace_bit, write_sfr};
+use crate::sfr::{replace_bit, write_sfr};
 use crate::state::{Cpu, Effect, Missing, Pins, Put};
 use crate::store::CellStore;
 use crate::writing::{branch_if, read_carry, write_carry};
@@ -21,7 +22,7 @@ pub(crate) fn read_bit_latch<M: CellStore>(store: &M, cpu: &Cpu, bit: u8) -> Res
     if bit < 128 {
         read_bit(store, bit)
     } else {
-        Ok(read_latch(cpu, bit - bit % 8) >> (bit % 8) & 1)
+        Ok(cpu.latch(bit - bit % 8) >> (bit % 8) & 1)
     }
 }
 
@@ -40,7 +41,7 @@ pub(crate) fn write_bit(effect: Effect, bit: u8, value: bool) -> Effect
         };
     }
     let address = bit - bit % 8;
-    let byte = replace_bit(read_latch(&effect.cpu, address), bit % 8, value);
+    let byte = replace_bit(effect.cpu.latch(address), bit % 8, value);
     write_sfr(effect, address, byte)
 }
 
@@ -53,7 +54,7 @@ fn find_bit<M: CellStore>(store: &M, cpu: &Cpu, ext: &Pins, bit: u8) -> Result<u
     if bit < 128 {
         read_bit(store, bit)
     } else {
-        Ok(read_found(cpu, ext, bit - bit % 8) >> (bit % 8) & 1)
+        Ok(cpu.found(ext, bit - bit % 8) >> (bit % 8) & 1)
     }
 }
 

@@ -6,7 +6,7 @@ ghost use Rattle.m51_flat.specs.Transfers.{compared, counted_down, is_met};
 
 use crate::actions::{ByteOperand, Condition, Place};
 use crate::operands::{locate, read_latch_at, read_operand, write_location};
-use crate::sfr::{ACC, read_latch};
+use crate::sfr::ACC;
 use crate::state::{Cpu, Effect, Missing, Pins};
 use crate::store::CellStore;
 use crate::writing::{branch_if, read_carry, write_carry};
@@ -19,8 +19,8 @@ pub(crate) fn meets(condition: Condition, cpu: &Cpu) -> bool
     match condition {
         Condition::IfCarry => read_carry(cpu),
         Condition::IfNoCarry => !read_carry(cpu),
-        Condition::IfZero => read_latch(cpu, ACC) == 0,
-        Condition::IfNotZero => read_latch(cpu, ACC) != 0,
+        Condition::IfZero => cpu.latch(ACC) == 0,
+        Condition::IfNotZero => cpu.latch(ACC) != 0,
     }
 }
 

@@ -1,25 +1,29 @@
 //! Calls and returns.
-ghost use Rattle.std.specs.Prelude.{◌≡◌, IfErr};
+ghost use Rattle.std.specs.Prelude.{◌≡◌, IfErr, length};
 ghost use Rattle.m51_flat.specs.Causes.{IsMissing};
 ghost use Rattle.m51_flat.specs.Reads.{answer};
-ghost use Rattle.m51_flat.specs.Transfers.{called, returned, returned_from};
+ghost use Rattle.m51_flat.specs.Transfers.{called, returned, returned_from, stacked};
 
 use crate::actions::ReturnFrom;
 use crate::operands::read_byte;
-use crate::sfr::{SP, read_latch, write_sfr};
+use crate::sfr::{SP, write_sfr};
 use crate::state::{Effect, Missing, Put, Transfer};
 use crate::store::CellStore;
 use crate::writing::jump;
 
-/// ACALL and LCALL: SP is raised by two, and the address of the next instruction stored, low byte first.
-#[tactic(auto, unfolding(crate::specs::Transfers::called))]
-pub(crate) fn call(effect: Effect, target: u16) -> Effect
-    ensures { result ≡ called effect target }
+/// Stores the address of the next instruction: SP is raised by two, and PC stands above the stack, low byte first.
+/// What the effect puts is then these two bytes. Control stays where it is.
+///
+/// Source: family manual.
+#[tactic(auto, unfolding(crate::specs::Transfers::stacked))]
+pub fn stack_pc(effect: Effect) -> Effect
+    ensures value { result ≡ stacked effect }
+    ensures registers { length effect.cpu.regs ≡ 128 }
 {
-    let sp = read_latch(&effect.cpu, SP);
+    let sp = effect.cpu.latch(SP);
     let pc = effect.cpu.pc;
     let raised = write_sfr(effect, SP, sp.wrapping_add(2));
-    let stored = Effect {
+    Effect {
         first: Put::Byte {
             address: sp.wrapping_add(1),
             value: (pc % 256) as u8,
@@ -29,8 +33,18 @@ pub(crate) fn call(effect: Effect, target: u16) -> Effect
             value: (pc / 256) as u8,
         },
         ..raised
-    };
-    jump(stored, target, Transfer::Call)
+    }
+}
+
+/// ACALL and LCALL: the address of the next instruction is stored, and control goes to the target.
+///
+/// Source: family manual.
+#[tactic(auto, unfolding(crate::specs::Transfers::called))]
+pub fn call(effect: Effect, target: u16) -> Effect
+    ensures value { result ≡ called effect target }
+    ensures registers { length effect.cpu.regs ≡ 128 }
+{
+    jump(stack_pc(effect), target, Transfer::Call)
 }
 
 /// The return from an interrupt ends the higher level in progress.
@@ -58,7 +72,7 @@ pub(crate) fn return_from<M: CellStore>(
     ensures value { result ≡ answer (M.cells store.now) (returned effect from) }
     ensures missing { IfErr result (IsMissing (M.cells store.now)) }
 {
-    let sp = read_latch(&effect.cpu, SP);
+    let sp = effect.cpu.latch(SP);
     let high = read_byte(store, sp)?;
     let low = read_byte(store, sp.wrapping_sub(1))?;
     let lowered = write_sfr(effect, SP, sp.wrapping_sub(2));

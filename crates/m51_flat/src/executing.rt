@@ -1,24 +1,24 @@
 //! A reset, and one instruction.
 ghost use Rattle.std.specs.Prelude.{◌≡◌, length, IfSome};
 ghost use Rattle.m51_isa.specs.Table.{flow_of};
+ghost use Rattle.m51_flat.specs.declared.state.Outcome.TheVariants.{Done};
 ghost use Rattle.m51_flat.specs.Causes.{IsBarred, IsCause, IsWhole, unless_down};
 ghost use Rattle.m51_flat.specs.Laws.{Follows, HasParity, IfDone, next_address};
-ghost use Rattle.m51_flat.specs.Meaning.{allowed, outcome_of, outcome_over, plan_of, started};
+ghost use Rattle.m51_flat.specs.LevelLaws.{LevelsFollow, may_hold_off};
+ghost use Rattle.m51_flat.specs.Meaning.{allowed, outcome_of, outcome_over, plan_of, started, unless_barred};
 ghost use Rattle.m51_flat.specs.Reads.{Agrees, CellMap, result_over};
 ghost use Rattle.m51_flat.specs.Reset.{reset_cpu, reset_values};
 ghost use Rattle.m51_flat.specs.Sfr.{latch, sp};
 ghost use Rattle.m51_flat.specs.States.{shut_of};
 
 use crate::action_table::action_for;
+use crate::flags::PD;
 use crate::performing::perform;
-use crate::sfr::{P0, P1, P2, P3, PCON, SP, read_flag};
+use crate::sfr::{P0, P1, P2, P3, PCON, SP};
 use crate::state::{Cpu, Effect, Missing, Outcome, Pins, Put, Transfer};
 use crate::store::CellStore;
 use m51_cells::Cell;
 use m51_isa::{Instr, cycles, length};
-
-/// The power-down bit of PCON.
-const POWER_DOWN: u8 = 1;
 
 /// The registers after a reset: SP is 07H, the latches of the ports are FFH, and all else is 0.
 fn reset_registers() -> [u8; 128]
@@ -67,18 +67,22 @@ fn start(cpu: &Cpu, instr: &Instr) -> Effect
     }
 }
 
-/// The lowest cell of a put that may not be written.
+/// The lowest cell of a put that may not be written. It exists.
+///
+/// Source: own choice ("Stores of cells").
 #[tactic(auto, using(crate::proofs::Causes::shut_barred))]
-fn shut_cell<M: CellStore>(store: &M, put: Put) -> Option<Cell>
+pub fn shut_cell<M: CellStore>(store: &M, put: Put) -> Option<Cell>
     ensures value { result ≡ shut_of (M.barred store.now) put }
     ensures barred { IfSome result (IsBarred (M.barred store.now)) }
 {
     store.shut(&put)
 }
 
-/// The effect, where its puts may be written and it does not power down.
-fn allow<M: CellStore>(store: &M, effect: Effect) -> Outcome
-    ensures value { result ≡ allowed (M.barred store.now) effect }
+/// An outcome, where both puts of an effect may be written; else the lowest cell of the first that may not be
+/// written, then of the second.
+fn unless_shut<M: CellStore>(store: &M, effect: &Effect, outcome: Outcome) -> Outcome
+    requires { IsCause (M.cells store.now) (M.barred store.now) outcome }
+    ensures value { result ≡ unless_barred (M.barred store.now) effect.now outcome }
     ensures cause { IsCause (M.cells store.now) (M.barred store.now) result }
 {
     if let Some(cell) = shut_cell(store, effect.first) {
@@ -87,13 +91,33 @@ fn allow<M: CellStore>(store: &M, effect: Effect) -> Outcome
     if let Some(cell) = shut_cell(store, effect.second) {
         return Outcome::Outside(cell);
     }
-    if read_flag(&effect.cpu, PCON, POWER_DOWN) {
-        Outcome::PowerDown
+    outcome
+}
+
+/// What an effect that is no instruction's comes to over a store: `Outside` with the lowest cell of the first put,
+/// then of the second, that may not be written, and else `Done`. PCON is not asked.
+///
+/// Source: own choice ("Effects").
+pub fn conclude<M: CellStore>(store: &M, effect: Effect) -> Outcome
+    ensures value { result ≡ unless_barred (M.barred store.now) effect (Done effect) }
+    ensures cause { IsCause (M.cells store.now) (M.barred store.now) result }
+{
+    unless_shut(store, &effect, Outcome::Done(effect))
+}
+
+/// The effect, where its puts may be written and it does not power down.
+fn allow<M: CellStore>(store: &M, effect: Effect) -> Outcome
+    ensures value { result ≡ allowed (M.barred store.now) effect }
+    ensures cause { IsCause (M.cells store.now) (M.barred store.now) result }
+{
+    if effect.cpu.flag(PCON, PD) {
+        unless_shut(store, &effect, Outcome::PowerDown)
     } else {
-        Outcome::Done(effect)
+        unless_shut(store, &effect, Outcome::Done(effect))
     }
 }
 
+// What an instruction comes to over a store.
 #[tactic(auto, unfolding(crate::specs::Meaning::outcome_of))]
 fn run<M: CellStore>(cpu: &Cpu, store: &M, instr: &Instr, image: &[u8], ext: &Pins) -> Outcome
     requires { length image.now ≡ 65536 }
@@ -136,6 +160,10 @@ pub fn exec<M: CellStore>(cpu: &Cpu, store: &M, instr: &Instr, image: &[u8], ext
     // Control goes on by the flow of the instruction: PC of the next, a call's two bytes, SP after a call or a return.
     ensures control { IfDone result (λ e.
         Follows (flow_of instr.now) (next_address cpu.now instr.now) (latch cpu.now sp) e) }
+
+    // RETI ends the higher level in progress, and all others keep both. Interrupts are held off after RETI, and else
+    // only where the operand that is written is IE, IP or a bit of them.
+    ensures levels { IfDone result (λ e. LevelsFollow (flow_of instr.now) (may_hold_off instr.now) cpu.now e) }
 {
     run(cpu, store, instr, image, ext)
 }

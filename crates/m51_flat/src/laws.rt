@@ -1,15 +1,21 @@
 //! What holds of every instruction. Each law is the contract of a function that does nothing.
 ghost use Rattle.m51_flat.specs.BitLaws.{BitsAreTurned, FlagsAreWritten, OneBitIsReplaced};
+ghost use Rattle.m51_flat.specs.DeviceLaws.{CallsAreMade, FlagsKeepTheRest, PcIsStacked, RegistersAreWritten};
+ghost use Rattle.m51_flat.specs.DeviceLaws.{StoresKeepTheRest};
 ghost use Rattle.m51_flat.specs.Laws.{AccessesAgree, FlowIsKept, ReadingsAgree};
+ghost use Rattle.m51_flat.specs.LevelLaws.{LevelsAreKept};
+ghost use Rattle.m51_flat.specs.OutcomeLaws.{EffectsAreDone, PowerGoesDown};
 
-/// Whatever is read, control goes on by the flow of the instruction: a branch jumps or does not, a call calls, and so on.
+/// Whatever is read, control goes on by the flow of the instruction: a branch jumps or does not, a call calls, and so
+/// on.
 ///
 /// Source: family manual.
 pub fn flow_is_kept()
     ensures { FlowIsKept }
 {}
 
-/// Over a store, reads come to their result over any map that agrees with it, or to the first of them that has no value.
+/// Over a store, reads come to their result over any map that agrees with it, or to the first of them that has no
+/// value.
 ///
 /// Source: own choice ("Two readings of an instruction").
 pub fn readings_agree()
@@ -42,4 +48,63 @@ pub fn flags_are_written()
 /// Source: family manual.
 pub fn bits_are_turned()
     ensures { BitsAreTurned }
+{}
+
+/// A register that a device stores to holds the value, and every other one is as before.
+///
+/// Source: family manual.
+pub fn registers_are_written()
+    ensures { RegistersAreWritten }
+{}
+
+/// A device that stores a register leaves all others, PC, the levels in progress and what holds interrupts off as
+/// they were, and the parity where the register is neither PSW nor ACC.
+///
+/// Source: own choice ("Devices and registers").
+pub fn stores_keep_the_rest()
+    ensures { StoresKeepTheRest }
+{}
+
+/// So does a device that writes one bit of a register.
+///
+/// Source: own choice ("Devices and registers").
+pub fn flags_keep_the_rest()
+    ensures { FlagsKeepTheRest }
+{}
+
+/// `stack_pc` stores the two bytes of PC above the stack, and raises SP by two; the levels in progress and the parity
+/// stay.
+///
+/// Source: family manual.
+pub fn pc_is_stacked()
+    ensures { PcIsStacked }
+{}
+
+/// `call` is a call from any effect, and keeps the parity.
+///
+/// Source: family manual.
+pub fn calls_are_made()
+    ensures { CallsAreMade }
+{}
+
+/// Whatever is read, RETI ends the higher level in progress and every other instruction leaves both. Interrupts are
+/// held off after RETI, and else only where the operand that is written is IE, IP or a bit of them.
+///
+/// Source: family manual.
+pub fn levels_are_kept()
+    ensures { LevelsAreKept }
+{}
+
+/// The puts of an effect may be written, and over each map that agrees with the store the effect is the same.
+///
+/// Source: own choice ("Two readings of an instruction").
+pub fn effects_are_done()
+    ensures { EffectsAreDone }
+{}
+
+/// Where an instruction comes to power-down, it does so over each map that agrees with the store.
+///
+/// Source: own choice ("Two readings of an instruction").
+pub fn power_goes_down()
+    ensures { PowerGoesDown }
 {}

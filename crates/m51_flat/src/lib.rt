@@ -3,16 +3,19 @@
 
 mod action_table;
 mod actions;
+pub mod addresses;
 mod arithmetic;
 mod bits;
 mod branches;
 mod calls;
 mod executing;
+pub mod flags;
 mod laws;
 mod moves;
 mod operands;
 mod performing;
 mod ram;
+mod registers;
 mod sfr;
 mod state;
 mod store;
@@ -20,11 +23,14 @@ mod store;
 mod tests;
 mod writing;
 
-pub use executing::{exec, reset};
+pub use calls::{call, stack_pc};
+pub use executing::{conclude, exec, reset, shut_cell};
 pub use laws::{
-    accesses_agree, bits_are_turned, flags_are_written, flow_is_kept, one_bit_is_replaced,
-    readings_agree,
+    accesses_agree, bits_are_turned, calls_are_made, effects_are_done, flags_are_written,
+    flags_keep_the_rest, flow_is_kept, levels_are_kept, one_bit_is_replaced, pc_is_stacked,
+    power_goes_down, readings_agree, registers_are_written, stores_keep_the_rest,
 };
 pub use ram::FlatRam;
 pub use state::{Cpu, Effect, Outcome, Pins, Put, Seen, Source, Transfer};
 pub use store::CellStore;
+pub use writing::jump;

@@ -1,12 +1,13 @@
 //! External memory, program memory and the stack.
 ghost use Rattle.std.specs.Prelude.{◌≡◌, length, IfErr};
 ghost use Rattle.m51_flat.specs.Causes.{IsMissing};
-ghost use Rattle.m51_flat.specs.Moves.{external_address, code_base, external_loaded, external_stored, code_loaded, pushed, popped};
+ghost use Rattle.m51_flat.specs.Moves.{external_address, code_base, external_loaded, external_stored, code_loaded};
+ghost use Rattle.m51_flat.specs.Moves.{pushed, popped};
 ghost use Rattle.m51_flat.specs.Reads.{answer};
 
 use crate::actions::{ByteOperand, CodeBase, ExternalAt, Location, Place};
 use crate::operands::{bank_base, locate, read_byte, read_operand, read_xbyte, write_location};
-use crate::sfr::{ACC, P2, SP, read_latch, write_sfr};
+use crate::sfr::{ACC, P2, SP, write_sfr};
 use crate::state::{Cpu, Effect, Missing, Pins, Put};
 use crate::store::CellStore;
 use crate::writing::read_dptr;
@@ -21,7 +22,7 @@ fn locate_external<M: CellStore>(store: &M, cpu: &Cpu, external: ExternalAt) -> 
         ExternalAt::ByDptr => Ok(read_dptr(cpu)),
         ExternalAt::ByRegister(pointer) => {
             let low = read_byte(store, bank_base(cpu) + pointer.number())?;
-            Ok(u16::from(read_latch(cpu, P2)) * 256 + u16::from(low))
+            Ok(u16::from(cpu.latch(P2)) * 256 + u16::from(low))
         }
     }
 }
@@ -62,7 +63,7 @@ pub(crate) fn store_external<M: CellStore>(
     ensures missing { IfErr result (IsMissing (M.cells store.now)) }
 {
     let address = locate_external(store, &effect.cpu, to)?;
-    let value = read_latch(&effect.cpu, ACC);
+    let value = effect.cpu.latch(ACC);
     Ok(Effect {
         first: Put::Xbyte { address, value },
         ..effect
@@ -75,10 +76,7 @@ pub(crate) fn load_code(image: &[u8], effect: Effect, base: CodeBase) -> Effect
     requires { length image.now ≡ 65536 }
     ensures { result ≡ code_loaded image.now effect base }
 {
-    let address = code_start(&effect.cpu, base).wrapping_add(u16::from(read_latch(
-        &effect.cpu,
-        ACC,
-    )));
+    let address = code_start(&effect.cpu, base).wrapping_add(u16::from(effect.cpu.latch(ACC)));
     write_sfr(effect, ACC, image[usize::from(address)])
 }
 
@@ -93,7 +91,7 @@ pub(crate) fn push<M: CellStore>(
     ensures value { result ≡ answer (M.cells store.now) (pushed ext.now effect place) }
     ensures missing { IfErr result (IsMissing (M.cells store.now)) }
 {
-    let sp = read_latch(&effect.cpu, SP).wrapping_add(1);
+    let sp = effect.cpu.latch(SP).wrapping_add(1);
     let raised = write_sfr(effect, SP, sp);
     let value = read_operand(store, &raised.cpu, ext, ByteOperand::At(place))?;
     Ok(write_location(raised, Location::Ram(sp), value))
@@ -105,7 +103,7 @@ pub(crate) fn pop<M: CellStore>(store: &M, effect: Effect, place: Place) -> Resu
     ensures value { result ≡ answer (M.cells store.now) (popped effect place) }
     ensures missing { IfErr result (IsMissing (M.cells store.now)) }
 {
-    let sp = read_latch(&effect.cpu, SP);
+    let sp = effect.cpu.latch(SP);
     let location = locate(store, &effect.cpu, place)?;
     let value = read_byte(store, sp)?;
     let lowered = write_sfr(effect, SP, sp.wrapping_sub(1));

@@ -6,7 +6,7 @@ ghost use Rattle.m51_flat.specs.Reads.{answer, value_or_missing};
 ghost use Rattle.m51_flat.specs.States.{byte_seen, bit_seen, xbyte_seen};
 
 use crate::actions::{ByteOperand, Location, Place};
-use crate::sfr::{ACC, PSW, read_found, read_latch, write_sfr};
+use crate::sfr::{ACC, PSW, write_sfr};
 use crate::state::{Cpu, Effect, Missing, Pins, Put, Seen};
 use crate::store::CellStore;
 
@@ -45,7 +45,7 @@ pub(crate) fn bank_base(cpu: &Cpu) -> u8
     ensures value { result ≡ bank cpu.now }
     ensures below { result ≤ 24 }
 {
-    8 * (read_latch(cpu, PSW) / 8 % 4)
+    8 * (cpu.latch(PSW) / 8 % 4)
 }
 
 /// Where a place is: for an indirect one its register is read.
@@ -83,7 +83,7 @@ pub(crate) fn read_latch_at<M: CellStore>(
 {
     match location {
         Location::Ram(address) => read_byte(store, address),
-        Location::Sfr(address) => Ok(read_latch(cpu, address)),
+        Location::Sfr(address) => Ok(cpu.latch(address)),
     }
 }
 
@@ -100,7 +100,7 @@ pub(crate) fn find_at<M: CellStore>(
 {
     match location {
         Location::Ram(address) => read_byte(store, address),
-        Location::Sfr(address) => Ok(read_found(cpu, ext, address)),
+        Location::Sfr(address) => Ok(cpu.found(ext, address)),
     }
 }
 

@@ -12,7 +12,7 @@ use crate::bits::{
 use crate::branches::{compare, count_down, meets};
 use crate::calls::{call, return_from};
 use crate::moves::{load_code, load_external, pop, push, store_external};
-use crate::sfr::{ACC, B, read_latch};
+use crate::sfr::{ACC, B};
 use crate::state::{Effect, Missing, Pins, Transfer};
 use crate::store::CellStore;
 use crate::writing::{
@@ -40,8 +40,8 @@ pub(crate) fn perform<M: CellStore>(
         Action::Combine(op, place, from) => combine(store, ext, effect, op, place, from),
         Action::Change(count, place) => change(store, effect, count, place),
         Action::Turn(by) => Ok(turn(effect, by)),
-        Action::Multiply => Ok(write_pair(effect, mul(read_latch(cpu, ACC), read_latch(cpu, B)))),
-        Action::Divide => Ok(write_pair(effect, div(read_latch(cpu, ACC), read_latch(cpu, B)))),
+        Action::Multiply => Ok(write_pair(effect, mul(cpu.latch(ACC), cpu.latch(B)))),
+        Action::Divide => Ok(write_pair(effect, div(cpu.latch(ACC), cpu.latch(B)))),
         Action::Exchange(place) => exchange(store, ext, effect, place),
         Action::ExchangeDigit(place) => exchange_digit(store, ext, effect, place),
         Action::LoadDptr(word) => Ok(write_dptr(effect, word)),
@@ -60,7 +60,7 @@ pub(crate) fn perform<M: CellStore>(
         Action::JumpBy(rel) => Ok(branch_if(effect, true, rel)),
         Action::JumpIndirect => Ok(jump(
             effect,
-            read_dptr(cpu).wrapping_add(u16::from(read_latch(cpu, ACC))),
+            read_dptr(cpu).wrapping_add(u16::from(cpu.latch(ACC))),
             Transfer::Jump,
         )),
         Action::BranchOn(condition, rel) => Ok(branch_if(effect, meets(condition, cpu), rel)),

@@ -1,37 +1,10 @@
 //! The special function registers.
 ghost use Rattle.std.specs.Prelude.{◌≡◌, ◌-◌, ◌≤◌, ◌<◌, IfSome, IsTrue};
-ghost use Rattle.m51_flat.specs.Sfr.{has_register, port_of, latch, flag, found, with_bit, with_parity, with_sfr};
+ghost use Rattle.m51_flat.specs.Sfr.{has_register, port_of, with_bit, with_parity, with_sfr};
 
-use crate::state::{Cpu, Effect, Pins};
+pub(crate) use crate::addresses::{ACC, B, DPH, DPL, IE, IP, P0, P1, P2, P3, PCON, PSW, SBUF, SP};
+use crate::state::Effect;
 use m51_alu::parity;
-
-pub(crate) const P0: u8 = 0x80;
-
-pub(crate) const SP: u8 = 0x81;
-
-pub(crate) const DPL: u8 = 0x82;
-
-pub(crate) const DPH: u8 = 0x83;
-
-pub(crate) const PCON: u8 = 0x87;
-
-pub(crate) const P1: u8 = 0x90;
-
-pub(crate) const SBUF: u8 = 0x99;
-
-pub(crate) const P2: u8 = 0xA0;
-
-pub(crate) const IE: u8 = 0xA8;
-
-pub(crate) const P3: u8 = 0xB0;
-
-pub(crate) const IP: u8 = 0xB8;
-
-pub(crate) const PSW: u8 = 0xD0;
-
-pub(crate) const ACC: u8 = 0xE0;
-
-pub(crate) const B: u8 = 0xF0;
 
 /// The bit of CY in PSW.
 pub(crate) const CY: u8 = 7;
@@ -41,7 +14,7 @@ pub(crate) const AC: u8 = 6;
 pub(crate) const OV: u8 = 2;
 
 /// The place of a register in the list of registers.
-fn index(address: u8) -> usize
+pub(crate) fn index(address: u8) -> usize
     requires { 128 ≤ address }
     ensures value { result ≡ address - 0x80 }
     ensures in_range { result < 128 }
@@ -75,7 +48,7 @@ pub(crate) fn is_named(address: u8) -> bool
 
 /// The number of the port whose latch stands there.
 #[tactic(auto, unfolding(crate::specs::Sfr::port_of))]
-fn port_at(address: u8) -> Option<u8>
+pub(crate) fn port_at(address: u8) -> Option<u8>
     ensures value { result ≡ port_of address }
     ensures number { IfSome result (λ k. k < 4) }
 {
@@ -85,39 +58,6 @@ fn port_at(address: u8) -> Option<u8>
         P2 => Some(2),
         P3 => Some(3),
         _ => None,
-    }
-}
-
-/// What stands in a register; an address without one reads 0.
-#[tactic(auto, unfolding(crate::specs::Sfr::latch))]
-pub(crate) fn read_latch(cpu: &Cpu, address: u8) -> u8
-    ensures { result ≡ latch cpu.now address }
-{
-    if is_named(address) {
-        cpu.regs[index(address)]
-    } else {
-        0
-    }
-}
-
-/// A bit of a register.
-#[tactic(auto, unfolding(crate::specs::Sfr::flag))]
-pub(crate) fn read_flag(cpu: &Cpu, address: u8, bit: u8) -> bool
-    requires { bit < 8 }
-    ensures { result ≡ flag cpu.now address bit }
-{
-    read_latch(cpu, address) >> bit & 1 == 1
-}
-
-/// What a read finds: at a port, the level of each pin.
-#[tactic(auto, unfolding(crate::specs::Sfr::found))]
-pub(crate) fn read_found(cpu: &Cpu, ext: &Pins, address: u8) -> u8
-    ensures { result ≡ found cpu.now ext.now address }
-{
-    let latch = read_latch(cpu, address);
-    match port_at(address) {
-        Some(port) => latch & ext.p[usize::from(port)],
-        None => latch,
     }
 }
 

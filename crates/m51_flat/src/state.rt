@@ -1,4 +1,7 @@
 //! The processor's state, what an instruction changes, and what it comes to.
+ghost use Rattle.std.specs.Prelude.{◌≡◌};
+ghost use Rattle.m51_flat.specs.Vectors.{vector_of};
+
 use m51_cells::Cell;
 
 /// A write to memory.
@@ -81,6 +84,25 @@ pub enum Source {
     Serial,
     /// Timer 2, at 002BH.
     Timer2,
+}
+
+impl Source {
+    /// The address of its handler.
+    ///
+    /// Source: family manual.
+    #[tactic(auto, unfolding(crate::specs::Vectors::vector_of))]
+    pub fn vector(self) -> u16
+        ensures { result ≡ vector_of self }
+    {
+        match self {
+            Source::Ie0 => 0x0003,
+            Source::Tf0 => 0x000B,
+            Source::Ie1 => 0x0013,
+            Source::Tf1 => 0x001B,
+            Source::Serial => 0x0023,
+            Source::Timer2 => 0x002B,
+        }
+    }
 }
 
 /// How control goes on.

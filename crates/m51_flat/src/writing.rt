@@ -1,16 +1,17 @@
 //! Parts of an effect: flags, DPTR and the program counter.
 ghost use Rattle.std.specs.Prelude.{◌≡◌};
-ghost use Rattle.m51_flat.specs.Parts.{auxiliary_carry, branched, with_flags, with_carry, with_sum, jumped, relative, carry, dptr_of, with_dptr, with_pair, near};
+ghost use Rattle.m51_flat.specs.Parts.{auxiliary_carry, branched, with_flags, with_carry, with_sum, jumped, relative};
+ghost use Rattle.m51_flat.specs.Parts.{carry, dptr_of, with_dptr, with_pair, near};
 
-use crate::sfr::{
-    AC, ACC, B, CY, DPH, DPL, OV, PSW, read_flag, read_latch, replace_bit, write_sfr,
-};
+use crate::sfr::{AC, ACC, B, CY, DPH, DPL, OV, PSW, replace_bit, write_sfr};
 use crate::state::{Cpu, Effect, Transfer};
 use m51_alu::Sum;
 use m51_isa::Address11;
 
-/// Control goes to a target.
-pub(crate) fn jump(effect: Effect, target: u16, transfer: Transfer) -> Effect
+/// Control goes to a target: an instruction's, or the handler of an interrupt.
+///
+/// Source: own choice ("Effects").
+pub fn jump(effect: Effect, target: u16, transfer: Transfer) -> Effect
     ensures { result ≡ jumped target transfer effect }
 {
     let mut cpu = effect.cpu;
@@ -50,7 +51,7 @@ pub(crate) fn branch_if(effect: Effect, taken: bool, rel: u8) -> Effect
 pub(crate) fn write_carry(effect: Effect, carry: bool) -> Effect
     ensures { result ≡ with_carry carry effect }
 {
-    let psw = replace_bit(read_latch(&effect.cpu, PSW), CY, carry);
+    let psw = replace_bit(effect.cpu.latch(PSW), CY, carry);
     write_sfr(effect, PSW, psw)
 }
 
@@ -69,7 +70,7 @@ fn replace_flags(psw: u8, sum: Sum) -> u8
 pub(crate) fn write_sum(effect: Effect, sum: Sum) -> Effect
     ensures { result ≡ with_sum sum effect }
 {
-    let psw = replace_flags(read_latch(&effect.cpu, PSW), sum);
+    let psw = replace_flags(effect.cpu.latch(PSW), sum);
     write_sfr(write_sfr(effect, PSW, psw), ACC, sum.value)
 }
 
@@ -77,14 +78,14 @@ pub(crate) fn write_sum(effect: Effect, sum: Sum) -> Effect
 pub(crate) fn read_carry(cpu: &Cpu) -> bool
     ensures { result ≡ carry cpu.now }
 {
-    read_flag(cpu, PSW, CY)
+    cpu.flag(PSW, CY)
 }
 
 /// The auxiliary carry flag.
 pub(crate) fn read_auxiliary_carry(cpu: &Cpu) -> bool
     ensures { result ≡ auxiliary_carry cpu.now }
 {
-    read_flag(cpu, PSW, AC)
+    cpu.flag(PSW, AC)
 }
 
 /// DPTR.
@@ -92,7 +93,7 @@ pub(crate) fn read_auxiliary_carry(cpu: &Cpu) -> bool
 pub(crate) fn read_dptr(cpu: &Cpu) -> u16
     ensures { result ≡ dptr_of cpu.now }
 {
-    u16::from(read_latch(cpu, DPH)) * 256 + u16::from(read_latch(cpu, DPL))
+    u16::from(cpu.latch(DPH)) * 256 + u16::from(cpu.latch(DPL))
 }
 
 /// Writes DPTR.
@@ -110,7 +111,7 @@ pub(crate) fn write_pair(effect: Effect, pair: (u8, u8, bool)) -> Effect
     ensures { result ≡ with_pair pair effect }
 {
     let (a, b, overflow) = pair;
-    let psw = replace_bit(read_latch(&effect.cpu, PSW), CY, false);
+    let psw = replace_bit(effect.cpu.latch(PSW), CY, false);
     let effect = write_sfr(effect, PSW, replace_bit(psw, OV, overflow));
     write_sfr(write_sfr(effect, B, b), ACC, a)
 }

@@ -8,10 +8,11 @@ use Rattle.std.proofs.lemmas.Bool.{false≢true}
 use Rattle.m51_module.specs.Walks.{Edges, HasEdge, IsWalk, last_of, Reaches}
 use Rattle.m51_module.proofs.Owning.{none_in_empty}
 use Rattle.m51_module.proofs.Units.{same_or_not}
-use Rattle.m51_module.proofs.Reach.{reach_edge, reach_on}
+use Rattle.m51_module.proofs.Reach.{last_on, reach_edge, reach_on, walk_on}
 use Rattle.m51_graph.specs.Leading.{leads}
-use Rattle.m51_graph.specs.Levels.{EndsWalk, IsLevel, AreWalked, AreSettled, IsClimbing, Lifts}
-use Rattle.m51_graph.specs.Marks.{LeadWithin}
+use Rattle.m51_graph.specs.Climbing.{AreSettled, AreWalked, IsClimbing, Lifts}
+use Rattle.m51_graph.specs.Graph.{LeadWithin}
+use Rattle.m51_graph.specs.Levels.{EndsWalk, IsLevel}
 use Rattle.m51_graph.proofs.Deciding.{leads_tells}
 
 abbrev one_if : Bool → ℕ
@@ -69,16 +70,8 @@ module _ (n : ℕ) (edges : Edges) (within : LeadWithin n edges) (no_cycle : (u 
   pub walk_short : (unit count : ℕ) → EndsWalk edges unit count → count ≤ n
   walk_short unit count h = omega (arith, rank_walk h.first h.more h.walk, tally_le (λ w. leads edges w (last_of h.first h.more)) n, h.count_is)
 
-walk_on : (edges : Edges) (u : ℕ) (vs : List ℕ) (w : ℕ) → IsWalk edges u vs → HasEdge edges (last_of u vs) w → IsWalk edges u (vs ++ w ∷ [])
-walk_on edges u [] w p h = (h, tt)
-walk_on edges u (v ∷ vs) w p h = (p.0, walk_on edges v vs w p.1 h)
-
-last_on : (u : ℕ) (vs : List ℕ) (w : ℕ) → last_of u (vs ++ w ∷ []) ≡ w
-last_on u [] w = refl
-last_on u (v ∷ vs) w = last_on v vs w
-
 -- a walk that ends in a unit, and then an edge
-ends_on : (edges : Edges) (u v count : ℕ) → EndsWalk edges u count → HasEdge edges u v → EndsWalk edges v (count + 1)
+pub ends_on : (edges : Edges) (u v count : ℕ) → EndsWalk edges u count → HasEdge edges u v → EndsWalk edges v (count + 1)
 ends_on edges u v count h e = record {
   first = h.first;
   more = h.more ++ v ∷ [];

@@ -20,7 +20,8 @@ use Rattle.m51_module.specs.Validity.{numbered, IsValid, IsFixupValid, IsHeld, I
 use Rattle.m51_module.specs.Walks.{Edges}
 use Rattle.m51_resolve.specs.Joining.{segment_at}
 use Rattle.m51_resolve.specs.Publics.{external_at}
-use Rattle.m51_graph.specs.Drawing.{with_edge, with_edges, with_added, added_by, module_edges, IsBaseIn, IsTargetThere}
+use Rattle.m51_graph.specs.Conditions.{IsBaseIn, IsTargetThere}
+use Rattle.m51_graph.specs.Drawing.{with_edge, with_edges, with_added, added_by, module_edges}
 
 -- some edges, and then more
 pub with_append : (edges one two : Edges) → with_edges edges (one ++ two) ≡ with_edges (with_edges edges one) two

@@ -1,8 +1,14 @@
-pub mod Marking
-pub mod Closing
 pub mod Deciding
 pub mod Climbing
 pub mod Relations
+pub mod Walking
+pub mod Levelled
 pub mod Drawn
 pub mod Within
+pub mod Fronts
+pub mod Bytes
+pub mod BitLaws
+pub mod Closed
+pub mod Cutting
+pub mod EdgeLaws
 pub mod Judged

@@ -1,9 +1,9 @@
 -- The edges, roots and owners of a program are of its units.
 use Rattle.std.proofs.Common.{◌≡◌, ◌⊎◌, inl, inr, ℕ, zero, suc, ◌+◌, ◌<◌, ◌≤◌, true, false, Bool, not, ◌&&◌, cond, ltb, nat_eq, List, [], ◌∷◌, ◌++◌, length, map, filter, Option, Some, None, refl, sym, ap, subst, ◌∙◌, arith}
-use Rattle.std.specs.Prelude.{flat_map, slice_get, position, option_map}
+use Rattle.std.specs.Prelude.{flat_map, slice_get, position, option_and_then, option_map}
 use Rattle.std.specs.List.{Contains, filter_map, cons_option, list_any, position_or_len, range_with_len}
 use Rattle.std.specs.Option.{option_map_or}
-use Rattle.std.proofs.lemmas.Bool.{false≢true}
+use Rattle.std.proofs.lemmas.Bool.{cases_Bool, false≢true}
 use Rattle.std.proofs.lemmas.Bool.Decides.{Decides-eqb}
 use Rattle.std.proofs.lemmas.List.{length-map}
 use Rattle.std.proofs.lemmas.List.Elements.{Contains-append_cases}
@@ -11,6 +11,7 @@ use Rattle.std.proofs.lemmas.List.Folds.{Any-from_list_any}
 use borrow.Author.Tests.{ltb-true}
 use Rattle.m51_cells.specs.declared.kind.Base.{Base}
 use Rattle.m51_cells.specs.declared.kind.Base.TheVariants.{None as NoBase, Segment as InSegment, External as OfExternal}
+use Rattle.m51_cells.specs.Kinds.{is_absolute, is_code}
 use Rattle.m51_control.specs.declared.control.Control.{Control}
 use Rattle.m51_control.specs.declared.control.Control.TheVariants.{Add, Cut, NoOverlay, Reserve, Order}
 use Rattle.m51_module.specs.declared.content.Fixup.{Fixup}
@@ -21,13 +22,12 @@ use Rattle.m51_module.proofs.Owning.{contains_behind, first_or_behind, none_in_e
 use Rattle.m51_resolve.specs.declared.segment.JoinedSegment.{JoinedSegment}
 use Rattle.m51_resolve.specs.Joining.{segments_of}
 use Rattle.m51_resolve.specs.Publics.{public_of}
-use Rattle.m51_graph.specs.Drawing.{unit_with, public_unit, public_base, target_unit, edge_between, fixup_edge, has_edge, with_edge, with_edges, module_edges, fixup_edges, edge_named, added_by, is_cut, edges_of}
-use Rattle.m51_graph.specs.Graph.{IsDrawn}
+use Rattle.m51_graph.specs.Drawing.{edge_between, fixup_edge, has_edge, with_edge, with_edges, module_edges, fixup_edges, edge_named, added_by, is_cut, edges_of}
+use Rattle.m51_graph.specs.Targets.{unit_with, public_unit, public_base, target_unit}
+use Rattle.m51_graph.specs.Graph.{AreOfUnits, LeadWithin}
 use Rattle.m51_graph.specs.Graphs.{parts_of}
-use Rattle.m51_graph.specs.Locals.{own_unit, is_named_after, is_kept_apart, unless_apart, owner_of, owners_of}
-use Rattle.m51_graph.specs.Marks.{LeadWithin}
-use Rattle.m51_graph.specs.Units.{is_code, units_from, units_of, code_segments, unit_titles, named, is_absolute, is_root, roots_from, roots_of}
-use Rattle.m51_graph.proofs.Relations.{true_or_false}
+use Rattle.m51_graph.specs.Locals.{is_apart, own_name, own_unit, own_units, overlaid_by, unless_apart}
+use Rattle.m51_graph.specs.Units.{units_from, units_of, code_segments, unit_titles, named, is_root, roots_from, roots_of}
 
 -- there are as many titles as units
 pub count_units : (number : ℕ) (segments : List JoinedSegment) → length (units_from number segments) ≡ length (code_segments segments)
@@ -47,13 +47,13 @@ Below count None = Unit {0}
 Below count (Some k) = k < count
 
 position_below : {A : Type 0} (p : A → Bool) (xs : List A) → Below (length xs) (position p xs)
-position_below p xs = elim (true_or_false (ltb (position_or_len p xs) (length xs))) as (λ _. Below (length xs) (position p xs)) [
+position_below p xs = elim (cases_Bool (ltb (position_or_len p xs) (length xs))) as (λ _. Below (length xs) (position p xs)) [
   | inl within ↦ subst (λ b. Below (length xs) (cond b (Some (position_or_len p xs)) None)) (sym within) (ltb-true (position_or_len p xs) (length xs) within)
   | inr out ↦ subst (λ b. Below (length xs) (cond b (Some (position_or_len p xs)) None)) (sym out) tt
 ]
 
 -- an edge, if there is one, leads within
-abbrev EdgeWithin : ℕ → Option (ℕ × ℕ) → Type 0
+abbrev pub EdgeWithin : ℕ → Option (ℕ × ℕ) → Type 0
 EdgeWithin count None = Unit {0}
 EdgeWithin count (Some e) = (e.0 < count) × (e.1 < count)
 
@@ -145,7 +145,7 @@ module _ (modules : List ModuleParts) where
       (within_flat_map count (module_edges modules) module_within (range_with_len 0 (length modules)))
 
 -- the edges that lines add
-named_within : (titles : List (List ℕ)) (from name : List ℕ) → EdgeWithin (length titles) (edge_named titles from name)
+pub named_within : (titles : List (List ℕ)) (from name : List ℕ) → EdgeWithin (length titles) (edge_named titles from name)
 named_within titles from name = between_within (length titles) (named titles from) (named titles name) (position_below _ titles) (position_below _ titles)
 
 added_within : (titles : List (List ℕ)) (control : Control) → LeadWithin (length titles) (added_by titles control)
@@ -178,7 +178,7 @@ roots_fit unit [] x u h = absurd (none_in_empty (x, u) h)
 roots_fit unit (j ∷ more) x u h =
     let rest = roots_from (unit + 1) more in
     let later : Contains rest (x, u) → RootFit (unit + length (j ∷ more)) x u = λ k. let fit = roots_fit (unit + 1) more x u k in (fit.0, omega (arith, fit.1)) in
-    elim (true_or_false (is_root j)) as (λ _. RootFit (unit + length (j ∷ more)) x u) [
+    elim (cases_Bool (is_root j)) as (λ _. RootFit (unit + length (j ∷ more)) x u) [
       | inl root ↦ elim (first_or_behind (j.base, unit) rest (x, u) (subst (λ b. Contains (cond b ((j.base, unit) ∷ rest) rest) (x, u)) root h)) as (λ _. RootFit (unit + length (j ∷ more)) x u) [
         | inl here ↦ (subst (λ v. Contains vectors v) (ap (λ (p : ℕ × ℕ). p.0) here) (vector_is j root), omega (arith, ap (λ (p : ℕ × ℕ). p.1) here))
         | inr behind ↦ later behind
@@ -186,34 +186,39 @@ roots_fit unit (j ∷ more) x u h =
       | inr other ↦ later (subst (λ b. Contains (cond b ((j.base, unit) ∷ rest) rest) (x, u)) other h)
     ]
 
--- owners are units
+-- own units are units
 apart_below : (titles : List (List ℕ)) (controls : List (ℕ × Control)) (found : Option ℕ) → Below (length titles) found → Below (length titles) (unless_apart titles controls found)
 apart_below titles controls None h = tt
-apart_below titles controls (Some unit) h = elim (is_kept_apart titles controls unit) as (λ b. Below (length titles) (cond b None (Some unit))) [ true ↦ tt | false ↦ h ]
+apart_below titles controls (Some unit) h = elim (is_apart titles controls unit) as (λ b. Below (length titles) (cond b None (Some unit))) [ true ↦ tt | false ↦ h ]
 
-owner_below : (titles : List (List ℕ)) (controls : List (ℕ × Control)) (j : JoinedSegment) → Below (length titles) (owner_of titles controls j)
-owner_below titles controls j = elim j.overlay as (λ b. Below (length titles) (cond b (unless_apart titles controls (own_unit titles j)) None)) [
-  | true ↦ apart_below titles controls (own_unit titles j) (position_below _ titles)
+own_below : (titles : List (List ℕ)) (name : Option (List ℕ)) → Below (length titles) (option_and_then (named titles) name)
+own_below titles None = tt
+own_below titles (Some name) = position_below _ titles
+
+overlaid_below : (titles : List (List ℕ)) (controls : List (ℕ × Control)) (j : JoinedSegment) → Below (length titles) (overlaid_by titles controls j)
+overlaid_below titles controls j = elim j.overlay as (λ b. Below (length titles) (cond b (unless_apart titles controls (own_unit titles j)) None)) [
+  | true ↦ apart_below titles controls (own_unit titles j) (own_below titles (own_name j))
   | false ↦ tt
 ]
 
-owners_below : (titles : List (List ℕ)) (controls : List (ℕ × Control)) (segments : List JoinedSegment) (s u : ℕ)
-    → slice_get (owners_of titles controls segments) s ≡ Some (Some u) → u < length titles
-owners_below titles controls [] s u h = absurd (cc h)
-owners_below titles controls (j ∷ more) zero u h =
-    let is : owner_of titles controls j ≡ Some u = cc h in
-    subst (λ found. Below (length titles) found) is (owner_below titles controls j)
-owners_below titles controls (j ∷ more) (suc s) u h = owners_below titles controls more s u h
+own_units_below : (titles : List (List ℕ)) (controls : List (ℕ × Control)) (segments : List JoinedSegment) (s u : ℕ)
+    → slice_get (own_units titles controls segments) s ≡ Some (Some u) → u < length titles
+own_units_below titles controls [] s u h = absurd (cc h)
+own_units_below titles controls (j ∷ more) zero u h =
+    let is : overlaid_by titles controls j ≡ Some u = cc h in
+    subst (λ found. Below (length titles) found) is (overlaid_below titles controls j)
+own_units_below titles controls (j ∷ more) (suc s) u h = own_units_below titles controls more s u h
 
 -- the parts of a graph
-pub parts_drawn : (segments : List JoinedSegment) (controls : List (ℕ × Control)) (made : Edges) → length (unit_titles segments) ≤ 1000
-    → LeadWithin (length (unit_titles segments)) made → IsDrawn (parts_of segments controls (edges_of (unit_titles segments) controls made))
-parts_drawn segments controls made few within =
+pub parts_fit : (segments : List JoinedSegment) (controls : List (ℕ × Control)) (made : Edges) → length (unit_titles segments) ≤ 1000
+    → LeadWithin (length (unit_titles segments)) made → AreOfUnits (parts_of segments controls (edges_of (unit_titles segments) controls made))
+parts_fit segments controls made few within =
     let titles = unit_titles segments in
     let same : length titles ≡ length (units_of segments) = titles_are segments in
     record {
       few_units = omega (arith, few, same);
       edges = subst (λ n. LeadWithin n (edges_of titles controls made)) same (edges_within titles controls made within);
       roots = λ x u h. let fit = roots_fit 0 (code_segments segments) x u h in (fit.0, omega (arith, fit.1, count_units 0 segments));
-      owners = λ u s h. let below : u < length titles = owners_below titles controls segments s u h in omega (arith, below, same);
+      own = λ u s h. let below : u < length titles = own_units_below titles controls segments s u h in omega (arith, below, same);
+      arguments = length-map segments (λ (j : JoinedSegment). j.argument) ∙ sym (length-map segments (overlaid_by titles controls));
     }

@@ -1,6 +1,7 @@
 -- The levels of units.
-use Rattle.std.specs.Prelude.{◌≡◌, ℕ, ◌+◌, ◌<◌, ◌≤◌, Bool, true, false, List, length, sum, slice_index, slice_set}
-use Rattle.m51_module.specs.Walks.{Edges, HasEdge, IsWalk, last_of}
+use Rattle.std.specs.Prelude.{◌≡◌, ℕ, zero, suc, ◌<◌, ◌≤◌, Bool, true, not, ◌&&◌, nat_eq, List, length, find, unwrap_or}
+use Rattle.std.specs.List.{list_any, range_with_len}
+use Rattle.m51_module.specs.Walks.{Edges, IsWalk, last_of}
 
 -- a walk of so many edges ends in the unit
 pub record EndsWalk (edges : Edges) (unit count : ℕ) : Type 0 where
@@ -15,23 +16,11 @@ pub record IsLevel (edges : Edges) (unit level : ℕ) : Type 0 where
   pub longest : EndsWalk edges unit level
   pub most : (count : ℕ) → EndsWalk edges unit count → count ≤ level
 
--- each level is the number of edges of a walk that ends in its unit
-pub record AreWalked (edges : Edges) (levels : List ℕ) : Type 0 where
-  pub walked : (unit : ℕ) → unit < length levels → EndsWalk edges unit (slice_index levels unit)
+-- whether a walk of so many edges ends in the unit, decided along the list of edges by the last edge of the walk
+unfoldable pub ends_walk : Edges → ℕ → ℕ → Bool
+ends_walk edges zero unit = true
+ends_walk edges (suc count) unit = list_any (λ (edge : ℕ × ℕ). nat_eq edge.1 unit && ends_walk edges count edge.0) edges
 
--- each edge leads to a higher level
-pub record AreSettled (edges : Edges) (levels : List ℕ) : Type 0 where
-  pub higher : (u v : ℕ) → HasEdge edges u v → slice_index levels u < slice_index levels v
-
--- Levels climbed along the first of the edges: where none rose, each of these edges leads to a higher one.
-pub record IsClimbing (edges done : Edges) (old new : List ℕ) (rose : Bool) : Type 0 where
-  pub len : length new ≡ length old
-  pub walked : AreWalked edges new
-  pub settled : rose ≡ false → AreSettled done new
-  pub not_less : sum old ≤ sum new
-  pub more : rose ≡ true → sum old < sum new
-
--- one level rises above another, unless it stands above it
-abbrev pub Lifts : ℕ → ℕ → List ℕ → List ℕ → Bool → Type 0
-Lifts lower upper old new true = (slice_index old upper < slice_index old lower + 1) × (new ≡ slice_set old upper (slice_index old lower + 1))
-Lifts lower upper old new false = (slice_index old lower < slice_index old upper) × (new ≡ old)
+-- the level as a function: the least number of edges such that no walk of one more ends in the unit
+unfoldable pub level_of : Edges → ℕ → ℕ
+level_of edges unit = unwrap_or (find (λ count. not (ends_walk edges (suc count) unit)) (range_with_len 0 65536)) 0

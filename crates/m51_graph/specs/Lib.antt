@@ -1,11 +1,16 @@
+pub mod Bits
+pub mod Climbing
+pub mod Conditions
 pub mod Drawing
 pub mod Graph
 pub mod Graphs
+pub mod Kept
 pub mod Laws
 pub mod Leading
 pub mod Levels
 pub mod Lines
 pub mod Locals
-pub mod Marks
 pub mod Relating
+pub mod Rows
+pub mod Targets
 pub mod Units

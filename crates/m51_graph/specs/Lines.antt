@@ -3,39 +3,15 @@ use Rattle.std.specs.Prelude.{ℕ, Bool, true, false, not, ◌&&◌, List, [], �
 use Rattle.std.specs.List.{list_any, list_all}
 use Rattle.std.specs.Option.{option_map_or}
 use Rattle.std.specs.Str.{bytes_eq}
-use Rattle.m51_cells.specs.declared.kind.Kind.{Kind}
-use Rattle.m51_cells.specs.declared.kind.Kind.TheVariants.{Code, Xdata, Direct, Idata, Bits, Number}
-use Rattle.m51_cells.specs.declared.kind.Reloc.{Reloc}
-use Rattle.m51_cells.specs.declared.kind.Reloc.TheVariants.{Abs, Bitaddressable as BitaddressableType}
+use Rattle.m51_control.specs.Classes.{class_of, same_class}
 use Rattle.m51_control.specs.declared.control.Class.{Class}
-use Rattle.m51_control.specs.declared.control.Class.TheVariants.{Bitaddressable as BitaddressableClass, Bits as BitsClass, Direct as DirectClass, Idata as IdataClass, Xdata as XdataClass, Code as CodeClass}
 use Rattle.m51_control.specs.declared.control.Control.{Control}
 use Rattle.m51_control.specs.declared.control.Control.TheVariants.{Add, Cut, NoOverlay, Reserve, Order}
 use Rattle.m51_module.specs.Walks.{Edges}
 use Rattle.m51_resolve.specs.declared.segment.JoinedSegment.{JoinedSegment}
 use Rattle.m51_graph.specs.Units.{named}
-use Rattle.m51_graph.specs.Locals.{owner_of}
+use Rattle.m51_graph.specs.Locals.{overlaid_by}
 use Rattle.m51_graph.specs.Drawing.{edge_named, has_edge}
-
--- the class of a relocatable segment; an absolute one has none
-abbrev pub class_of : Kind → Reloc → Option Class
-class_of _ Abs = None
-class_of Direct BitaddressableType = Some BitaddressableClass
-class_of Direct _ = Some DirectClass
-class_of Bits _ = Some BitsClass
-class_of Idata _ = Some IdataClass
-class_of Xdata _ = Some XdataClass
-class_of Code _ = Some CodeClass
-class_of Number _ = None
-
-abbrev pub same_class : Class → Class → Bool
-same_class BitaddressableClass BitaddressableClass = true
-same_class BitsClass BitsClass = true
-same_class DirectClass DirectClass = true
-same_class IdataClass IdataClass = true
-same_class XdataClass XdataClass = true
-same_class CodeClass CodeClass = true
-same_class _ _ = false
 
 abbrev pub is_of_class : Class → JoinedSegment → Bool
 is_of_class class j = option_map_or (same_class class) (class_of j.kind j.reloc) false
@@ -43,7 +19,7 @@ is_of_class class j = option_map_or (same_class class) (class_of j.kind j.reloc)
 -- the segment has that name, is relocatable and of that class, and is not overlaid
 abbrev pub may_stand : List (List ℕ) → List (ℕ × Control) → Class → List ℕ → JoinedSegment → Bool
 may_stand titles controls class name j =
-    bytes_eq j.title name && (is_of_class class j && is_none (owner_of titles controls j))
+    bytes_eq j.title name && (is_of_class class j && is_none (overlaid_by titles controls j))
 
 -- the edge is there, and fixups make it
 abbrev pub is_made : Edges → Option (ℕ × ℕ) → Bool
@@ -59,8 +35,10 @@ fits titles segments controls made (Cut from names) =
     is_some (named titles from) && list_all (λ name. is_made made (edge_named titles from name)) names
 fits titles segments controls made (NoOverlay name) = is_some (named titles name)
 fits titles segments controls made (Reserve space low high) = true
-fits titles segments controls made (Order class names) = list_all (λ name. list_any (may_stand titles controls class name) segments) names
+fits titles segments controls made (Order class names) =
+    list_all (λ name. list_any (may_stand titles controls class name) segments) names
 
 -- L7: the number of the first line that does not fit
 abbrev pub bad_line : List (List ℕ) → List JoinedSegment → List (ℕ × Control) → Edges → Option ℕ
-bad_line titles segments controls made = option_map (λ line. line.0) (find (λ line. not (fits titles segments controls made line.1)) controls)
+bad_line titles segments controls made =
+    option_map (λ line. line.0) (find (λ line. not (fits titles segments controls made line.1)) controls)

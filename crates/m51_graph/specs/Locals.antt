@@ -1,42 +1,46 @@
--- Locals of units, and which segments are overlaid.
-use Rattle.std.specs.Prelude.{ℕ, Bool, true, false, ◌&&◌, not, nat_eq, drop, if◌then◌else◌, List, [], ◌∷◌, map, position, find, is_none, Option, Some, None, option_map}
+-- Locals and argument segments of units, and which segments are overlaid.
+use Rattle.std.specs.Prelude.{ℕ, Bool, true, false, ◌&&◌, ◌++◌, nat_eq, drop, if◌then◌else◌, List, [], ◌∷◌, map, find, is_none, Option, Some, None, option_map, option_and_then}
 use Rattle.std.specs.List.{list_any, starts_with}
 use Rattle.std.specs.Option.{option_map_or}
-use Rattle.std.specs.Str.{bytes_eq}
 use Rattle.m51_cells.specs.declared.kind.Kind.{Kind}
 use Rattle.m51_cells.specs.declared.kind.Kind.TheVariants.{Code, Xdata, Direct, Idata, Bits, Number}
 use Rattle.m51_control.specs.declared.control.Control.{Control}
 use Rattle.m51_control.specs.declared.control.Control.TheVariants.{NoOverlay}
+use Rattle.m51_module.specs.Arguments.{argument_front}
 use Rattle.m51_resolve.specs.declared.segment.JoinedSegment.{JoinedSegment}
 use Rattle.m51_graph.specs.Units.{named}
 
 -- how the names of the locals of each kind begin: ?DT?, ?ID?, ?BI? and ?XD?
-abbrev pub prefix_of : Kind → Option (List ℕ)
-prefix_of Direct = Some (0x3F ∷ 0x44 ∷ 0x54 ∷ 0x3F ∷ [])
-prefix_of Idata = Some (0x3F ∷ 0x49 ∷ 0x44 ∷ 0x3F ∷ [])
-prefix_of Bits = Some (0x3F ∷ 0x42 ∷ 0x49 ∷ 0x3F ∷ [])
-prefix_of Xdata = Some (0x3F ∷ 0x58 ∷ 0x44 ∷ 0x3F ∷ [])
-prefix_of Code = None
-prefix_of Number = None
+abbrev pub local_front : Kind → Option (List ℕ)
+local_front Direct = Some (0x3F ∷ 0x44 ∷ 0x54 ∷ 0x3F ∷ [])
+local_front Idata = Some (0x3F ∷ 0x49 ∷ 0x44 ∷ 0x3F ∷ [])
+local_front Bits = Some (0x3F ∷ 0x42 ∷ 0x49 ∷ 0x3F ∷ [])
+local_front Xdata = Some (0x3F ∷ 0x58 ∷ 0x44 ∷ 0x3F ∷ [])
+local_front Code = None
+local_front Number = None
 
--- how the names of units that may have locals begin: ?PR?
-abbrev pub unit_prefix : List ℕ
-unit_prefix = 0x3F ∷ 0x50 ∷ 0x52 ∷ 0x3F ∷ []
+-- how the names of units begin that may have locals and an argument segment: ?PR?
+abbrev pub unit_front : List ℕ
+unit_front = 0x3F ∷ 0x50 ∷ 0x52 ∷ 0x3F ∷ []
 
--- the names begin with these letters and with ?PR?, and are one behind them
-abbrev pub are_paired : List ℕ → List ℕ → List ℕ → Bool
-are_paired local unit letters =
-    starts_with nat_eq local letters && (starts_with nat_eq unit unit_prefix && bytes_eq (drop 4 local) (drop 4 unit))
+-- how the name of the segment begins where it is that of a unit: ?AG? for one that is marked as an argument segment,
+-- else as the locals of its kind
+abbrev pub front_of : JoinedSegment → Option (List ℕ)
+front_of j = if j.argument then Some argument_front else local_front j.kind
 
--- the segment has the name of the locals of the unit
-abbrev pub is_named_after : Kind → List ℕ → List ℕ → Bool
-is_named_after kind local unit = option_map_or (are_paired local unit) (prefix_of kind) false
+-- the name with ?PR? in place of this front, if it begins with that
+abbrev pub unit_name : List ℕ → List ℕ → Option (List ℕ)
+unit_name title front = if starts_with nat_eq title front then Some (unit_front ++ drop 4 title) else None
 
--- the unit of which the segment holds locals: the first whose title fits
+-- the name of the segment's own unit
+abbrev pub own_name : JoinedSegment → Option (List ℕ)
+own_name j = option_and_then (unit_name j.title) (front_of j)
+
+-- the unit whose local or argument segment it is
 abbrev pub own_unit : List (List ℕ) → JoinedSegment → Option ℕ
-own_unit titles j = position (is_named_after j.kind j.title) titles
+own_unit titles j = option_and_then (named titles) (own_name j)
 
--- L6: the first segment marked OVERLAYABLE that holds locals of no unit
+-- L6: the first segment marked OVERLAYABLE that is neither a local nor the argument segment of a unit
 abbrev pub is_lost : List (List ℕ) → JoinedSegment → Bool
 is_lost titles j = j.overlay && is_none (own_unit titles j)
 
@@ -48,18 +52,18 @@ abbrev pub keeps_apart : List (List ℕ) → ℕ → Control → Bool
 keeps_apart titles unit (NoOverlay name) = option_map_or (nat_eq unit) (named titles name) false
 keeps_apart titles unit other = false
 
-abbrev pub is_kept_apart : List (List ℕ) → List (ℕ × Control) → ℕ → Bool
-is_kept_apart titles controls unit = list_any (λ line. keeps_apart titles unit line.1) controls
+abbrev pub is_apart : List (List ℕ) → List (ℕ × Control) → ℕ → Bool
+is_apart titles controls unit = list_any (λ line. keeps_apart titles unit line.1) controls
 
--- that unit, unless a line keeps its locals apart
+-- that unit, unless a line keeps its segments apart
 abbrev pub unless_apart : List (List ℕ) → List (ℕ × Control) → Option ℕ → Option ℕ
 unless_apart titles controls None = None
-unless_apart titles controls (Some unit) = if is_kept_apart titles controls unit then None else Some unit
+unless_apart titles controls (Some unit) = if is_apart titles controls unit then None else Some unit
 
--- the owner of a segment: where it is marked OVERLAYABLE, its unit, unless a line keeps that unit's locals apart
-abbrev pub owner_of : List (List ℕ) → List (ℕ × Control) → JoinedSegment → Option ℕ
-owner_of titles controls j = if j.overlay then unless_apart titles controls (own_unit titles j) else None
+-- the own unit of a segment that is overlaid: it is marked OVERLAYABLE, and no line keeps its own unit's segments apart
+abbrev pub overlaid_by : List (List ℕ) → List (ℕ × Control) → JoinedSegment → Option ℕ
+overlaid_by titles controls j = if j.overlay then unless_apart titles controls (own_unit titles j) else None
 
--- the owner of each joined segment
-abbrev pub owners_of : List (List ℕ) → List (ℕ × Control) → List JoinedSegment → List (Option ℕ)
-owners_of titles controls segments = map (owner_of titles controls) segments
+-- for each joined segment its own unit, where it is overlaid
+abbrev pub own_units : List (List ℕ) → List (ℕ × Control) → List JoinedSegment → List (Option ℕ)
+own_units titles controls segments = map (overlaid_by titles controls) segments

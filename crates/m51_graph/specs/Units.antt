@@ -2,25 +2,15 @@
 use Rattle.std.specs.Prelude.{◌≡◌, ℕ, ◌+◌, Bool, true, false, ◌&&◌, nat_eq, if◌then◌else◌, List, [], ◌∷◌, map, filter, position, Option}
 use Rattle.std.specs.List.{list_any}
 use Rattle.std.specs.Str.{bytes_eq}
-use Rattle.m51_cells.specs.declared.kind.Kind.{Kind}
-use Rattle.m51_cells.specs.declared.kind.Kind.TheVariants.{Code}
-use Rattle.m51_cells.specs.declared.kind.Reloc.{Reloc}
-use Rattle.m51_cells.specs.declared.kind.Reloc.TheVariants.{Abs}
+use Rattle.m51_cells.specs.Kinds.{is_absolute, is_code}
 use Rattle.m51_module.specs.Roots.{vectors}
 use Rattle.m51_resolve.specs.declared.segment.JoinedSegment.{JoinedSegment}
-use Rattle.m51_resolve.specs.Publics.{same_kind}
-
-abbrev pub is_code : Kind → Bool
-is_code kind = same_kind kind Code
-
-abbrev pub is_absolute : Reloc → Bool
-is_absolute Abs = true
-is_absolute _ = false
 
 -- the joined numbers of the units among segments, the first of which has that number
 abbrev pub units_from : ℕ → List JoinedSegment → List ℕ
 units_from number [] = []
-units_from number (j ∷ more) = if is_code j.kind then number ∷ units_from (number + 1) more else units_from (number + 1) more
+units_from number (j ∷ more) =
+    if is_code j.kind then number ∷ units_from (number + 1) more else units_from (number + 1) more
 
 -- the joined number of each unit
 abbrev pub units_of : List JoinedSegment → List ℕ
@@ -45,7 +35,8 @@ is_root j = is_absolute j.reloc && list_any (nat_eq j.base) vectors
 -- the roots among units, the first of which has that number: each with its vector
 abbrev pub roots_from : ℕ → List JoinedSegment → List (ℕ × ℕ)
 roots_from unit [] = []
-roots_from unit (j ∷ more) = if is_root j then (j.base, unit) ∷ roots_from (unit + 1) more else roots_from (unit + 1) more
+roots_from unit (j ∷ more) =
+    if is_root j then (j.base, unit) ∷ roots_from (unit + 1) more else roots_from (unit + 1) more
 
 -- the vector and the unit of each root
 abbrev pub roots_of : List JoinedSegment → List (ℕ × ℕ)

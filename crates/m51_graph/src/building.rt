@@ -4,16 +4,15 @@ ghost use Rattle.m51_cells.specs.Outcome.{Gives};
 ghost use Rattle.m51_module.specs.Walks.{Edges};
 ghost use Rattle.m51_resolve.specs.Rules.{but_memory};
 ghost use Rattle.m51_graph.specs.Drawing.{edges_of};
-ghost use Rattle.m51_graph.specs.Graph.{IsDrawn};
+ghost use Rattle.m51_graph.specs.Graph.{LeadWithin};
 ghost use Rattle.m51_graph.specs.Graphs.{graph_of, graph_over, parts_of};
-ghost use Rattle.m51_graph.specs.Marks.{LeadWithin};
 ghost use Rattle.m51_graph.specs.Units.{unit_titles};
 
 use crate::drawing::{edges_of, fixup_edges};
 use crate::graphs::Graph;
 use crate::judging::judge;
 use crate::lines::bad_line;
-use crate::locals::{lost_segment, owners};
+use crate::locals::{argument_marks, lost_segment, own_units};
 use crate::parts::GraphParts;
 use crate::units::{roots, unit_numbers, unit_titles};
 use m51_cells::{ListOf, Name, NoMemory};
@@ -33,24 +32,25 @@ fn parts_of(
     requires segments { length segments.now ≤ 2000 }
     requires titles { titles.now ≡ unit_titles segments.now }
     requires few { length titles.now ≤ 1000 }
-    ensures { IfOk result (λ parts. parts ≡ parts_of segments.now controls.now (edges_of titles.now controls.now made.now)) }
+    ensures { IfOk result (λ parts. parts
+        ≡ parts_of segments.now controls.now (edges_of titles.now controls.now made.now)) }
 {
     let units = unit_numbers(alloc, segments)?;
     let edges = edges_of(alloc, titles, controls, made)?;
     let roots = roots(alloc, segments)?;
-    let owners = owners(alloc, titles, controls, segments)?;
+    let own = own_units(alloc, titles, controls, segments)?;
+    let arguments = argument_marks(alloc, segments)?;
     Ok(GraphParts {
         units: ListOf::of(units),
         edges: ListOf::of(edges),
         roots: ListOf::of(roots),
-        owners: ListOf::of(owners),
+        own: ListOf::of(own),
+        arguments: ListOf::of(arguments),
     })
 }
 
-/// The graph of joined segments and control lines over the edges that fixups make, or the refusal of the first rule that
-/// fails.
-///
-/// Source: RL51 guide.
+// The graph of joined segments and control lines over the edges that fixups make, or the refusal of the first rule that
+// fails.
 pub(crate) fn graph_over(
     alloc: Global,
     segments: &[JoinedSegment],
@@ -74,10 +74,11 @@ pub(crate) fn graph_over(
     judge(alloc, titles, parts)
 }
 
-/// The graph of chosen modules and control lines. The refusals, in their order: L6, the first segment marked OVERLAYABLE
-/// that holds locals of no unit; L7, the first control line that does not fit; L8, no absolute segment of program memory
-/// begins at 0000H; L10, all units that reach themselves; L11, the first unit with an overlaid local that lies under two
-/// roots, and the titles of the two at the lowest addresses. Want of memory may come in place of any answer.
+/// The graph of chosen modules and control lines. The refusals, in their order: L6, the first segment marked
+/// OVERLAYABLE that is neither a local nor the argument segment of a unit; L7, the first control line that does not
+/// fit; L8, no absolute segment of program memory begins at 0000H; L10, all units that reach themselves; L11, the first
+/// unit with an overlaid local or argument segment that lies under two roots, and the titles of the two at the lowest
+/// addresses. Want of memory may come in place of any answer.
 ///
 /// Source: RL51 guide.
 pub fn graph(alloc: Global, joined: &Joined, controls: &Controls) -> Result<Graph, Refusal>

@@ -1,102 +1,23 @@
 //! The edges between units.
-ghost use Rattle.std.specs.Prelude.{◌≡◌, ◌<◌, ◌≤◌, IfOk, IfSome, IsOk, IsSome, Some, filter, length, nat_eq, not, position, slice_get};
+ghost use Rattle.std.specs.Prelude.{◌≡◌, ◌≤◌, ◌||◌, ℕ, IfOk, IfSome, IsOk, IsSome, Some, filter, length, not, slice_get};
 ghost use Rattle.std.specs.List.{filter_map, list_any};
 ghost use Rattle.m51_resolve.specs.Joining.{segments_of, segment_at};
-ghost use Rattle.m51_resolve.specs.Publics.{external_at};
-ghost use Rattle.m51_graph.specs.Drawing.{IsBaseIn, IsBaseThere, IsTargetThere, added_by, base_at, cuts, edge_between, edge_named, edges_of, external_unit, fixup_edge, fixup_edges, has_edge, is_cut, is_edge, module_edges, public_base, public_unit, same_edge, target_unit, unit_with, with_added, with_edge, with_edges};
+ghost use Rattle.m51_graph.specs.Conditions.{IsTargetThere, IsWithin};
+ghost use Rattle.m51_graph.specs.Drawing.{added_by, cuts, edge_between, edge_named, edges_of, fixup_edge, fixup_edges, has_edge, is_cut, is_edge, module_edges, same_edge, with_added, with_edge, with_edges};
+ghost use Rattle.m51_graph.specs.Rows.{pairs};
 ghost use Rattle.m51_graph.specs.Units.{units_of};
 
-use crate::units::{as_unit, named};
-use m51_cells::{Base, Name, NoMemory};
+use crate::bit_rows::BitRows;
+use crate::targets::{target_unit, unit_with};
+use crate::units::named;
+use m51_cells::{Name, NoMemory};
 use m51_control::Control;
 use m51_module::{Fixup, Module};
 use m51_resolve::Joined;
 use std::alloc::{AllocError, Global};
 
-// The place of the unit that has this joined number.
-fn place_with(units: &[u16], number: u16) -> Option<usize>
-    ensures place { result ≡ position (nat_eq number) units.now }
-    ensures inside { IfSome result (λ place. place < length units.now) }
-{
-    units.iter().position(|unit| number == *unit)
-}
-
-// The unit of which the segment is a part, if it is of program memory.
-fn unit_with(joined: &Joined, units: &[u16], module: u8, segment: u8) -> Option<u16>
-    requires there { IsSome (segment_at joined.now «module» segment) }
-    requires units { units.now ≡ units_of (segments_of joined.now) }
-    requires few { length units.now ≤ 1000 }
-    ensures { result ≡ unit_with joined.now «module» segment }
-{
-    let (number, _) = joined.part(module, segment);
-    as_unit(place_with(units, number))
-}
-
-// The unit in which a public with this base lies.
-fn public_unit(joined: &Joined, units: &[u16], module: u8, base: Base) -> Option<u16>
-    requires there { IsBaseThere joined.now «module» base }
-    requires units { units.now ≡ units_of (segments_of joined.now) }
-    requires few { length units.now ≤ 1000 }
-    ensures { result ≡ public_unit joined.now «module» base }
-{
-    match base {
-        Base::None => None,
-        Base::Segment(segment) => unit_with(joined, units, module, segment),
-        Base::External(_) => None,
-    }
-}
-
-// The base of the public of that place; none where it is not there.
-fn base_at(parts: &Module, place: usize) -> Base
-    ensures base { result ≡ base_at parts.now.publics place }
-    ensures there { IsBaseIn parts.now result }
-{
-    match parts.publics().get(place) {
-        Some(public) => public.base,
-        None => Base::None,
-    }
-}
-
-// The base of the public of that place of the module.
-fn public_base(joined: &Joined, module: u8, place: usize) -> Base
-    ensures base { result ≡ public_base joined.now «module» place }
-    ensures there { IsBaseThere joined.now «module» result }
-{
-    match joined.modules().get(usize::from(module)) {
-        Some(parts) => base_at(parts, place),
-        None => Base::None,
-    }
-}
-
-// The unit in which the public lies that resolves the external.
-fn external_unit(joined: &Joined, units: &[u16], module: u8, external: u8) -> Option<u16>
-    requires there { IsSome (external_at joined.now «module» external) }
-    requires units { units.now ≡ units_of (segments_of joined.now) }
-    requires few { length units.now ≤ 1000 }
-    ensures { result ≡ external_unit joined.now «module» external }
-{
-    let (home, place) = joined.public_of(module, external);
-    public_unit(joined, units, home, public_base(joined, home, place))
-}
-
-// The unit to which a target refers, directly or by an external.
-fn target_unit(joined: &Joined, units: &[u16], module: u8, target: Base) -> Option<u16>
-    requires there { IsTargetThere joined.now «module» target }
-    requires units { units.now ≡ units_of (segments_of joined.now) }
-    requires few { length units.now ≤ 1000 }
-    ensures { result ≡ target_unit joined.now «module» target }
-{
-    match target {
-        Base::None => None,
-        Base::Segment(segment) => unit_with(joined, units, module, segment),
-        Base::External(external) => external_unit(joined, units, module, external),
-    }
-}
-
-/// The edge from one unit to another: there is none from a unit to itself.
-///
-/// Source: RL51 guide.
-pub fn edge_between(from: Option<u16>, to: Option<u16>) -> Option<(u16, u16)>
+// The edge from one unit to another: there is none from a unit to itself.
+pub(crate) fn edge_between(from: Option<u16>, to: Option<u16>) -> Option<(u16, u16)>
     ensures { result ≡ edge_between from to }
 {
     match (from, to) {
@@ -126,10 +47,8 @@ fn same_edge(one: (u16, u16), two: (u16, u16)) -> bool
     one.0 == two.0 && one.1 == two.1
 }
 
-/// Whether the edge is one of these.
-///
-/// Source: own choice ("Edges").
-pub fn has_edge(edges: &[(u16, u16)], edge: (u16, u16)) -> bool
+// Whether the edge is one of these.
+pub(crate) fn has_edge(edges: &[(u16, u16)], edge: (u16, u16)) -> bool
     ensures { result ≡ has_edge edges.now edge }
 {
     edges.iter().any(|other| same_edge(edge, *other))
@@ -156,7 +75,8 @@ fn draw_fixups(
     requires there { slice_get joined.now «module» ≡ Some parts.now }
     requires units { units.now ≡ units_of (segments_of joined.now) }
     requires few { length units.now ≤ 1000 }
-    ensures { IsOk result → edges.new.items ≡ with_edges edges.old.items (filter_map (fixup_edge joined.now «module») parts.now.fixups) }
+    ensures { IsOk result → edges.new.items
+        ≡ with_edges edges.old.items (filter_map (fixup_edge joined.now «module») parts.now.fixups) }
 {
     for fixup in parts.fixups() {
         if let Some(edge) = fixup_edge(joined, units, module, fixup) {
@@ -183,10 +103,8 @@ fn draw_module(
     }
 }
 
-/// The edges that fixups make, each once, in order of first sight.
-///
-/// Source: RL51 guide.
-pub fn fixup_edges(
+// The edges that fixups make, each once, in order of first sight.
+pub(crate) fn fixup_edges(
     alloc: Global,
     joined: &Joined,
     units: &[u16],
@@ -202,10 +120,8 @@ pub fn fixup_edges(
     Ok(edges)
 }
 
-/// The edge from the one named unit to the other.
-///
-/// Source: own choice ("Edges").
-pub fn edge_named(titles: &[Name], from: &Name, to: &Name) -> Option<(u16, u16)>
+// The edge from the one named unit to the other.
+pub(crate) fn edge_named(titles: &[Name], from: &Name, to: &Name) -> Option<(u16, u16)>
     requires { length titles.now ≤ 1000 }
     ensures { result ≡ edge_named titles.now from.now to.now }
 {
@@ -220,7 +136,8 @@ fn draw_named(
     names: &[Name],
 ) -> Result<(), NoMemory>
     requires { length titles.now ≤ 1000 }
-    ensures { IsOk result → edges.new.items ≡ with_edges edges.old.items (filter_map (edge_named titles.now from.now) names.now) }
+    ensures { IsOk result → edges.new.items
+        ≡ with_edges edges.old.items (filter_map (edge_named titles.now from.now) names.now) }
 {
     for name in names {
         if let Some(edge) = edge_named(titles, from, name) {
@@ -260,43 +177,71 @@ fn draw_lines(
     Ok(())
 }
 
-// Whether the edge is that one, if there is one.
-fn is_edge(edge: (u16, u16), found: Option<(u16, u16)>) -> bool
-    ensures { result ≡ is_edge edge found }
+// Puts the edge into the set, if there is one.
+fn put_edge(set: &mut BitRows, found: Option<(u16, u16)>)
+    requires { IfSome found (λ edge. IsWithin set.old.count edge) }
+    ensures count { set.new.count ≡ set.old.count }
+    ensures pairs { (u v : ℕ) → pairs set.new u v ≡ (is_edge (u, v) found || pairs set.old u v) }
 {
-    match found {
-        Some(other) => same_edge(edge, other),
-        None => false,
+    if let Some(edge) = found {
+        set.put(edge.0, edge.1);
     }
 }
 
-// Whether the edge is one from the named unit to one of these.
-fn is_among(titles: &[Name], edge: (u16, u16), from: &Name, names: &[Name]) -> bool
-    requires { length titles.now ≤ 1000 }
-    ensures { result ≡ list_any (λ name. is_edge edge (edge_named titles.now from.now name)) names.now }
+// Puts the edges from the named unit to these into the set.
+fn put_named(set: &mut BitRows, titles: &[Name], from: &Name, names: &[Name])
+    requires few { length titles.now ≤ 1000 }
+    requires count { set.old.count ≡ length titles.now }
+    ensures count { set.new.count ≡ set.old.count }
+    ensures pairs { (u v : ℕ) → pairs set.new u v
+        ≡ (pairs set.old u v || list_any (λ name. is_edge (u, v) (edge_named titles.now from.now name)) names.now) }
 {
-    names
+    for name in names {
+        put_edge(set, edge_named(titles, from, name));
+    }
+}
+
+// Puts the edges that the line cuts into the set.
+fn put_cut(set: &mut BitRows, titles: &[Name], control: &Control)
+    requires few { length titles.now ≤ 1000 }
+    requires count { set.old.count ≡ length titles.now }
+    ensures count { set.new.count ≡ set.old.count }
+    ensures pairs { (u v : ℕ) → pairs set.new u v ≡ (pairs set.old u v || cuts titles.now (u, v) control.now) }
+{
+    if let Control::Cut(from, names) = control {
+        put_named(set, titles, from, names.as_slice());
+    }
+}
+
+// The edges that lines cut.
+fn cut_rows(
+    alloc: Global,
+    titles: &[Name],
+    controls: &[(u32, Control)],
+) -> Result<BitRows, NoMemory>
+    requires { length titles.now ≤ 1000 }
+    ensures { IfOk result (λ set. (u v : ℕ) → pairs set u v ≡ is_cut titles.now controls.now (u, v)) }
+{
+    let mut set = BitRows::none(alloc, titles.len())?;
+    for line in controls {
+        put_cut(&mut set, titles, &line.1);
+    }
+    Ok(set)
+}
+
+// Those of the edges that are not in the set.
+fn outside(
+    alloc: Global,
+    edges: &[(u16, u16)],
+    cut: &BitRows,
+) -> Result<Vec<(u16, u16)>, AllocError>
+    ensures { IfOk result (λ left. left.items ≡ filter (λ edge. not (pairs cut.now edge.0 edge.1)) edges.now) }
+{
+    edges
         .iter()
-        .any(|name| is_edge(edge, edge_named(titles, from, name)))
-}
-
-// Whether the line cuts the edge.
-fn cuts(titles: &[Name], edge: (u16, u16), control: &Control) -> bool
-    requires { length titles.now ≤ 1000 }
-    ensures { result ≡ cuts titles.now edge control.now }
-{
-    match control {
-        Control::Cut(from, names) => is_among(titles, edge, from, names.as_slice()),
-        _ => false,
-    }
-}
-
-// Whether a line cuts the edge.
-fn is_cut(titles: &[Name], controls: &[(u32, Control)], edge: (u16, u16)) -> bool
-    requires { length titles.now ≤ 1000 }
-    ensures { result ≡ is_cut titles.now controls.now edge }
-{
-    controls.iter().any(|line| cuts(titles, edge, &line.1))
+        .copied()
+        .filter(|edge| !cut.has(edge.0, edge.1))
+        .collect(alloc)
 }
 
 // Those of the edges that no line cuts.
@@ -305,21 +250,16 @@ fn uncut(
     titles: &[Name],
     controls: &[(u32, Control)],
     edges: &[(u16, u16)],
-) -> Result<Vec<(u16, u16)>, AllocError>
+) -> Result<Vec<(u16, u16)>, NoMemory>
     requires { length titles.now ≤ 1000 }
     ensures { IfOk result (λ left. left.items ≡ filter (λ edge. not (is_cut titles.now controls.now edge)) edges.now) }
 {
-    edges
-        .iter()
-        .copied()
-        .filter(|edge| !is_cut(titles, controls, *edge))
-        .collect(alloc)
+    let cut = cut_rows(alloc, titles, controls)?;
+    Ok(outside(alloc, edges, &cut)?)
 }
 
-/// The edges that fixups make or lines add, without those that a line cuts, wherever it stands.
-///
-/// Source: RL51 guide.
-pub fn edges_of(
+// The edges that fixups make or lines add, without those that a line cuts, wherever it stands.
+pub(crate) fn edges_of(
     alloc: Global,
     titles: &[Name],
     controls: &[(u32, Control)],
@@ -330,5 +270,5 @@ pub fn edges_of(
 {
     let mut edges = made.to_vec(alloc)?;
     draw_lines(&mut edges, titles, controls)?;
-    Ok(uncut(alloc, titles, controls, &edges)?)
+    uncut(alloc, titles, controls, &edges)
 }

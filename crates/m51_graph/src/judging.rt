@@ -4,13 +4,15 @@ ghost use Rattle.std.specs.List.{list_any};
 ghost use Rattle.std.specs.Option.{option_map_or};
 ghost use Rattle.m51_cells.specs.Outcome.{Gives};
 ghost use Rattle.m51_resolve.specs.Rules.{but_memory};
-ghost use Rattle.m51_graph.specs.Graph.{IsDrawn};
-ghost use Rattle.m51_graph.specs.Graphs.{cyclic_from, first_under_two, has_local, judged, passed, under_two, unit_under_two};
-ghost use Rattle.m51_graph.specs.Marks.{LeadWithin};
+ghost use Rattle.m51_graph.specs.Rows.{pairs};
+ghost use Rattle.m51_graph.specs.Graph.{AreOfUnits};
+ghost use Rattle.m51_graph.specs.Graphs.{cyclic_from, first_under_two, has_overlaid, judged, judged_by, passed, under_two, unit_under_two};
+ghost use Rattle.m51_graph.specs.Leading.{leads};
 
+use crate::bit_rows::BitRows;
 use crate::graphs::Graph;
 use crate::parts::GraphParts;
-use crate::reaching::reaches;
+use crate::reaching::reach_rows;
 use crate::relating::roots_above;
 use m51_cells::{ListOf, Name, NoMemory};
 use m51_module::Refusal;
@@ -23,36 +25,31 @@ fn has_reset(roots: &[(u16, u16)]) -> bool
     roots.iter().any(|root| root.0 == 0)
 }
 
-// Whether this owner is the unit.
-fn is_owner(owner: Option<u16>, unit: u16) -> bool
-    ensures { result ≡ option_map_or (nat_eq unit) owner false }
+// Whether this own unit is the unit.
+fn is_own(own: Option<u16>, unit: u16) -> bool
+    ensures { result ≡ option_map_or (nat_eq unit) own false }
 {
-    match owner {
+    match own {
         Some(other) => unit == other,
         None => false,
     }
 }
 
-// Whether the unit has an overlaid local.
-fn has_local(owners: &[Option<u16>], unit: u16) -> bool
-    ensures { result ≡ has_local owners.now unit }
+// Whether the unit has an overlaid local or argument segment.
+fn has_overlaid(own: &[Option<u16>], unit: u16) -> bool
+    ensures { result ≡ has_overlaid own.now unit }
 {
-    owners.iter().any(|owner| is_owner(*owner, unit))
+    own.iter().any(|found| is_own(*found, unit))
 }
 
 // The titles of the units that reach themselves.
-fn cyclic_titles(
-    alloc: Global,
-    titles: &[Name],
-    edges: &[(u16, u16)],
-) -> Result<Vec<Name>, NoMemory>
-    requires titles { length titles.now ≤ 1000 }
-    requires edges { LeadWithin 1000 edges.now }
-    ensures { IfOk result (λ cyclic. cyclic.items ≡ cyclic_from edges.now 0 titles.now) }
+fn cyclic_titles(alloc: Global, titles: &[Name], reach: &BitRows) -> Result<Vec<Name>, NoMemory>
+    requires { length titles.now ≤ 1000 }
+    ensures { IfOk result (λ cyclic. cyclic.items ≡ cyclic_from (pairs reach.now) 0 titles.now) }
 {
     let mut cyclic = Vec::new(alloc);
     for (unit, title) in titles.iter().enumerate() {
-        if reaches(edges, unit as u16, unit as u16) {
+        if reach.has(unit as u16, unit as u16) {
             cyclic.push(*title)?;
         }
     }
@@ -73,49 +70,74 @@ fn check_above(title: &Name, above: &[u16]) -> Result<(), Refusal>
     }
 }
 
-// Refuses a unit that has an overlaid local and lies under two roots.
-fn check_unit(alloc: Global, parts: &GraphParts, unit: u16, title: &Name) -> Result<(), Refusal>
-    requires edges { LeadWithin 1000 parts.now.edges }
-    requires unit { unit < 1000 }
-    ensures { Gives (λ u. u) but_memory result (passed (unit_under_two parts.now.edges parts.now.roots parts.now.owners unit title.now)) }
+// Refuses a unit that has an overlaid local or argument segment and lies under two roots.
+fn check_unit(
+    alloc: Global,
+    parts: &GraphParts,
+    reach: &BitRows,
+    unit: u16,
+    title: &Name,
+) -> Result<(), Refusal>
+    ensures { Gives (λ u. u) but_memory result
+        (passed (unit_under_two (pairs reach.now) parts.now.roots parts.now.own unit title.now)) }
 {
-    if !has_local(parts.owners.as_slice(), unit) {
+    if !has_overlaid(parts.own.as_slice(), unit) {
         return Ok(());
     }
-    let above = roots_above(alloc, parts.edges.as_slice(), parts.roots.as_slice(), unit)?;
+    let above = roots_above(alloc, reach, parts.roots.as_slice(), unit)?;
     check_above(title, &above)
 }
 
-// Refuses the first unit that has an overlaid local and lies under two roots.
-fn check_units(alloc: Global, parts: &GraphParts, titles: &[Name]) -> Result<(), Refusal>
-    requires edges { LeadWithin 1000 parts.now.edges }
-    requires titles { length titles.now ≤ 1000 }
-    ensures { Gives (λ u. u) but_memory result (passed (first_under_two parts.now.edges parts.now.roots parts.now.owners 0 titles.now)) }
+// Refuses the first unit that has an overlaid local or argument segment and lies under two roots.
+fn check_units(
+    alloc: Global,
+    parts: &GraphParts,
+    reach: &BitRows,
+    titles: &[Name],
+) -> Result<(), Refusal>
+    requires { length titles.now ≤ 1000 }
+    ensures { Gives (λ u. u) but_memory result
+        (passed (first_under_two (pairs reach.now) parts.now.roots parts.now.own 0 titles.now)) }
 {
     for (unit, title) in titles.iter().enumerate() {
-        check_unit(alloc, parts, unit as u16, title)?;
+        check_unit(alloc, parts, reach, unit as u16, title)?;
     }
     Ok(())
 }
 
-/// The graph of these parts; or L8 where there is no root at 0000H, L10 with the units that reach themselves, L11 with the
-/// first unit that has an overlaid local and lies under two roots.
-///
-/// Source: RL51 guide.
-pub fn judge(alloc: Global, titles: &[Name], parts: GraphParts) -> Result<Graph, Refusal>
-    requires drawn { IsDrawn parts }
+// The graph of these parts, from the pairs of units that walks join, or the refusal of the first rule that fails.
+fn judge_by(
+    alloc: Global,
+    titles: &[Name],
+    parts: GraphParts,
+    reach: BitRows,
+) -> Result<Graph, Refusal>
+    requires units { AreOfUnits parts }
     requires titles { length titles.now ≡ length parts.units }
-    ensures { Gives (λ g. g) but_memory result (judged titles.now parts) }
+    requires count { reach.count ≡ length parts.units }
+    requires reach { pairs reach ≡ leads parts.edges }
+    ensures { Gives (λ g. g) but_memory result (judged_by (pairs reach) titles.now parts) }
 {
     if !has_reset(parts.roots.as_slice()) {
         return Err(Refusal::L8);
     }
-    let cyclic = cyclic_titles(alloc, titles, parts.edges.as_slice())?;
+    let cyclic = cyclic_titles(alloc, titles, &reach)?;
     if !cyclic.is_empty() {
         return Err(Refusal::L10 {
             units: ListOf::of(cyclic),
         });
     }
-    check_units(alloc, &parts, titles)?;
-    Ok(Graph::of(parts))
+    check_units(alloc, &parts, &reach, titles)?;
+    Ok(Graph::make(alloc, parts, reach)?)
+}
+
+// The graph of these parts; or L8 where there is no root at 0000H, L10 with the units that reach themselves, L11 with
+// the first unit that has an overlaid local or argument segment and lies under two roots.
+pub(crate) fn judge(alloc: Global, titles: &[Name], parts: GraphParts) -> Result<Graph, Refusal>
+    requires units { AreOfUnits parts }
+    requires titles { length titles.now ≡ length parts.units }
+    ensures { Gives (λ g. g) but_memory result (judged titles.now parts) }
+{
+    let reach = reach_rows(alloc, parts.edges.as_slice(), parts.units.len())?;
+    judge_by(alloc, titles, parts, reach)
 }

@@ -1,8 +1,8 @@
 //! What the decisions in the definition of a graph decide. Each law is the contract of a function that does nothing.
-ghost use Rattle.m51_graph.specs.Laws.{AboveIsUnder, LeadingIsReaching};
+ghost use Rattle.m51_graph.specs.Laws.{AboveIsUnder, EdgesAre, LeadingIsReaching, LevelIsLongest};
 
-/// The decision along the list of edges by which units are refused that reach themselves: it is whether one unit reaches
-/// another by a walk of at least one edge.
+/// The decision along the list of edges by which units are refused that reach themselves: it is whether one unit
+/// reaches another by a walk of at least one edge.
 ///
 /// Source: own choice ("Edges").
 pub fn leading_is_reaching()
@@ -15,4 +15,20 @@ pub fn leading_is_reaching()
 /// Source: own choice ("Roots").
 pub fn above_is_under()
     ensures { AboveIsUnder }
+{}
+
+/// Where an edge is: a fixup that is placed in the one unit refers to the other, directly or by the public that
+/// resolves its external, or a control line adds the edge; the units differ, and no line cuts it.
+///
+/// Source: RL51 guide.
+pub fn edges_are_drawn()
+    ensures { EdgesAre }
+{}
+
+/// The level as a function of the edges: it is the number of edges of the longest walk that ends in the unit, where
+/// there is one.
+///
+/// Source: RL51 guide.
+pub fn level_is_longest()
+    ensures { LevelIsLongest }
 {}

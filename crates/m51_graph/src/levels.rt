@@ -1,10 +1,11 @@
 //! The levels of units: how long the longest walk is that ends in each.
-ghost use Rattle.std.specs.Prelude.{◌≡◌, ◌<◌, ℕ, length, slice_index};
+ghost use Rattle.std.specs.Prelude.{◌≡◌, ◌<◌, ◌≤◌, ℕ, IfOk, length, slice_index};
 ghost use Rattle.m51_module.specs.Walks.{Reaches};
-ghost use Rattle.m51_graph.specs.Levels.{AreSettled, AreWalked, IsClimbing, IsLevel, Lifts};
-ghost use Rattle.m51_graph.specs.Marks.{LeadWithin};
+ghost use Rattle.m51_graph.specs.Climbing.{AreSettled, AreWalked, IsClimbing, Lifts};
+ghost use Rattle.m51_graph.specs.Graph.{LeadWithin};
 
-use crate::reaching::UNITS;
+use m51_cells::NoMemory;
+use std::alloc::Global;
 
 // Raises the level of the second unit above that of the first, unless it is; whether it rose.
 fn lift(levels: &mut [u16], lower: u16, upper: u16) -> bool
@@ -25,7 +26,7 @@ fn lift(levels: &mut [u16], lower: u16, upper: u16) -> bool
 // Raises each level that is not above that of a unit from which an edge leads to its own; whether one rose.
 fn raise(edges: &[(u16, u16)], levels: &mut [u16]) -> bool
     requires within { LeadWithin (length levels.old) edges.now }
-    requires units { length levels.old ≡ 1000 }
+    requires units { length levels.old ≤ 1000 }
     requires no_cycle { (unit : ℕ) → Reaches edges.now unit unit → ⊥ }
     requires walked { AreWalked edges.now levels.old }
     ensures { IsClimbing edges.now edges.now levels.old levels.new result }
@@ -39,39 +40,33 @@ fn raise(edges: &[(u16, u16)], levels: &mut [u16]) -> bool
     rose
 }
 
-// Makes each level 0.
-fn clear(levels: &mut [u16])
-    ensures len { length levels.new ≡ length levels.old }
-    ensures zero { (unit : ℕ) → unit < length levels.new → slice_index levels.new unit ≡ 0 }
-{
-    for level in levels.iter_mut() {
-        *level = 0;
-    }
-}
-
-// Sets the level of each unit.
-fn set_levels(edges: &[(u16, u16)], levels: &mut [u16])
-    requires within { LeadWithin 1000 edges.now }
-    requires units { length levels.old ≡ 1000 }
+// Raises levels, which are 0, along the edges until none rises.
+fn climb(edges: &[(u16, u16)], levels: &mut [u16])
+    requires within { LeadWithin (length levels.old) edges.now }
+    requires units { length levels.old ≤ 1000 }
     requires no_cycle { (unit : ℕ) → Reaches edges.now unit unit → ⊥ }
-    ensures len { length levels.new ≡ 1000 }
+    requires zero { (unit : ℕ) → unit < length levels.old → slice_index levels.old unit ≡ 0 }
+    ensures len { length levels.new ≡ length levels.old }
     ensures walked { AreWalked edges.now levels.new }
     ensures settled { AreSettled edges.now levels.new }
 {
-    clear(levels);
     'climb: while raise(edges, levels) {}
 }
 
-/// The level of the unit: the number of edges of the longest walk that ends in it. It takes no memory.
-///
-/// Source: RL51 guide.
-pub fn level(edges: &[(u16, u16)], unit: u16) -> u16
-    requires within { LeadWithin 1000 edges.now }
-    requires unit { unit < 1000 }
-    requires no_cycle { (u : ℕ) → Reaches edges.now u u → ⊥ }
-    ensures { IsLevel edges.now unit result }
+// The level of each unit, of which there are so many: the number of edges of the longest walk that ends in it.
+pub(crate) fn levels(
+    alloc: Global,
+    edges: &[(u16, u16)],
+    count: usize,
+) -> Result<Vec<u16>, NoMemory>
+    requires within { LeadWithin count edges.now }
+    requires few { count ≤ 1000 }
+    requires no_cycle { (unit : ℕ) → Reaches edges.now unit unit → ⊥ }
+    ensures len { IfOk result (λ levels. length levels.items ≡ count) }
+    ensures walked { IfOk result (λ levels. AreWalked edges.now levels.items) }
+    ensures settled { IfOk result (λ levels. AreSettled edges.now levels.items) }
 {
-    let mut levels = [0; UNITS];
-    set_levels(edges, &mut levels);
-    levels[usize::from(unit)]
+    let mut levels = vec![in alloc; 0; count]?;
+    climb(edges, &mut levels);
+    Ok(levels)
 }

@@ -1,6 +1,8 @@
 //! Units, the edges between them, roots, levels and conflict: which segments may share cells.
 #![tactic(auto)]
 
+mod bit_row;
+mod bit_rows;
 mod building;
 mod drawing;
 mod graphs;
@@ -12,9 +14,11 @@ mod locals;
 mod parts;
 mod reaching;
 mod relating;
+mod tables;
+mod targets;
 mod units;
 
 pub use building::graph;
 pub use graphs::Graph;
-pub use laws::{above_is_under, leading_is_reaching};
-pub use parts::{GraphParts, SegmentOwners};
+pub use laws::{above_is_under, edges_are_drawn, leading_is_reaching, level_is_longest};
+pub use parts::{GraphParts, Marks, OwnUnits};

@@ -2,37 +2,14 @@
 ghost use Rattle.std.specs.Prelude.{◌≡◌, ◌≤◌, is_some, length};
 ghost use Rattle.std.specs.List.{list_all, list_any};
 ghost use Rattle.m51_graph.specs.Drawing.{edge_named};
-ghost use Rattle.m51_graph.specs.Lines.{bad_line, class_of, fits, is_made, is_of_class, may_stand, same_class};
+ghost use Rattle.m51_graph.specs.Lines.{bad_line, fits, is_made, is_of_class, may_stand};
 
 use crate::drawing::{edge_named, has_edge};
-use crate::locals::owner_of;
+use crate::locals::overlaid_by;
 use crate::units::named;
-use m51_cells::{Kind, Name, Reloc};
-use m51_control::{Class, Control};
+use m51_cells::Name;
+use m51_control::{Class, Control, class_of, same_class};
 use m51_resolve::JoinedSegment;
-
-// The class of a relocatable segment.
-fn class_of(kind: Kind, reloc: Reloc) -> Option<Class>
-    ensures { result ≡ class_of kind reloc }
-{
-    match (kind, reloc) {
-        (_, Reloc::Abs) => None,
-        (Kind::Direct, Reloc::Bitaddressable) => Some(Class::Bitaddressable),
-        (Kind::Direct, _) => Some(Class::Direct),
-        (Kind::Bits, _) => Some(Class::Bits),
-        (Kind::Idata, _) => Some(Class::Idata),
-        (Kind::Xdata, _) => Some(Class::Xdata),
-        (Kind::Code, _) => Some(Class::Code),
-        (Kind::Number, _) => None,
-    }
-}
-
-// Whether the classes are one.
-fn same_class(one: Class, two: Class) -> bool
-    ensures { result ≡ same_class one two }
-{
-    one == two
-}
 
 // Whether the segment is of the class.
 fn is_of_class(class: Class, segment: &JoinedSegment) -> bool
@@ -58,7 +35,7 @@ fn may_stand(
     if segment.title.bytes() != name.bytes() {
         return false;
     }
-    is_of_class(class, segment) && owner_of(titles, controls, segment).is_none()
+    is_of_class(class, segment) && overlaid_by(titles, controls, segment).is_none()
 }
 
 // Whether a segment that has that name may stand in an order of the class.
@@ -84,7 +61,8 @@ fn are_ordered(
     names: &[Name],
 ) -> bool
     requires { length titles.now ≤ 1000 }
-    ensures { result ≡ list_all (λ name. list_any (may_stand titles.now controls.now class name) segments.now) names.now }
+    ensures { result
+        ≡ list_all (λ name. list_any (may_stand titles.now controls.now class name) segments.now) names.now }
 {
     names
         .iter()
@@ -121,8 +99,8 @@ fn are_made(titles: &[Name], made: &[(u16, u16)], from: &Name, names: &[Name]) -
         .all(|name| is_made(made, edge_named(titles, from, name)))
 }
 
-// Whether the line fits: it names units that are there, adds edges between different ones, cuts edges that fixups make, and
-// orders segments of its class.
+// Whether the line fits: it names units that are there, adds edges between different ones, cuts edges that fixups make,
+// and orders segments of its class.
 fn fits(
     titles: &[Name],
     segments: &[JoinedSegment],
@@ -148,10 +126,8 @@ fn fits(
     }
 }
 
-/// The number of the first line that does not fit.
-///
-/// Source: RL51 guide.
-pub fn bad_line(
+// The number of the first line that does not fit.
+pub(crate) fn bad_line(
     titles: &[Name],
     segments: &[JoinedSegment],
     controls: &[(u32, Control)],

@@ -1,6 +1,8 @@
-//! Locals of units, and the owners of overlaid segments.
-ghost use Rattle.std.specs.Prelude.{◌≡◌, ◌≤◌, ◌<◌, IfOk, IfSome, length};
-ghost use Rattle.m51_graph.specs.Locals.{are_paired, is_kept_apart, is_lost, is_named_after, keeps_apart, lost_segment, owner_of, owners_of, own_unit, prefix_of, unless_apart};
+//! Locals and argument segments of units, and which segments are overlaid.
+ghost use Rattle.std.specs.Prelude.{◌≡◌, ◌≤◌, ◌<◌, ◌++◌, IfOk, IfSome, length, map, option_and_then, option_map, position};
+ghost use Rattle.std.specs.Str.{bytes_eq};
+ghost use Rattle.m51_graph.specs.Locals.{front_of, is_apart, is_lost, keeps_apart, local_front, lost_segment, overlaid_by, own_name, own_unit, own_units, unit_front, unit_name};
+ghost use Rattle.m51_graph.specs.Units.{named};
 
 use crate::units::{as_unit, named};
 use m51_cells::{Kind, Name, NoMemory};
@@ -8,12 +10,12 @@ use m51_control::Control;
 use m51_resolve::JoinedSegment;
 use std::alloc::{AllocError, Global};
 
-// How the names of units begin that may have locals.
-const UNIT_PREFIX: [u8; 4] = *b"?PR?";
+// How the names of units begin that may have locals and an argument segment.
+const UNIT_FRONT: [u8; 4] = *b"?PR?";
 
 // How the names of the locals of each kind begin.
-fn prefix_of(kind: Kind) -> Option<[u8; 4]>
-    ensures { result ≡ prefix_of kind }
+fn local_front(kind: Kind) -> Option<[u8; 4]>
+    ensures { result ≡ local_front kind }
 {
     match kind {
         Kind::Direct => Some(*b"?DT?"),
@@ -25,46 +27,78 @@ fn prefix_of(kind: Kind) -> Option<[u8; 4]>
     }
 }
 
-// Whether the names begin with these letters and with ?PR?, and are one behind them.
-fn are_paired(local: &[u8], unit: &[u8], letters: &[u8; 4]) -> bool
-    ensures { result ≡ are_paired local.now unit.now letters.now }
+// How the name of the segment begins where it is that of a unit.
+fn front_of(segment: &JoinedSegment) -> Option<[u8; 4]>
+    ensures { result ≡ front_of segment.now }
 {
-    if !local.starts_with(letters) {
-        return false;
+    if segment.argument {
+        return Some(*b"?AG?");
     }
-    if !unit.starts_with(&UNIT_PREFIX) {
-        return false;
-    }
-    local[4..] == unit[4..]
+    local_front(segment.kind)
 }
 
-// Whether the segment has the name of the locals of the unit.
-fn is_named_after(kind: Kind, local: &Name, unit: &Name) -> bool
-    ensures { result ≡ is_named_after kind local.now unit.now }
+// What stands in the name after this front, if it begins with that.
+fn after_front(name: &[u8], front: [u8; 4]) -> Option<&[u8]>
+    ensures { option_map (λ rest. unit_front ++ rest.now) result ≡ unit_name name.now front }
 {
-    match prefix_of(kind) {
-        Some(letters) => are_paired(local.bytes(), unit.bytes(), &letters),
-        None => false,
+    if !name.starts_with(&front) {
+        return None;
     }
+    Some(&name[4..])
 }
 
-// The place of the title of the unit of which the segment holds locals.
-fn own_place(titles: &[Name], segment: &JoinedSegment) -> Option<usize>
-    ensures place { result ≡ own_unit titles.now segment.now }
+// Whether the title is ?PR? and then these bytes.
+#[tactic(auto, using(crate::proofs::Fronts::front_split))]
+fn is_unit_of(title: &[u8], rest: &[u8]) -> bool
+    ensures { result ≡ bytes_eq title.now (unit_front ++ rest.now) }
+{
+    if !title.starts_with(&UNIT_FRONT) {
+        return false;
+    }
+    title[4..] == rest[..]
+}
+
+// The place of the first title that is ?PR? and then these bytes.
+fn place_of(titles: &[Name], rest: &[u8]) -> Option<usize>
+    ensures place { result ≡ position (λ title. bytes_eq title (unit_front ++ rest.now)) titles.now }
     ensures inside { IfSome result (λ place. place < length titles.now) }
 {
-    titles.iter().position(|title| is_named_after(segment.kind, &segment.title, title))
+    titles
+        .iter()
+        .position(|title| is_unit_of(title.bytes(), rest))
 }
 
-// The unit of which the segment holds locals.
+// The first unit with the title that is ?PR? and then these bytes.
+fn unit_of(titles: &[Name], rest: &[u8]) -> Option<u16>
+    requires { length titles.now ≤ 1000 }
+    ensures { result ≡ position (λ title. bytes_eq title (unit_front ++ rest.now)) titles.now }
+{
+    as_unit(place_of(titles, rest))
+}
+
+// The unit of which the name has that front.
+fn named_with(titles: &[Name], name: &[u8], front: [u8; 4]) -> Option<u16>
+    requires { length titles.now ≤ 1000 }
+    ensures { result ≡ option_and_then (named titles.now) (unit_name name.now front) }
+{
+    match after_front(name, front) {
+        Some(rest) => unit_of(titles, rest),
+        None => None,
+    }
+}
+
+// The unit whose local or argument segment it is.
 fn own_unit(titles: &[Name], segment: &JoinedSegment) -> Option<u16>
     requires { length titles.now ≤ 1000 }
     ensures { result ≡ own_unit titles.now segment.now }
 {
-    as_unit(own_place(titles, segment))
+    match front_of(segment) {
+        Some(front) => named_with(titles, segment.title.bytes(), front),
+        None => None,
+    }
 }
 
-// Whether the segment is marked OVERLAYABLE and holds locals of no unit.
+// Whether the segment is marked OVERLAYABLE and is neither a local nor the argument segment of a unit.
 fn is_lost(titles: &[Name], segment: &JoinedSegment) -> bool
     requires { length titles.now ≤ 1000 }
     ensures { result ≡ is_lost titles.now segment.now }
@@ -72,10 +106,8 @@ fn is_lost(titles: &[Name], segment: &JoinedSegment) -> bool
     segment.overlay && own_unit(titles, segment).is_none()
 }
 
-/// The first segment that is marked OVERLAYABLE and holds locals of no unit.
-///
-/// Source: RL51 guide.
-pub fn lost_segment(titles: &[Name], segments: &[JoinedSegment]) -> Option<Name>
+// The first segment that is marked OVERLAYABLE and is neither a local nor the argument segment of a unit.
+pub(crate) fn lost_segment(titles: &[Name], segments: &[JoinedSegment]) -> Option<Name>
     requires { length titles.now ≤ 1000 }
     ensures { result ≡ lost_segment titles.now segments.now }
 {
@@ -85,7 +117,7 @@ pub fn lost_segment(titles: &[Name], segments: &[JoinedSegment]) -> Option<Name>
         .map(|segment| segment.title)
 }
 
-// Whether the line keeps the locals of the unit apart.
+// Whether the line keeps the segments of the unit apart.
 fn keeps_apart(titles: &[Name], unit: u16, control: &Control) -> bool
     requires { length titles.now ≤ 1000 }
     ensures { result ≡ keeps_apart titles.now unit control.now }
@@ -99,63 +131,80 @@ fn keeps_apart(titles: &[Name], unit: u16, control: &Control) -> bool
     }
 }
 
-// Whether a line keeps the locals of the unit apart.
-fn is_kept_apart(titles: &[Name], controls: &[(u32, Control)], unit: u16) -> bool
+// Whether a line keeps the segments of the unit apart.
+fn is_apart(titles: &[Name], controls: &[(u32, Control)], unit: u16) -> bool
     requires { length titles.now ≤ 1000 }
-    ensures { result ≡ is_kept_apart titles.now controls.now unit }
+    ensures { result ≡ is_apart titles.now controls.now unit }
 {
     controls
         .iter()
         .any(|line| keeps_apart(titles, unit, &line.1))
 }
 
-/// The owner of a segment: where it is marked OVERLAYABLE, its unit, unless a line keeps the locals of that unit apart.
-///
-/// Source: RL51 guide.
-pub fn owner_of(
+// The own unit of a segment that is overlaid: one that is marked OVERLAYABLE, unless a line keeps the segments of its
+// own unit apart.
+pub(crate) fn overlaid_by(
     titles: &[Name],
     controls: &[(u32, Control)],
     segment: &JoinedSegment,
 ) -> Option<u16>
     requires { length titles.now ≤ 1000 }
-    ensures { result ≡ owner_of titles.now controls.now segment.now }
+    ensures { result ≡ overlaid_by titles.now controls.now segment.now }
 {
     if !segment.overlay {
         return None;
     }
     match own_unit(titles, segment) {
-        Some(unit) if !is_kept_apart(titles, controls, unit) => Some(unit),
+        Some(unit) if !is_apart(titles, controls, unit) => Some(unit),
         _ => None,
     }
 }
 
-// The owner of each of the segments.
-fn each_owner(
+// The own unit of each of the segments that is overlaid.
+fn each_own(
     alloc: Global,
     titles: &[Name],
     controls: &[(u32, Control)],
     segments: &[JoinedSegment],
 ) -> Result<Vec<Option<u16>>, AllocError>
     requires { length titles.now ≤ 1000 }
-    ensures { IfOk result (λ owners. owners.items ≡ owners_of titles.now controls.now segments.now) }
+    ensures { IfOk result (λ own. own.items ≡ own_units titles.now controls.now segments.now) }
 {
     segments
         .iter()
-        .map(|segment| owner_of(titles, controls, segment))
+        .map(|segment| overlaid_by(titles, controls, segment))
         .collect(alloc)
 }
 
-/// The owner of each joined segment.
-///
-/// Source: RL51 guide.
-pub fn owners(
+// The own unit of each joined segment that is overlaid.
+pub(crate) fn own_units(
     alloc: Global,
     titles: &[Name],
     controls: &[(u32, Control)],
     segments: &[JoinedSegment],
 ) -> Result<Vec<Option<u16>>, NoMemory>
     requires { length titles.now ≤ 1000 }
-    ensures { IfOk result (λ owners. owners.items ≡ owners_of titles.now controls.now segments.now) }
+    ensures { IfOk result (λ own. own.items ≡ own_units titles.now controls.now segments.now) }
 {
-    Ok(each_owner(alloc, titles, controls, segments)?)
+    Ok(each_own(alloc, titles, controls, segments)?)
+}
+
+// Whether each of the segments has the argument mark.
+fn each_mark(alloc: Global, segments: &[JoinedSegment]) -> Result<Vec<bool>, AllocError>
+    ensures { IfOk result (λ marks. marks.items ≡ map (λ j. j.argument) segments.now) }
+{
+    segments
+        .iter()
+        .map(|segment| segment.argument)
+        .collect(alloc)
+}
+
+// Whether each joined segment has the argument mark.
+pub(crate) fn argument_marks(
+    alloc: Global,
+    segments: &[JoinedSegment],
+) -> Result<Vec<bool>, NoMemory>
+    ensures { IfOk result (λ marks. marks.items ≡ map (λ j. j.argument) segments.now) }
+{
+    Ok(each_mark(alloc, segments)?)
 }

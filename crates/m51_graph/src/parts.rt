@@ -2,10 +2,15 @@
 use m51_cells::ListOf;
 use m51_module::{Pairs, Units};
 
-/// For each joined segment the unit that owns it, where it is overlaid.
+/// For each joined segment its own unit, where it is overlaid: the unit whose local or argument segment it is.
 ///
 /// Source: own choice ("Lists in types").
-pub type SegmentOwners = ListOf<Option<u16>>;
+pub type OwnUnits = ListOf<Option<u16>>;
+
+/// For each joined segment whether it has a mark.
+///
+/// Source: own choice ("Lists in types").
+pub type Marks = ListOf<bool>;
 
 /// The parts of a graph. Units and joined segments are counted from 0.
 ///
@@ -18,6 +23,8 @@ pub struct GraphParts {
     pub edges: Pairs,
     /// Each root: the address of its vector, and the unit.
     pub roots: Pairs,
-    /// For each joined segment its unit, where it is overlaid.
-    pub owners: SegmentOwners,
+    /// For each joined segment its own unit, where it is overlaid.
+    pub own: OwnUnits,
+    /// For each joined segment whether it is marked as an argument segment.
+    pub arguments: Marks,
 }

@@ -1,81 +1,45 @@
-//! The search for the units that a unit reaches.
-ghost use Rattle.std.specs.Prelude.{◌≡◌, ◌↔◌, ◌<◌, ℕ, IfSome, IsTrue, IsNone, None, length};
-ghost use Rattle.m51_module.specs.Walks.{Reaches};
+//! The pairs of units that edges join, and those that walks along edges join.
+ghost use Rattle.std.specs.Prelude.{◌≡◌, ◌≤◌, IfOk};
+ghost use Rattle.m51_graph.specs.Rows.{pairs};
+ghost use Rattle.m51_graph.specs.Drawing.{edge_test};
+ghost use Rattle.m51_graph.specs.Graph.{LeadWithin};
 ghost use Rattle.m51_graph.specs.Leading.{leads};
-ghost use Rattle.m51_graph.specs.Marks.{IsMarked, LeadWithin, MarksTargets, MarksReached, IsWaiting};
 
-/// The most units that a graph has.
-///
-/// Source: own choice ("Limits").
-pub const UNITS: usize = 1000;
+use crate::bit_rows::BitRows;
+use m51_cells::NoMemory;
+use std::alloc::Global;
 
-// Marks each unit to which an edge leads from this one.
-fn mark_targets(edges: &[(u16, u16)], unit: u16, marks: &mut [bool])
-    requires { LeadWithin (length marks.old) edges.now }
-    ensures { MarksTargets edges.now unit marks.old marks.new }
-{
-    for (from, to) in edges {
-        if *from == unit {
-            marks[usize::from(*to)] = true;
-        }
-    }
-}
-
-// The first unit that is found and not looked at yet.
-fn first_waiting(found: &[bool; UNITS], looked: &[bool; UNITS]) -> Option<usize>
-    ensures some { IfSome result (λ unit. IsWaiting found.now looked.now unit) }
-    ensures inside { IfSome result (λ unit. unit < 1000) }
-    ensures none { IsNone result → (unit : ℕ) → unit < 1000 → IsWaiting found.now looked.now unit → ⊥ }
-{
-    for unit in 0..UNITS {
-        if found[unit] && !looked[unit] {
-            return Some(unit);
-        }
-    }
-    None
-}
-
-// Takes all marks away.
-fn clear(marks: &mut [bool])
-    ensures { (unit : ℕ) → IsMarked marks.new unit → ⊥ }
-{
-    for mark in marks.iter_mut() {
-        *mark = false;
-    }
-}
-
-// Sets the marks of the units that this one reaches by a walk of at least one edge, and no others. It looks at each unit
-// at most once.
-fn mark_reached(
+// The pairs of which the first unit has an edge to the second.
+pub(crate) fn edge_rows(
+    alloc: Global,
     edges: &[(u16, u16)],
-    unit: u16,
-    found: &mut [bool; UNITS],
-    looked: &mut [bool; UNITS],
-)
-    requires { LeadWithin 1000 edges.now }
-    ensures { MarksReached edges.now unit found.new }
+    count: usize,
+) -> Result<BitRows, NoMemory>
+    requires few { count ≤ 1000 }
+    requires within { LeadWithin count edges.now }
+    ensures count { IfOk result (λ rows. rows.count ≡ count) }
+    ensures pairs { IfOk result (λ rows. pairs rows ≡ edge_test edges.now) }
 {
-    clear(found);
-    clear(looked);
-    mark_targets(edges, unit, found);
-    while let Some(next) = first_waiting(found, looked) {
-        looked[next] = true;
-        mark_targets(edges, next as u16, found);
+    let mut rows = BitRows::none(alloc, count)?;
+    for (from, to) in edges {
+        rows.put(*from, *to);
     }
+    Ok(rows)
 }
 
-/// Whether the first unit reaches the second by a walk of at least one edge. It looks at each unit at most once, and takes
-/// no memory.
-///
-/// Source: own choice ("Edges").
-pub fn reaches(edges: &[(u16, u16)], from: u16, to: u16) -> bool
-    requires edges { LeadWithin 1000 edges.now }
-    requires to { to < 1000 }
-    ensures walk { IsTrue result ↔ Reaches edges.now from to }
-    ensures decided { result ≡ leads edges.now from to }
+// The pairs of which the first unit reaches the second by a walk of at least one edge.
+#[tactic(auto, using(crate::proofs::Closed::edges_closed))]
+pub(crate) fn reach_rows(
+    alloc: Global,
+    edges: &[(u16, u16)],
+    count: usize,
+) -> Result<BitRows, NoMemory>
+    requires few { count ≤ 1000 }
+    requires within { LeadWithin count edges.now }
+    ensures count { IfOk result (λ rows. rows.count ≡ count) }
+    ensures pairs { IfOk result (λ rows. pairs rows ≡ leads edges.now) }
 {
-    let mut found = [false; UNITS];
-    let mut looked = [false; UNITS];
-    mark_reached(edges, from, &mut found, &mut looked);
-    found[usize::from(to)]
+    let mut rows = edge_rows(alloc, edges, count)?;
+    rows.close(alloc)?;
+    Ok(rows)
 }

@@ -2,39 +2,15 @@
 ghost use Rattle.std.specs.Prelude.{◌≡◌, ◌<◌, ◌≤◌, IfOk, IfSome, length, nat_eq};
 ghost use Rattle.std.specs.List.{list_any};
 ghost use Rattle.m51_module.specs.Roots.{vectors};
-ghost use Rattle.m51_graph.specs.Units.{is_absolute, is_code, is_root, named, roots_of, unit_titles, units_of};
+ghost use Rattle.m51_graph.specs.Units.{is_root, named, roots_of, unit_titles, units_of};
 
-use crate::relating::VECTORS;
-use m51_cells::{Kind, Name, NoMemory, Reloc};
+use m51_cells::{Name, NoMemory, is_absolute, is_code};
+use m51_module::VECTORS;
 use m51_resolve::JoinedSegment;
 use std::alloc::{AllocError, Global};
 
-// Whether the kind is CODE.
-fn is_code(kind: Kind) -> bool
-    ensures { result ≡ is_code kind }
-{
-    match kind {
-        Kind::Code => true,
-        _ => false,
-    }
-}
-
-/// Whether the type is that of absolute segments.
-///
-/// Source: RL51 guide.
-pub fn is_absolute(reloc: Reloc) -> bool
-    ensures { result ≡ is_absolute reloc }
-{
-    match reloc {
-        Reloc::Abs => true,
-        _ => false,
-    }
-}
-
-/// The joined number of each unit: the segments of program memory are the units, in joined order.
-///
-/// Source: RL51 guide.
-pub fn unit_numbers(alloc: Global, segments: &[JoinedSegment]) -> Result<Vec<u16>, NoMemory>
+// The joined number of each unit: the segments of program memory are the units, in joined order.
+pub(crate) fn unit_numbers(alloc: Global, segments: &[JoinedSegment]) -> Result<Vec<u16>, NoMemory>
     requires { length segments.now ≤ 2000 }
     ensures { IfOk result (λ units. units.items ≡ units_of segments.now) }
 {
@@ -58,19 +34,15 @@ fn code_titles(alloc: Global, segments: &[JoinedSegment]) -> Result<Vec<Name>, A
         .collect(alloc)
 }
 
-/// The title of each unit.
-///
-/// Source: RL51 guide.
-pub fn unit_titles(alloc: Global, segments: &[JoinedSegment]) -> Result<Vec<Name>, NoMemory>
+// The title of each unit.
+pub(crate) fn unit_titles(alloc: Global, segments: &[JoinedSegment]) -> Result<Vec<Name>, NoMemory>
     ensures { IfOk result (λ titles. titles.items ≡ unit_titles segments.now) }
 {
     Ok(code_titles(alloc, segments)?)
 }
 
-/// A place among units or their titles, as the number of the unit.
-///
-/// Source: own choice ("Units").
-pub fn as_unit(place: Option<usize>) -> Option<u16>
+// A place among units or their titles, as the number of the unit.
+pub(crate) fn as_unit(place: Option<usize>) -> Option<u16>
     requires { IfSome place (λ p. p < 65536) }
     ensures { result ≡ place }
 {
@@ -90,10 +62,8 @@ fn place_named(titles: &[Name], name: &Name) -> Option<usize>
         .position(|title| title.bytes() == name.bytes())
 }
 
-/// The first unit of that title.
-///
-/// Source: own choice ("Units").
-pub fn named(titles: &[Name], name: &Name) -> Option<u16>
+// The first unit of that title.
+pub(crate) fn named(titles: &[Name], name: &Name) -> Option<u16>
     requires { length titles.now ≤ 1000 }
     ensures { result ≡ named titles.now name.now }
 {
@@ -114,10 +84,8 @@ fn is_root(segment: &JoinedSegment) -> bool
     is_absolute(segment.reloc) && is_vector(segment.base)
 }
 
-/// The vector and the unit of each root.
-///
-/// Source: own choice ("Roots").
-pub fn roots(alloc: Global, segments: &[JoinedSegment]) -> Result<Vec<(u16, u16)>, NoMemory>
+// The vector and the unit of each root.
+pub(crate) fn roots(alloc: Global, segments: &[JoinedSegment]) -> Result<Vec<(u16, u16)>, NoMemory>
     requires { length segments.now ≤ 2000 }
     ensures { IfOk result (λ roots. roots.items ≡ roots_of segments.now) }
 {

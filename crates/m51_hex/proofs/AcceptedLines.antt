@@ -8,10 +8,12 @@ use Rattle.std.proofs.lemmas.List.{length-take-le, take_all, take_more}
 use Rattle.std.proofs.lemmas.List.Elements.{All-from_recursion}
 use Rattle.std.proofs.lemmas.List.Sums.{sum_by-append}
 use Rattle.m51_cells.specs.Hex.{hex2}
+use Rattle.m51_cells.specs.Hex.{is_hex_digit}
+use Rattle.m51_cells.proofs.Passing.{same_Ok, step_value}
 use Rattle.m51_hex.specs.declared.error.HexError.{HexError}
 use Rattle.m51_hex.specs.declared.error.HexError.TheVariants.{H1, H2, H3, H4}
 use Rattle.m51_hex.specs.declared.records.RecordType.TheVariants.{Data, EndOfFile}
-use Rattle.m51_hex.specs.Line.{◌>>=◌, is_hex_digit, bytes_of, bytes_in, count_in, address_in, type_in, has_form, record_from, record_in, record_of}
+use Rattle.m51_hex.specs.Line.{bytes_of, bytes_in, count_in, address_in, type_in, has_form, record_from, record_in, record_of}
 use Rattle.m51_hex.specs.Record.{Record, IsRecord, TakesData, colon, type_byte, fields_of, checksum_of, text_of}
 use Rattle.m51_hex.proofs.DigitLaws.{upper_digits, bytes_below}
 use Rattle.m51_hex.proofs.RecordLaws.{whole_of}
@@ -21,16 +23,6 @@ use Rattle.m51_hex.proofs.RecordLaws.{whole_of}
 passed : {A : Type 0} (test : Bool) (e : HexError) (rest : Result A HexError) (x : A) → cond (not test) (Err e) rest ≡ Ok x → (test ≡ true) × (rest ≡ Ok x)
 passed true e rest x h = (refl, h)
 passed false e rest x h = absurd cc
-
-step : {A B : Type 0} (read : Result A HexError) (f : A → Result B HexError) (y : B) → (read >>= f) ≡ Ok y → (x : A) × (read ≡ Ok x) × (f x ≡ Ok y)
-step (Ok x) f y h = (x, refl, h)
-step (Err e) f y h = absurd cc
-
-abbrev done : {A : Type 0} → A → Result A HexError
-done x = Ok x
-
-done_is : {A : Type 0} (x y : A) → done x ≡ done y → x ≡ y
-done_is x y h = cc
 
 -- the bytes of a line that is read as bytes
 record LineReads (line bytes : List ℕ) : Type 0 where
@@ -53,7 +45,7 @@ line_reads number line bytes h =
       begins = eqb-true (slice_index line 0) colon one.0;
       digits = two.0;
       even = eqb-true (length digits % 2) 0 three.0;
-      is = done_is (bytes_of digits) bytes three.1;
+      is = same_Ok {E = HexError} (bytes_of digits) bytes three.1;
     }
 
 upper_line : (line bytes : List ℕ) → LineReads line bytes → map to_ascii_uppercase line ≡ colon ∷ flat_map hex2 bytes
@@ -176,13 +168,13 @@ bytes_write number bytes r below h =
     let second : Result Record HexError = cond (not (eqb (sum bytes % 256) 0)) (Err (H4 number)) read in
     let one = passed (has_form bytes) (H3 number) second r h in
     let two = passed (eqb (sum bytes % 256) 0) (H4 number) read r one.1 in
-    (writes_by bytes below (form_parts bytes one.0) (eqb-true (sum bytes % 256) 0 two.0), done_is (record_from bytes) r two.1)
+    (writes_by bytes below (form_parts bytes one.0) (eqb-true (sum bytes % 256) 0 two.0), same_Ok {E = HexError} (record_from bytes) r two.1)
 
 -- a line that is read is the text of its record in either case
 pub read_is_text : (number : ℕ) (line : List ℕ) (r : Record) → record_of number line ≡ Ok r → IsRecord r × (map to_ascii_uppercase line ≡ text_of r)
 unfolding record_of text_of
 read_is_text number line r h =
-    let bytes = step (bytes_in number line) (record_in number) r h in
+    let bytes = step_value (bytes_in number line) (record_in number) r h in
     let reads = line_reads number line bytes.0 bytes.1 in
     let below = subst (AllByRecursion (λ byte. byte < 256)) reads.is (bytes_below (drop 1 line) reads.digits) in
     let written = bytes_write number bytes.0 r below bytes.2 in (

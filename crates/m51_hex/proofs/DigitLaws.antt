@@ -7,7 +7,8 @@ use Rattle.std.specs.List.{list_all, AllByRecursion}
 use Rattle.std.proofs.lemmas.Bool.{and_parts, and_from, ltb-true, lt-ltb}
 use Rattle.std.proofs.lemmas.Bool.Decides.{nat_tests}
 use Rattle.m51_cells.specs.Hex.{hex2}
-use Rattle.m51_hex.specs.Line.{is_hex_digit, bytes_of}
+use Rattle.m51_cells.specs.Hex.{is_hex_digit}
+use Rattle.m51_hex.specs.Line.{bytes_of}
 
 -- a digit in upper case is that of its value
 glyph_of_value : (c : ℕ) → digit_value c < 16 → to_ascii_uppercase c ≡ digit_glyph true (digit_value c)

@@ -1,6 +1,5 @@
 pub mod AcceptedLines
 pub mod DigitLaws
-pub mod FrontLine
 pub mod LineSteps
 pub mod RecordLaws
 pub mod RoundTrip

@@ -2,27 +2,23 @@
 use Rattle.std.proofs.Common.{◌≡◌, ℕ, ◌+◌, List, [], ◌∷◌, fold, Result, Ok, Err, refl, ap, sym, ◌∙◌}
 use Rattle.std.specs.Str.Lines.{lines}
 use Rattle.m51_cells.specs.Outcome.{RefusesWith}
+use Rattle.m51_cells.specs.Outcome.{◌>>=◌}
+use Rattle.m51_cells.proofs.Passing.{same_Ok, same_Err}
 use Rattle.m51_hex.specs.declared.error.HexError.{HexError}
 use Rattle.m51_hex.specs.declared.error.HexError.TheVariants.{H5, Memory as WantsMemory}
 use Rattle.m51_hex.specs.declared.records.RecordType.{RecordType}
 use Rattle.m51_hex.specs.declared.records.RecordType.TheVariants.{Data, EndOfFile}
 use Rattle.m51_hex.specs.Memory.{Memory, erased, stored}
-use Rattle.m51_hex.specs.Line.{◌>>=◌, record_of}
-use Rattle.m51_hex.specs.Reading.{behind, records_from, line_read, memory_from, refusal_of}
+use Rattle.m51_hex.specs.Line.{record_of}
+use Rattle.m51_hex.specs.Reading.{after, records_from, line_read, memory_from, refusal_of}
 use Rattle.m51_hex.specs.Record.{Record}
 
 -- a memory, or an error, as a result
-abbrev done : {A : Type 0} → A → Result A HexError
-done x = Ok x
+abbrev pub memory_as : Memory → Result Memory HexError
+memory_as m = Ok m
 
-abbrev failed : {A : Type 0} → HexError → Result A HexError
-failed e = Err e
-
-ok_is : {A : Type 0} (x y : A) → done x ≡ done y → x ≡ y
-ok_is x y e = cc
-
-err_is : (d e : HexError) → failed {A = RecordType × Memory} d ≡ failed {A = RecordType × Memory} e → d ≡ e
-err_is d e h = cc
+abbrev refused_as : HexError → Result Memory HexError
+refused_as e = Err e
 
 -- what a line with this record gives over a memory
 abbrev line_answer : Memory → Record → Result (RecordType × Memory) HexError
@@ -40,21 +36,21 @@ pub begins : (memory : Memory) (text : List ℕ) → memory ≡ erased → going
 unfolding memory_from
 begins memory text e = ap (λ (m : Memory). going_on m 1 text) e
 
--- what is read of a line and of those behind it
+-- what is read of a line and of those after it
 line_then : (memory : Memory) (number : ℕ) (line : List ℕ) (more : List (List ℕ)) (read : Result Record HexError) → record_of number line ≡ read
-    → after_lines memory number (line ∷ more) ≡ ((read >>= λ r. behind r.kind (records_from (number + 1) more) >>= λ others. Ok (r ∷ others)) >>= λ records. Ok (fold stored memory records))
+    → after_lines memory number (line ∷ more) ≡ ((read >>= λ r. after r.kind (records_from (number + 1) more) >>= λ others. Ok (r ∷ others)) >>= λ records. Ok (fold stored memory records))
 line_then memory number line more read is =
-    ap (λ (x : Result Record HexError). (x >>= λ r. behind r.kind (records_from (number + 1) more) >>= λ others. Ok (r ∷ others)) >>= λ records. Ok (fold stored memory records)) is
+    ap (λ (x : Result Record HexError). (x >>= λ r. after r.kind (records_from (number + 1) more) >>= λ others. Ok (r ∷ others)) >>= λ records. Ok (fold stored memory records)) is
 
 one_before : (memory : Memory) (r : Record) (others : Result (List Record) HexError) → ((others >>= λ records. Ok (r ∷ records)) >>= λ records. Ok (fold stored memory records)) ≡ (others >>= λ records. Ok (fold stored (stored memory r) records))
 one_before memory r (Ok records) = refl
 one_before memory r (Err e) = refl
 
--- a line whose record is read, and the lines behind it
+-- a line whose record is read, and the lines after it
 read_then : (memory : Memory) (number : ℕ) (line : List ℕ) (more : List (List ℕ)) (r : Record) → record_of number line ≡ Ok r
-    → after_lines memory number (line ∷ more) ≡ (behind r.kind (records_from (number + 1) more) >>= λ records. Ok (fold stored (stored memory r) records))
+    → after_lines memory number (line ∷ more) ≡ (after r.kind (records_from (number + 1) more) >>= λ records. Ok (fold stored (stored memory r) records))
 read_then memory number line more r is =
-    line_then memory number line more (Ok r) is ∙ one_before memory r (behind r.kind (records_from (number + 1) more))
+    line_then memory number line more (Ok r) is ∙ one_before memory r (after r.kind (records_from (number + 1) more))
 
 -- the record of a line that was read over a memory
 pub record LineHas (memory : Memory) (number : ℕ) (line : List ℕ) (kind : RecordType) (new : Memory) : Type 0 where
@@ -68,8 +64,8 @@ line_has_by : (memory : Memory) (number : ℕ) (line : List ℕ) (kind : RecordT
 line_has_by memory number line kind new (Ok r) is e = record {
   one = r;
   is = is;
-  kind_is = ap (λ (p : RecordType × Memory). p.0) (ok_is (r.kind, stored memory r) (kind, new) e);
-  new_is = ap (λ (p : RecordType × Memory). p.1) (ok_is (r.kind, stored memory r) (kind, new) e);
+  kind_is = ap (λ (p : RecordType × Memory). p.0) (same_Ok {E = HexError} (r.kind, stored memory r) (kind, new) e);
+  new_is = ap (λ (p : RecordType × Memory). p.1) (same_Ok {E = HexError} (r.kind, stored memory r) (kind, new) e);
 }
 line_has_by memory number line kind new (Err d) is e = absurd cc
 
@@ -77,13 +73,13 @@ line_has : (memory : Memory) (number : ℕ) (line : List ℕ) (kind : RecordType
 unfolding line_read
 line_has memory number line kind new e = line_has_by memory number line kind new (record_of number line) refl e
 
--- behind a record of data the lines are read on
+-- after a record of data the lines are read on
 pub goes_on : (memory new : Memory) (number : ℕ) (text line rest : List ℕ) (whole : Result Memory HexError) → lines text ≡ line ∷ lines rest → line_read memory number line ≡ Ok (Data, new)
     → going_on memory number text ≡ whole → going_on new (number + 1) rest ≡ whole
 goes_on memory new number text line rest whole front read so_far =
     let h = line_has memory number line Data new read in
     ap (λ (m : Memory). going_on m (number + 1) rest) (sym h.new_is)
-    ∙ ap (λ (k : RecordType). behind k (records_from (number + 1) (lines rest)) >>= λ records. Ok (fold stored (stored memory h.one) records)) (sym h.kind_is)
+    ∙ ap (λ (k : RecordType). after k (records_from (number + 1) (lines rest)) >>= λ records. Ok (fold stored (stored memory h.one) records)) (sym h.kind_is)
     ∙ sym (ap (after_lines memory number) front ∙ read_then memory number line (lines rest) h.one h.is)
     ∙ so_far
 
@@ -95,14 +91,14 @@ ends memory new number text line rest whole front read so_far =
     sym so_far
     ∙ ap (after_lines memory number) front
     ∙ read_then memory number line (lines rest) h.one h.is
-    ∙ ap (λ (k : RecordType). behind k (records_from (number + 1) (lines rest)) >>= λ records. Ok (fold stored (stored memory h.one) records)) h.kind_is
-    ∙ ap (λ (m : Memory). done m) h.new_is
+    ∙ ap (λ (k : RecordType). after k (records_from (number + 1) (lines rest)) >>= λ records. Ok (fold stored (stored memory h.one) records)) h.kind_is
+    ∙ ap (λ (m : Memory). memory_as m) h.new_is
 
 -- a line that is refused is the answer
 refused_by : (e : HexError) (memory : Memory) (number : ℕ) (line : List ℕ) (more : List (List ℕ)) (read : Result Record HexError) → record_of number line ≡ read
     → (read >>= line_answer memory) ≡ Err e → after_lines memory number (line ∷ more) ≡ Err e
 refused_by e memory number line more (Ok r) is h = absurd cc
-refused_by e memory number line more (Err d) is h = line_then memory number line more (Err d) is ∙ ap (λ (x : HexError). failed x) (err_is d e h)
+refused_by e memory number line more (Err d) is h = line_then memory number line more (Err d) is ∙ ap (λ (x : HexError). refused_as x) (same_Err {A = RecordType × Memory} d e h)
 
 pub refused : (e : HexError) (memory : Memory) (number : ℕ) (text line rest : List ℕ) (whole : Result Memory HexError) → lines text ≡ line ∷ lines rest → RefusesWith (refusal_of e) (line_read memory number line)
     → going_on memory number text ≡ whole → RefusesWith (refusal_of e) whole

@@ -9,10 +9,11 @@ use Rattle.std.proofs.lemmas.List.{length-append, take_at}
 use Rattle.std.proofs.lemmas.List.Elements.{recursion_from_All}
 use Rattle.std.proofs.lemmas.List.Sums.{sum_by-append}
 use Rattle.m51_cells.specs.Hex.{hex2}
+use Rattle.m51_cells.specs.Outcome.{◌>>=◌}
 use Rattle.m51_hex.specs.declared.error.HexError.{HexError}
 use Rattle.m51_hex.specs.declared.records.RecordType.{RecordType}
 use Rattle.m51_hex.specs.declared.records.RecordType.TheVariants.{Data, EndOfFile}
-use Rattle.m51_hex.specs.Line.{◌>>=◌, bytes_in, has_form, record_from, record_in, record_of}
+use Rattle.m51_hex.specs.Line.{bytes_in, has_form, record_from, record_in, record_of}
 use Rattle.m51_hex.specs.Record.{Record, IsRecord, TakesData, colon, type_byte, fields_of, checksum_of, text_of}
 use Rattle.m51_hex.proofs.DigitLaws.{Reads, digits_read, written_is_upper}
 

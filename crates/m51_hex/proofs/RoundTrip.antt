@@ -9,14 +9,15 @@ use Rattle.std.proofs.lemmas.List.Concat.{flat_map-append}
 use Rattle.std.proofs.lemmas.List.Elements.{recursion_from_All}
 use Rattle.std.proofs.lemmas.List.Sums.{fold-append, fold_push}
 use Rattle.m51_module.specs.declared.linked.Run.{Run}
+use Rattle.m51_cells.specs.Outcome.{◌>>=◌}
 use Rattle.m51_hex.specs.declared.error.HexError.{HexError}
 use Rattle.m51_hex.specs.declared.records.RecordType.TheVariants.{EndOfFile}
 use Rattle.m51_hex.specs.Laws.{is_in_run, is_in_runs, IsErasedOutside}
 use Rattle.m51_hex.specs.Memory.{Memory, memory_in, erased, stored, memory_of}
-use Rattle.m51_hex.specs.Line.{◌>>=◌}
 use Rattle.m51_hex.specs.Reading.{records_from, memory_from}
 use Rattle.m51_hex.specs.Record.{Record, IsRecord, line_of}
 use Rattle.m51_hex.specs.Writing.{IsWithin, end_of, records_of, last_record, hex_of}
+use Rattle.m51_hex.proofs.LineSteps.{memory_as}
 use Rattle.m51_hex.proofs.RunRecords.{run_inside, run_outside, run_is_data}
 use Rattle.m51_hex.proofs.StoredBytes.{same_memory, stored_none}
 use Rattle.m51_hex.proofs.WrittenLines.{IsData, records_back}
@@ -51,7 +52,7 @@ not_in_run : (m : Memory) (image : List ℕ) (run : Run) (address : ℕ) → len
 not_in_run m image run address whole within h =
     run_outside image run whole within m address (elim (and_cases (leb run.first address) (ltb address (end_of run)) h) [
       | inl before ↦ inl (leb-false run.first address before)
-      | inr behind ↦ inr (ltb-false address (end_of run) behind)
+      | inr beyond ↦ inr (ltb-false address (end_of run) beyond)
     ])
 
 -- at an address of some run, or where the memory agrees with the image already, the byte is that of the image
@@ -98,14 +99,11 @@ memory_back image runs h =
 last_is_record : IsRecord last_record
 last_is_record = record { address = omega arith; count = omega arith; bytes = λ place d below. absurd (omega (arith, below)); data_fit = refl }
 
-abbrev as_memory : Memory → Result Memory HexError
-as_memory memory = Ok memory
-
 pub written_is_read : (image : List ℕ) (runs : List Run) → IsErasedOutside image runs → memory_from (hex_of image runs) ≡ Ok (memory_in image)
 unfolding memory_from hex_of
 written_is_read image runs h =
     let records = data_of image runs in
     let data_is = all_are_data image runs h.whole h.bytes (recursion_from_All IsWithin runs h.within) in
-    ap (λ (t : List ℕ). records_from 1 (lines (t ++ line_of last_record)) >>= λ rs. as_memory (memory_of rs)) (lines_joined image runs)
-    ∙ ap (λ (read : Result (List Record) HexError). read >>= λ rs. as_memory (memory_of rs)) (records_back 1 records last_record data_is last_is_record refl)
-    ∙ ap (λ (m : Memory). as_memory m) (memory_back image runs h)
+    ap (λ (t : List ℕ). records_from 1 (lines (t ++ line_of last_record)) >>= λ rs. memory_as (memory_of rs)) (lines_joined image runs)
+    ∙ ap (λ (read : Result (List Record) HexError). read >>= λ rs. memory_as (memory_of rs)) (records_back 1 records last_record data_is last_is_record refl)
+    ∙ ap (λ (m : Memory). memory_as m) (memory_back image runs h)

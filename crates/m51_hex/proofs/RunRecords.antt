@@ -9,7 +9,7 @@ use Rattle.m51_module.specs.declared.linked.Run.{Run}
 use Rattle.m51_hex.specs.Memory.{Memory, memory_in, stored}
 use Rattle.m51_hex.specs.Record.{Record}
 use Rattle.m51_hex.specs.Writing.{IsWithin, end_of, count_of_records, record_at, records_of}
-use Rattle.m51_hex.proofs.StoredBytes.{stored_inside, stored_before, stored_behind}
+use Rattle.m51_hex.proofs.StoredBytes.{stored_inside, stored_before, stored_after}
 use Rattle.m51_hex.proofs.WrittenLines.{IsData}
 
 module _ (image : List ℕ) (run : Run) (whole : length image ≡ 65536) (within : IsWithin run) where
@@ -57,8 +57,8 @@ module _ (image : List ℕ) (run : Run) (whole : length image ≡ 65536) (within
       elim (cases_lt address (begin number)) [
         | inl before ↦ stored_before m (record_at image run number) address before
         | inr from ↦
-            let behind : end number ≤ address = elim away [ inl h ↦ omega arith | inr h ↦ h ] in
-            stored_behind m (record_at image run number) address (omega (arith, len_at number))
+            let beyond : end number ≤ address = elim away [ inl h ↦ omega arith | inr h ↦ h ] in
+            stored_after m (record_at image run number) address (omega (arith, len_at number))
       ]
 
   -- a memory after the first so many records of the run, and where those end

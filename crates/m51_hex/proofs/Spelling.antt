@@ -11,7 +11,7 @@ pub checksum_of_parts : (front bytes : List ℕ) (byte : ℕ) → byte < 256 →
 unfolding checksum_of
 checksum_of_parts front bytes byte fits zero = omega (arith, sum_by-append (λ (x : ℕ). x) front bytes, zero)
 
--- the digits of two rows of bytes, and of a checksum behind them
+-- the digits of two rows of bytes, and of a checksum after them
 digits_of_parts : (front bytes : List ℕ) (checksum : ℕ) → flat_map hex2 ((front ++ bytes) ++ checksum ∷ []) ≡ (flat_map hex2 front ++ flat_map hex2 bytes) ++ hex2 checksum
 digits_of_parts front bytes checksum =
     flat_map-append hex2 (front ++ bytes) (checksum ∷ [])

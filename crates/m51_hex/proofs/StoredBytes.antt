@@ -24,23 +24,23 @@ pub stored_inside : (m : Memory) (r : Record) (address : ℕ) → r.address ≤ 
 unfolding stored
 stored_inside m r address from below = rw (le-leb r.address address from, lt-ltb address (r.address + length r.bytes) below) refl
 
--- before and behind them nothing changes
+-- before and after them nothing changes
 pub stored_before : (m : Memory) (r : Record) (address : ℕ) → address < r.address → stored m r address ≡ m address
 unfolding stored
 stored_before m r address below = rw (lt-leb r.address address below) refl
 
-pub stored_behind : (m : Memory) (r : Record) (address : ℕ) → r.address + length r.bytes ≤ address → stored m r address ≡ m address
+pub stored_after : (m : Memory) (r : Record) (address : ℕ) → r.address + length r.bytes ≤ address → stored m r address ≡ m address
 unfolding stored
-stored_behind m r address behind =
+stored_after m r address beyond =
     let from : r.address ≤ address = omega arith in
-    rw (le-leb r.address address from, le-ltb address (r.address + length r.bytes) behind) refl
+    rw (le-leb r.address address from, le-ltb address (r.address + length r.bytes) beyond) refl
 
 -- no data change nothing
 pub stored_none : (m : Memory) (kind : RecordType) (at : ℕ) → m ≡ stored m (record { kind = kind; address = at; bytes = [] })
 stored_none m kind at = same_memory m (stored m (record { kind = kind; address = at; bytes = [] })) (λ address.
     elim (cases_lt address at) [
       | inl below ↦ sym (stored_before m (record { kind = kind; address = at; bytes = [] }) address below)
-      | inr from ↦ sym (stored_behind m (record { kind = kind; address = at; bytes = [] }) address (omega arith))
+      | inr from ↦ sym (stored_after m (record { kind = kind; address = at; bytes = [] }) address (omega arith))
     ])
 
 -- the first so many bytes of some data
@@ -54,9 +54,9 @@ part_inside m kind at bytes count address fits from below =
 
 part_outside : (m : Memory) (kind : RecordType) (at : ℕ) (bytes : List ℕ) (count address : ℕ) → count ≤ length bytes → (address < at) ⊎ (at + count ≤ address) → stored m (part kind at bytes count) address ≡ m address
 part_outside m kind at bytes count address fits (inl below) = stored_before m (part kind at bytes count) address below
-part_outside m kind at bytes count address fits (inr behind) =
+part_outside m kind at bytes count address fits (inr beyond) =
     let len : length (take count bytes) ≡ count = length-take-le count bytes fits in
-    stored_behind m (part kind at bytes count) address (omega (arith, len))
+    stored_after m (part kind at bytes count) address (omega (arith, len))
 
 module _ (image : List ℕ) (m : Memory) (kind : RecordType) (at offset : ℕ) (bytes : List ℕ) (whole : length image ≡ 65536) (within : at + length bytes ≤ 65536) (below : offset < length bytes) (so_far : memory_in image ≡ stored m (part kind at bytes offset)) where
   -- at another address

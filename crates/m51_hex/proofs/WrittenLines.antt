@@ -10,13 +10,15 @@ use Rattle.std.proofs.lemmas.List.{append-nil}
 use Rattle.std.proofs.lemmas.List.Elements.{All-from_recursion}
 use Rattle.std.proofs.lemmas.List.Splits.{slice_split_at, length-slice_split}
 use Rattle.m51_cells.specs.Hex.{hex2}
+use Rattle.m51_cells.proofs.LineLaws.{ended}
+use Rattle.m51_cells.specs.Outcome.{◌>>=◌}
+use Rattle.m51_cells.specs.Lines.{is_line_feed}
 use Rattle.m51_hex.specs.declared.error.HexError.{HexError}
 use Rattle.m51_hex.specs.declared.records.RecordType.{RecordType}
 use Rattle.m51_hex.specs.declared.records.RecordType.TheVariants.{Data, EndOfFile}
-use Rattle.m51_hex.specs.Line.{◌>>=◌, record_of}
-use Rattle.m51_hex.specs.Reading.{is_line_feed, behind, records_from}
+use Rattle.m51_hex.specs.Line.{record_of}
+use Rattle.m51_hex.specs.Reading.{after, records_from}
 use Rattle.m51_hex.specs.Record.{Record, IsRecord, line_feed, text_of, line_of}
-use Rattle.m51_hex.proofs.FrontLine.{before_more}
 use Rattle.m51_hex.proofs.RecordLaws.{whole_of, whole_below, text_is_read, text_is_upper}
 
 -- ---- no character of a record's text ends a line
@@ -53,7 +55,7 @@ line_first r rest h =
     let parts = slice_split is_line_feed rest in
     ap lines (append_assoc (text_of r) (line_feed ∷ []) rest)
     ∙ ap lines_of_parts (slice_split_at is_line_feed (text_of r) line_feed rest (All-from_recursion (λ c. is_line_feed c ≡ false) (text_of r) (no_feed (text_of r) high)) refl)
-    ∙ before_more (text_of r) parts (omega (arith, length-slice_split is_line_feed rest))
+    ∙ ended (text_of r) parts (omega (arith, length-slice_split is_line_feed rest))
     ∙ ap (λ (line : List ℕ). line ∷ lines rest) (no_return (text_of r) high)
 
 -- ---- the records that are read
@@ -66,11 +68,11 @@ pub record IsData (r : Record) : Type 0 where
   pub is : IsRecord r
   pub kind : r.kind ≡ Data
 
--- the record of a line before those behind it
+-- the record of a line before those after it
 one_read : (number : ℕ) (line : List ℕ) (more : List (List ℕ)) (r : Record) → record_of number line ≡ Ok r
-    → records_from number (line ∷ more) ≡ (behind r.kind (records_from (number + 1) more) >>= λ others. Ok (r ∷ others))
+    → records_from number (line ∷ more) ≡ (after r.kind (records_from (number + 1) more) >>= λ others. Ok (r ∷ others))
 one_read number line more r is =
-    ap (λ (x : Result Record HexError). x >>= λ one. behind one.kind (records_from (number + 1) more) >>= λ others. Ok (one ∷ others)) is
+    ap (λ (x : Result Record HexError). x >>= λ one. after one.kind (records_from (number + 1) more) >>= λ others. Ok (one ∷ others)) is
 
 -- the lines of records of data and of one that ends the file are read as those records
 pub records_back : (number : ℕ) (records : List Record) (last : Record) → AllByRecursion IsData records → IsRecord last → last.kind ≡ EndOfFile
@@ -80,12 +82,12 @@ records_back number [] last data_is last_is ends =
     ap (λ (t : List ℕ). records_from number (lines t)) text
     ∙ ap (records_from number) (line_first last [] last_is)
     ∙ one_read number (text_of last) (lines []) last (text_is_read number (text_of last) last last_is (text_is_upper last last_is))
-    ∙ ap (λ (k : RecordType). behind k (records_from (number + 1) (lines [])) >>= λ others. Ok (last ∷ others)) ends
+    ∙ ap (λ (k : RecordType). after k (records_from (number + 1) (lines [])) >>= λ others. Ok (last ∷ others)) ends
 records_back number (r ∷ records) last data_is last_is ends =
     let rest = flat_map line_of records ++ line_of last in
     let one = data_is.0 in
     ap (λ (t : List ℕ). records_from number (lines t)) (append_assoc (line_of r) (flat_map line_of records) (line_of last))
     ∙ ap (records_from number) (line_first r rest one.is)
     ∙ one_read number (text_of r) (lines rest) r (text_is_read number (text_of r) r one.is (text_is_upper r one.is))
-    ∙ ap (λ (k : RecordType). behind k (records_from (number + 1) (lines rest)) >>= λ others. Ok (r ∷ others)) one.kind
+    ∙ ap (λ (k : RecordType). after k (records_from (number + 1) (lines rest)) >>= λ others. Ok (r ∷ others)) one.kind
     ∙ ap (λ (x : Result (List Record) HexError). x >>= λ others. Ok (r ∷ others)) (records_back (number + 1) records last data_is.1 last_is ends)

@@ -1,5 +1,6 @@
 -- Two laws of the format.
-use Rattle.std.specs.Prelude.{◌≡◌, ◌↔◌, ℕ, ◌<◌, false, Bool, ◌&&◌, nat_le, nat_lt, List, length, map, All, Ok, slice_index}
+use Rattle.std.specs.Prelude.{◌≡◌, ◌↔◌, ℕ, ◌<◌, false, Bool, ◌&&◌, nat_le, nat_lt, List, length, map, All, Ok}
+use Rattle.std.specs.Prelude.{slice_index}
 use Rattle.std.specs.Char.{to_ascii_uppercase}
 use Rattle.std.specs.List.{list_any}
 use Rattle.m51_module.specs.declared.linked.Run.{Run}
@@ -26,8 +27,11 @@ pub record IsErasedOutside (image : List ℕ) (runs : List Run) : Type 0 where
 
 -- what is written of such an image is read, and is the image
 abbrev pub WrittenIsRead : Type 0
-WrittenIsRead = (image : List ℕ) (runs : List Run) → IsErasedOutside image runs → memory_from (hex_of image runs) ≡ Ok (memory_in image)
+WrittenIsRead =
+    (image : List ℕ) (runs : List Run) → IsErasedOutside image runs
+    → memory_from (hex_of image runs) ≡ Ok (memory_in image)
 
 -- a line is accepted exactly where it is the text of a record in either case of letters, and then that is the record
 abbrev pub LinesAreRecords : Type 0
-LinesAreRecords = (number : ℕ) (line : List ℕ) (r : Record) → (record_of number line ≡ Ok r) ↔ (IsRecord r × (map to_ascii_uppercase line ≡ text_of r))
+LinesAreRecords = (number : ℕ) (line : List ℕ) (r : Record)
+    → (record_of number line ≡ Ok r) ↔ (IsRecord r × (map to_ascii_uppercase line ≡ text_of r))

@@ -1,21 +1,14 @@
 -- The record of a line: its tests, in their order, and what it writes.
-use Rattle.std.specs.Prelude.{ℕ, ◌+◌, ◌*◌, ◌%◌, Bool, not, ◌&&◌, ◌==◌, nat_le, if◌then◌else◌, List, [], ◌∷◌, length, take, drop, sum, slice_index, Result, Ok, Err}
-use Rattle.std.specs.Char.{digit_value, is_digit}
+use Rattle.std.specs.Prelude.{ℕ, ◌+◌, ◌*◌, ◌%◌, Bool, not, ◌&&◌, ◌==◌, nat_le, if◌then◌else◌, List, [], ◌∷◌, length}
+use Rattle.std.specs.Prelude.{take, drop, sum, slice_index, Result, Ok, Err}
+use Rattle.std.specs.Char.{digit_value}
 use Rattle.std.specs.List.{list_all}
+use Rattle.m51_cells.specs.Hex.{is_hex_digit}
+use Rattle.m51_cells.specs.Outcome.{◌>>=◌}
 use Rattle.m51_hex.specs.declared.error.HexError.{HexError}
 use Rattle.m51_hex.specs.declared.error.HexError.TheVariants.{H1, H2, H3, H4}
 use Rattle.m51_hex.specs.declared.records.RecordType.TheVariants.{Data, EndOfFile}
 use Rattle.m51_hex.specs.Record.{Record, colon}
-
--- one step of a reading after another, up to the first that is refused
-infixl 10 ◌>>=◌
-abbrev pub ◌>>=◌ : {A B : Type 0} → Result A HexError → (A → Result B HexError) → Result B HexError
-(Ok x) >>= f = f x
-(Err e) >>= f = Err e
-
--- a hexadecimal digit of either case
-abbrev pub is_hex_digit : ℕ → Bool
-is_hex_digit character = is_digit character 16
 
 -- the bytes that digits write, two digits each
 abbrev pub bytes_of : List ℕ → List ℕ
@@ -23,8 +16,8 @@ bytes_of [] = []
 bytes_of (last ∷ []) = []
 bytes_of (high ∷ low ∷ more) = (16 * digit_value high + digit_value low) ∷ bytes_of more
 
--- The bytes of the line of this number. H1: it does not begin with a colon, nor does an empty line. H2: a character behind
--- the colon is no hexadecimal digit. H3: the digits are odd in number.
+-- The bytes of the line of this number. H1: it does not begin with a colon, nor does an empty line. H2: a character
+-- after the colon is no hexadecimal digit. H3: the digits are odd in number.
 unfoldable pub bytes_in : ℕ → List ℕ → Result (List ℕ) HexError
 bytes_in number line =
     let digits = drop 1 line in
@@ -45,12 +38,13 @@ address_in bytes = 256 * slice_index bytes 1 + slice_index bytes 2
 abbrev pub type_in : List ℕ → ℕ
 type_in bytes = slice_index bytes 3
 
--- The bytes have the form of a record: as many data as the count says, and five bytes of count, address, type and checksum.
--- The data of type 00 end at 10000H or below, and a record of type 01 has none.
+-- The bytes have the form of a record: as many data as the count says, and five bytes of count, address, type and
+-- checksum. The data of type 00 end at 10000H or below, and a record of type 01 has none.
 unfoldable pub has_form : List ℕ → Bool
 has_form bytes =
     length bytes == count_in bytes + 5
-    && (if type_in bytes == 0 then nat_le (address_in bytes + count_in bytes) 0x10000 else type_in bytes == 1 && count_in bytes == 0)
+    && (if type_in bytes == 0 then nat_le (address_in bytes + count_in bytes) 0x10000
+    else type_in bytes == 1 && count_in bytes == 0)
 
 -- the record that such bytes write
 unfoldable pub record_from : List ℕ → Record
@@ -60,8 +54,8 @@ record_from bytes = record {
   bytes = take (count_in bytes) (drop 4 bytes);
 }
 
--- The record that the bytes of the line of this number write. H3: they have not the form of one. H4: their sum, the checksum
--- among them, is no multiple of 256.
+-- The record that the bytes of the line of this number write. H3: they have not the form of one. H4: their sum, the
+-- checksum among them, is no multiple of 256.
 unfoldable pub record_in : ℕ → List ℕ → Result Record HexError
 record_in number bytes =
     if not (has_form bytes) then Err (H3 number)

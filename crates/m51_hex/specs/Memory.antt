@@ -18,7 +18,8 @@ erased = λ address. 0xFF
 -- the memory after the data of a record are put at its address, over what stood there
 unfoldable pub stored : Memory → Record → Memory
 stored memory r = λ address.
-    if nat_le r.address address && nat_lt address (r.address + length r.bytes) then slice_index r.bytes (address - r.address)
+    if nat_le r.address address && nat_lt address (r.address + length r.bytes)
+    then slice_index r.bytes (address - r.address)
     else memory address
 
 -- the memory that the data of records make, one record after the other: later bytes replace earlier ones

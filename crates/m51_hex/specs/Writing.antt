@@ -5,7 +5,7 @@ use Rattle.m51_module.specs.declared.linked.Run.{Run}
 use Rattle.m51_hex.specs.declared.records.RecordType.TheVariants.{Data, EndOfFile}
 use Rattle.m51_hex.specs.Record.{Record, line_of}
 
--- the address behind the last byte of a run
+-- the address after the last byte of a run
 abbrev pub end_of : Run → ℕ
 end_of run = run.first + run.len
 

@@ -1,41 +1,25 @@
 //! Hexadecimal digits, two for each byte.
-ghost use Rattle.std.specs.Prelude.{◌≡◌, ◌<◌, ◌++◌, true, flat_map, IsTrue, IfOk, OnOk};
+ghost use Rattle.std.specs.Prelude.{◌≡◌, ◌<◌, ◌++◌, flat_map, IsTrue, IfOk, OnOk};
 ghost use Rattle.std.specs.Char.{digit_value};
-ghost use Rattle.std.specs.Fmt.{digit_glyph};
 ghost use Rattle.std.specs.List.{list_all};
-ghost use Rattle.m51_cells.specs.Hex.{hex2};
-ghost use Rattle.m51_hex.specs.Line.{is_hex_digit, bytes_of};
+ghost use Rattle.m51_cells.specs.Hex.{hex2, is_hex_digit};
+ghost use Rattle.m51_hex.specs.Line.{bytes_of};
 
-use m51_cells::NoMemory;
+use m51_cells::{NoMemory, digit_value, hex2};
 use std::alloc::Global;
 
-// The digit of a number below 16, in upper case.
-fn digit_of(number: u8) -> u8
-    requires { number < 16 }
-    ensures { result ≡ digit_glyph true number }
-{
-    if number < 10 {
-        b'0' + number
-    } else {
-        b'A' + (number - 10)
-    }
-}
-
-/// Appends the two digits of a byte, in upper case.
-///
-/// Source: Intel HEX.
-pub fn push_byte(text: &mut Vec<u8>, byte: u8) -> Result<(), NoMemory>
+// Appends the two digits of a byte, in upper case.
+pub(crate) fn push_byte(text: &mut Vec<u8>, byte: u8) -> Result<(), NoMemory>
     ensures { OnOk result (text.new.items ≡ text.old.items ++ hex2 byte) }
 {
-    text.push(digit_of(byte / 16))?;
-    text.push(digit_of(byte % 16))?;
+    let [high, low] = hex2(byte);
+    text.push(high)?;
+    text.push(low)?;
     Ok(())
 }
 
-/// Appends the digits of each byte.
-///
-/// Source: Intel HEX.
-pub fn push_bytes(text: &mut Vec<u8>, bytes: &[u8]) -> Result<(), NoMemory>
+// Appends the digits of each byte.
+pub(crate) fn push_bytes(text: &mut Vec<u8>, bytes: &[u8]) -> Result<(), NoMemory>
     ensures { OnOk result (text.new.items ≡ text.old.items ++ flat_map hex2 bytes.now) }
 {
     for byte in bytes {
@@ -48,13 +32,11 @@ pub fn push_bytes(text: &mut Vec<u8>, bytes: &[u8]) -> Result<(), NoMemory>
 fn is_hex_digit(character: u8) -> bool
     ensures { result ≡ is_hex_digit character }
 {
-    char::from(character).is_digit(16)
+    digit_value(character).is_some()
 }
 
-/// Whether each character is a hexadecimal digit of either case.
-///
-/// Source: Intel HEX.
-pub fn are_hex_digits(text: &[u8]) -> bool
+// Whether each character is a hexadecimal digit of either case.
+pub(crate) fn are_hex_digits(text: &[u8]) -> bool
     ensures { result ≡ list_all is_hex_digit text.now }
 {
     text.iter().all(|character| is_hex_digit(*character))
@@ -66,17 +48,14 @@ fn value_of(digit: u8) -> u8
     ensures value { result ≡ digit_value digit }
     ensures small { result < 16 }
 {
-    match digit {
-        b'0'..=b'9' => digit - b'0',
-        b'A'..=b'F' => digit - b'A' + 10,
-        _ => digit - b'a' + 10,
+    match digit_value(digit) {
+        Some(value) => value,
+        None => unreachable!(),
     }
 }
 
-/// The bytes that digits write; a last one that is single writes none.
-///
-/// Source: Intel HEX.
-pub fn bytes_of(alloc: Global, digits: &[u8]) -> Result<Vec<u8>, NoMemory>
+// The bytes that digits write; a last one that is single writes none.
+pub(crate) fn bytes_of(alloc: Global, digits: &[u8]) -> Result<Vec<u8>, NoMemory>
     requires { IsTrue (list_all is_hex_digit digits.now) }
     ensures { IfOk result (λ bytes. bytes.items ≡ bytes_of digits.now) }
 {

@@ -1,8 +1,8 @@
 //! Two laws of the format, which hold of its definitions.
 ghost use Rattle.m51_hex.specs.Laws.{LinesAreRecords, WrittenIsRead};
 
-/// A line is accepted as a record exactly where it is the text of that record, whatever the case of its letters: what is
-/// read is what is written.
+/// A line is accepted as a record exactly where it is the text of that record, whatever the case of its letters: what
+/// is read is what is written.
 ///
 /// Source: Intel HEX.
 pub fn each_line_is_a_record()

@@ -4,7 +4,6 @@
 mod digits;
 mod error;
 mod laws;
-mod lines;
 mod reading;
 mod records;
 mod storing;

@@ -3,14 +3,14 @@ ghost use Rattle.std.specs.Prelude.{◌≡◌, ◌+◌, ◌≤◌, ◌<◌, ◌^
 ghost use Rattle.m51_cells.specs.Outcome.{Gives};
 ghost use Rattle.m51_hex.specs.Memory.{memory_in};
 ghost use Rattle.m51_hex.specs.Line.{bytes_in, record_in};
-ghost use Rattle.m51_hex.specs.Reading.{line_read, memory_from, refusal_of};
+ghost use Rattle.m51_hex.specs.Reading.{line_read, memory_from, refusal_of, with_memory};
 ghost use Rattle.m51_hex.specs.Record.{seen};
 
 use crate::HexError;
 use crate::digits::{are_hex_digits, bytes_of};
-use crate::lines::first_line;
 use crate::records::{Record, RecordType, has_form, low_sum, record_from};
 use crate::storing::store;
+use m51_cells::first_line;
 use m51_module::Image;
 use std::alloc::Global;
 
@@ -55,7 +55,7 @@ fn read_line(
     text: &[u8],
 ) -> Result<RecordType, HexError>
     requires { length image.old ≡ 0x10000 }
-    ensures gives { Gives (λ kind. (kind, memory_in image.new)) refusal_of result (line_read (memory_in image.old) line text.now) }
+    ensures gives { Gives (with_memory image.new) refusal_of result (line_read (memory_in image.old) line text.now) }
     ensures whole { length image.new ≡ 0x10000 }
 {
     let bytes = bytes_in(alloc, line, text)?;
@@ -65,13 +65,13 @@ fn read_line(
 }
 
 /// The image that a HEX file describes: the data of its records, of which later bytes replace earlier ones, and FFH at
-/// each address that no record has. Lines end in a line feed, or in a carriage return and a line feed; the last may lack
-/// its end. Digits are of either case. What follows a record of type 01 is not looked at.
+/// each address that no record has. Lines end in a line feed, or in a carriage return and a line feed; the last may
+/// lack its end. Digits are of either case. What follows a record of type 01 is not looked at.
 ///
 /// Condition: the file has fewer than 4,294,967,296 bytes.
 ///
-/// Errors: the first line that fails a test, by the first test that it fails, H1 to H4; H5 where no line is a record of type
-/// 01; or want of memory.
+/// Errors: the first line that fails a test, by the first test that it fails, H1 to H4; H5 where no line is a record of
+/// type 01; or want of memory.
 ///
 /// Source: Intel HEX.
 pub fn read_hex(alloc: Global, bytes: &[u8]) -> Result<Image, HexError>
@@ -81,9 +81,9 @@ pub fn read_hex(alloc: Global, bytes: &[u8]) -> Result<Image, HexError>
     let mut image = Image::blank(alloc)?;
     let mut line = 0;
     let mut rest = bytes;
-    while let Some((text, behind)) = first_line(rest) {
+    while let Some((text, after)) = first_line(rest) {
         line += 1;
-        rest = behind;
+        rest = after;
         match read_line(alloc, &mut image, line, text)? {
             RecordType::Data => {}
             RecordType::EndOfFile => return Ok(image),

@@ -6,28 +6,24 @@ ghost use Rattle.m51_hex.specs.Record.{type_byte, fields_of, checksum_of, line_o
 use crate::digits::{push_byte, push_bytes};
 use m51_cells::NoMemory;
 
-/// The type of a record.
-///
-/// Source: Intel HEX.
+// The type of a record.
 #[derive(Clone, Copy, Debug, PartialEq, Eq)]
-pub enum RecordType {
-    /// Type 00: bytes of the image.
+pub(crate) enum RecordType {
+    // Type 00: bytes of the image.
     Data,
-    /// Type 01: the file ends here.
+    // Type 01: the file ends here.
     EndOfFile,
 }
 
-/// A record: bytes of the image in a row, or the end of the file.
-///
-/// Source: Intel HEX.
+// A record: bytes of the image in a row, or the end of the file.
 #[derive(Clone, Copy)]
-pub struct Record<'a> {
-    /// Its type.
-    pub kind: RecordType,
-    /// The address of the first byte of the data.
-    pub address: u16,
-    /// The data: 0 to 255 bytes.
-    pub bytes: &'a [u8],
+pub(crate) struct Record<'a> {
+    // Its type.
+    pub(crate) kind: RecordType,
+    // The address of the first byte of the data.
+    pub(crate) address: u16,
+    // The data: 0 to 255 bytes.
+    pub(crate) bytes: &'a [u8],
 }
 
 // The byte that says the type.
@@ -40,10 +36,8 @@ fn type_byte(kind: RecordType) -> u8
     }
 }
 
-/// The low byte of the sum of bytes.
-///
-/// Source: Intel HEX.
-pub fn low_sum(bytes: &[u8]) -> u8
+// The low byte of the sum of bytes.
+pub(crate) fn low_sum(bytes: &[u8]) -> u8
     ensures { result ≡ sum bytes.now % 256 }
 {
     let mut total = 0u8;
@@ -53,11 +47,9 @@ pub fn low_sum(bytes: &[u8]) -> u8
     total
 }
 
-/// Whether bytes have the form of a record.
-///
-/// Source: Intel HEX.
+// Whether bytes have the form of a record.
 #[tactic(auto, unfolding(crate::specs::Line::has_form))]
-pub fn has_form(bytes: &[u8]) -> bool
+pub(crate) fn has_form(bytes: &[u8]) -> bool
     ensures { result ≡ has_form bytes.now }
 {
     if bytes.len() < 5 {
@@ -75,11 +67,9 @@ pub fn has_form(bytes: &[u8]) -> bool
     }
 }
 
-/// The record that bytes of that form write.
-///
-/// Source: Intel HEX.
+// The record that bytes of that form write.
 #[tactic(auto, unfolding(crate::specs::Line::has_form, crate::specs::Line::record_from))]
-pub fn record_from(bytes: &[u8]) -> Record<'_>
+pub(crate) fn record_from(bytes: &[u8]) -> Record<'_>
     requires { IsTrue (has_form bytes.now) }
     ensures is { seen result ≡ record_from bytes.now }
     ensures within { result.address + length result.bytes.now ≤ 0x10000 }
@@ -115,10 +105,8 @@ fn checksum_of(front: &[u8], bytes: &[u8]) -> u8
     total.wrapping_neg()
 }
 
-/// Appends the line of a record.
-///
-/// Source: Intel HEX.
-pub fn push_record(text: &mut Vec<u8>, record: &Record<'_>) -> Result<(), NoMemory>
+// Appends the line of a record.
+pub(crate) fn push_record(text: &mut Vec<u8>, record: &Record<'_>) -> Result<(), NoMemory>
     requires { length «record».now.bytes.now < 256 }
     ensures { OnOk result (text.new.items ≡ text.old.items ++ line_of (seen «record».now)) }
 {

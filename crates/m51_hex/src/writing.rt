@@ -40,10 +40,14 @@ fn push_run(text: &mut Vec<u8>, image: &[u8], run: &Run) -> Result<(), NoMemory>
     Ok(())
 }
 
-/// The HEX file of an image: each run is cut into records of 16 bytes from its start, of which the last may have fewer, and
-/// a record of type 01 ends the file. Digits are upper case, and each line ends in a line feed.
+/// The HEX file of an image: each run is cut into records of 16 bytes from its start, of which the last may have fewer,
+/// and a record of type 01 ends the file. Digits are upper case, and each line ends in a line feed.
+///
+/// Bytes outside the runs are not written. Runs are written as they are given, whether or not they ascend or meet.
 ///
 /// Condition: each run ends at 10000H or below.
+///
+/// Error: want of memory.
 ///
 /// Source: Intel HEX.
 #[tactic(auto, unfolding(crate::specs::Writing::hex_of))]

@@ -4,7 +4,28 @@ use Rattle.m51_isa.specs.declared.instr.Flow.{Flow}
 use Rattle.m51_isa.specs.declared.instr.Flow.TheVariants.{Next, Branch, Call, Ret as FlowRet, Reti as FlowReti}
 use Rattle.m51_isa.specs.declared.encoding.Code.{Code}
 use Rattle.m51_isa.specs.declared.instr.Instr.{Instr}
-use Rattle.m51_isa.specs.declared.instr.Instr.TheVariants.{Nop, JbcBitRel, JbBitRel, JnbBitRel, JcRel, JncRel, JzRel, JnzRel, SjmpRel, MovDptrData16, OrlCNotBit, AnlCNotBit, PushDirect, PopDirect, MovxAAtDptr, MovxAtDptrA, AjmpAddr11, AcallAddr11, LjmpAddr16, LcallAddr16, Ret, Reti, OrlDirectA, AnlDirectA, XrlDirectA, OrlCBit, AnlCBit, MovBitC, MovCBit, CplBit, ClrBit, SetbBit, MovxAAtRi, MovxAtRiA, RrA, RrcA, RlA, RlcA, OrlDirectData, AnlDirectData, XrlDirectData, JmpAtADptr, MovcAAtAPc, MovcAAtADptr, IncDptr, CplC, ClrC, SetbC, IncA, DecA, AddAData, AddcAData, OrlAData, AnlAData, XrlAData, MovAData, DivAb, SubbAData, MulAb, CjneADataRel, SwapA, DaA, ClrA, CplA, IncDirect, DecDirect, AddADirect, AddcADirect, OrlADirect, AnlADirect, XrlADirect, MovDirectData, MovDirectDirect, SubbADirect, CjneADirectRel, XchADirect, DjnzDirectRel, MovADirect, MovDirectA, IncAtRi, DecAtRi, AddAAtRi, AddcAAtRi, OrlAAtRi, AnlAAtRi, XrlAAtRi, MovAtRiData, MovDirectAtRi, SubbAAtRi, MovAtRiDirect, CjneAtRiDataRel, XchAAtRi, XchdAAtRi, MovAAtRi, MovAtRiA, IncRn, DecRn, AddARn, AddcARn, OrlARn, AnlARn, XrlARn, MovRnData, MovDirectRn, SubbARn, MovRnDirect, CjneRnDataRel, XchARn, DjnzRnRel, MovARn, MovRnA}
+use Rattle.m51_isa.specs.declared.instr.Instr.TheVariants.{Nop, JbcBitRel, JbBitRel, JnbBitRel, JcRel, JncRel, JzRel}
+use Rattle.m51_isa.specs.declared.instr.Instr.TheVariants.{JnzRel, SjmpRel, MovDptrData16, OrlCNotBit, AnlCNotBit}
+use Rattle.m51_isa.specs.declared.instr.Instr.TheVariants.{PushDirect, PopDirect, MovxAAtDptr, MovxAtDptrA}
+use Rattle.m51_isa.specs.declared.instr.Instr.TheVariants.{AjmpAddr11, AcallAddr11, LjmpAddr16, LcallAddr16, Ret}
+use Rattle.m51_isa.specs.declared.instr.Instr.TheVariants.{Reti, OrlDirectA, AnlDirectA, XrlDirectA, OrlCBit, AnlCBit}
+use Rattle.m51_isa.specs.declared.instr.Instr.TheVariants.{MovBitC, MovCBit, CplBit, ClrBit, SetbBit, MovxAAtRi}
+use Rattle.m51_isa.specs.declared.instr.Instr.TheVariants.{MovxAtRiA, RrA, RrcA, RlA, RlcA, OrlDirectData}
+use Rattle.m51_isa.specs.declared.instr.Instr.TheVariants.{AnlDirectData, XrlDirectData, JmpAtADptr, MovcAAtAPc}
+use Rattle.m51_isa.specs.declared.instr.Instr.TheVariants.{MovcAAtADptr, IncDptr, CplC, ClrC, SetbC, IncA, DecA}
+use Rattle.m51_isa.specs.declared.instr.Instr.TheVariants.{AddAData, AddcAData, OrlAData, AnlAData, XrlAData}
+use Rattle.m51_isa.specs.declared.instr.Instr.TheVariants.{MovAData, DivAb, SubbAData, MulAb, CjneADataRel, SwapA}
+use Rattle.m51_isa.specs.declared.instr.Instr.TheVariants.{DaA, ClrA, CplA, IncDirect, DecDirect, AddADirect}
+use Rattle.m51_isa.specs.declared.instr.Instr.TheVariants.{AddcADirect, OrlADirect, AnlADirect, XrlADirect}
+use Rattle.m51_isa.specs.declared.instr.Instr.TheVariants.{MovDirectData, MovDirectDirect, SubbADirect}
+use Rattle.m51_isa.specs.declared.instr.Instr.TheVariants.{CjneADirectRel, XchADirect, DjnzDirectRel, MovADirect}
+use Rattle.m51_isa.specs.declared.instr.Instr.TheVariants.{MovDirectA, IncAtRi, DecAtRi, AddAAtRi, AddcAAtRi}
+use Rattle.m51_isa.specs.declared.instr.Instr.TheVariants.{OrlAAtRi, AnlAAtRi, XrlAAtRi, MovAtRiData, MovDirectAtRi}
+use Rattle.m51_isa.specs.declared.instr.Instr.TheVariants.{SubbAAtRi, MovAtRiDirect, CjneAtRiDataRel, XchAAtRi}
+use Rattle.m51_isa.specs.declared.instr.Instr.TheVariants.{XchdAAtRi, MovAAtRi, MovAtRiA, IncRn, DecRn, AddARn}
+use Rattle.m51_isa.specs.declared.instr.Instr.TheVariants.{AddcARn, OrlARn, AnlARn, XrlARn, MovRnData, MovDirectRn}
+use Rattle.m51_isa.specs.declared.instr.Instr.TheVariants.{SubbARn, MovRnDirect, CjneRnDataRel, XchARn, DjnzRnRel}
+use Rattle.m51_isa.specs.declared.instr.Instr.TheVariants.{MovARn, MovRnA}
 pub use Rattle.m51_isa.specs.Columns.{decoded_at, decoded}
 
 -- a row of the table: its bytes, its machine cycles and where control goes

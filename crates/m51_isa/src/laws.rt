@@ -1,5 +1,7 @@
-//! What the table promises of decoding and encoding. Each law is the contract of a function that does nothing.
+//! What the table promises of decoding and encoding, and its texts. Each law is the contract of a function that does
+//! nothing.
 ghost use Rattle.m51_isa.specs.Laws.{OneRow, NoneReserved, RowsDecode, RowsAreShort, CodesDecode, FrontsAgree};
+ghost use Rattle.m51_isa.specs.TextLaws.{TextsAreRows};
 
 /// No bytes begin with two rows.
 ///
@@ -41,4 +43,14 @@ pub fn codes_decode()
 /// Source: own choice ("Decoding and encoding").
 pub fn fronts_agree()
     ensures { FrontsAgree }
+{}
+
+/// Each of the 111 rows is found by its own text, and with the numbers of the text, which its fields have room for,
+/// it is the row; so two rows that are written alike are one. What is found is written so, and what a generic jump
+/// stands for is written with the mnemonic of its form; no row is written as a generic jump. Numbers that are put
+/// into the fields of a row change the numbers of its text alone, and not its length.
+///
+/// Source: family manual.
+pub fn texts_are_rows()
+    ensures { TextsAreRows }
 {}

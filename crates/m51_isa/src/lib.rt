@@ -1,20 +1,40 @@
-//! The instruction table of the MCS-51: decoding, encoding, length, cycles and flow of its 111 forms.
+//! The instruction table of the MCS-51: bytes, length, cycles, flow and text of its 111 forms, and the ways into it.
 #![tactic(auto)]
 
+mod arithmetic;
+mod branches;
 mod columns;
 mod decoding;
 mod encoding;
+mod filling;
+mod generics;
 mod instr;
+mod jumps;
 mod laws;
+mod logic;
+mod look;
+mod mnemonics;
+mod moves;
 mod operand;
+mod searching;
+mod slot;
+mod spelling;
 #[cfg(test)]
 mod tests;
 
 pub use columns::{cycles, kind_of, length};
 pub use decoding::decode;
 pub use encoding::{Code, encode};
+pub use filling::with_numbers;
+pub use generics::{Jump, Verb, generic, jump_row};
 pub use instr::{Flow, Instr};
 pub use laws::{
     codes_decode, fronts_agree, none_is_reserved, rows_are_distinct, rows_are_short, rows_decode,
+    texts_are_rows,
 };
+pub use look::Look;
+pub use mnemonics::is_mnemonic;
 pub use operand::{Address11, Pointer, Register};
+pub use searching::{has_row, row_for, search};
+pub use slot::{Field, FieldSlot, Slot};
+pub use spelling::{Spelling, spelling_of};

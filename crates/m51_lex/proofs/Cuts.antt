@@ -10,7 +10,7 @@ use Rattle.m51_lex.specs.declared.token.What.{What}
 use Rattle.m51_lex.specs.Lexeme.{lexeme_of}
 use Rattle.m51_lex.specs.Tokens.{Cut, AreSlices, IsWithin, put_front, after_lexeme, tokens_at}
 
--- passing bytes over is reading on behind them
+-- passing bytes over is reading on after them
 pub passes : (n at : ℕ) (bytes : List ℕ) → tokens_at n at bytes ≡ tokens_at 0 (at + n) (drop n bytes)
 passes zero at bytes = ap (λ a. tokens_at 0 a bytes) (sym (add-zero at))
 passes (suc n) at [] = refl

@@ -1,10 +1,12 @@
 -- What stands at the front of the rest of a line (the assembler's rules of tokens).
-use Rattle.std.specs.Prelude.{ℕ, ◌+◌, ◌≤◌, ◌<◌, ◌||◌, ◌==◌, nat_lt, if◌then◌else◌, List, [], ◌∷◌, take, drop, Option, Some, None, option_map, slice_index}
+use Rattle.std.specs.Prelude.{ℕ, ◌+◌, ◌≤◌, ◌<◌, ◌||◌, ◌==◌, nat_lt, if◌then◌else◌, List, [], ◌∷◌, take, drop, Option}
+use Rattle.std.specs.Prelude.{Some, None, option_map, slice_index}
 use Rattle.std.specs.Char.{is_ascii_digit, is_ascii_alphanumeric}
 use Rattle.std.specs.List.{prefix_len}
 use Rattle.m51_lex.specs.declared.lexeme.Lexeme.{Lexeme}
 use Rattle.m51_lex.specs.declared.lexeme.Lexeme.TheVariants.{Blank, Comment, Token, Fault}
 use Rattle.m51_lex.specs.declared.token.What.TheVariants.{Name, Number, Text, Sign}
+use Rattle.m51_lex.specs.declared.fault.TheConstants.{BAD_CHARACTER, UNCLOSED_TEXT, BAD_NUMBER, LONG_NAME}
 use Rattle.m51_lex.specs.Characters.{space, tab, quote, semicolon, is_name_byte, is_sign}
 use Rattle.m51_lex.specs.Number.{number_of}
 
@@ -17,7 +19,7 @@ text_len (c ∷ d ∷ more) =
     else option_map (λ n. 1 + n) (text_len (d ∷ more))
 
 abbrev pub number_or_fault : ℕ → Option ℕ → Lexeme
-number_or_fault len None = Fault 3
+number_or_fault len None = Fault BAD_NUMBER
 number_or_fault len (Some n) = Token (Number n) len
 
 -- a number: the longest run of letters and digits
@@ -26,10 +28,10 @@ number_lexeme rest = let len = prefix_len is_ascii_alphanumeric rest in number_o
 
 -- a name: the longest run of bytes of a name, which are at most 31
 abbrev pub name_lexeme : List ℕ → Lexeme
-name_lexeme rest = let len = prefix_len is_name_byte rest in if nat_lt 31 len then Fault 4 else Token Name len
+name_lexeme rest = let len = prefix_len is_name_byte rest in if nat_lt 31 len then Fault LONG_NAME else Token Name len
 
 abbrev pub text_or_fault : Option ℕ → Lexeme
-text_or_fault None = Fault 2
+text_or_fault None = Fault UNCLOSED_TEXT
 text_or_fault (Some n) = Token Text (1 + n)
 
 -- a text: a quote, and what follows it up to the quote that closes it
@@ -46,7 +48,7 @@ lexeme_of rest =
     else if is_name_byte first then name_lexeme rest
     else if first == quote then text_lexeme rest
     else if is_sign first then Token (Sign first) 1
-    else Fault 1
+    else Fault BAD_CHARACTER
 
 -- a token has at least one byte, and no more than there are
 abbrev pub Fits : Lexeme → ℕ → Type 0

@@ -2,3 +2,4 @@ pub mod Characters
 pub mod Number
 pub mod Lexeme
 pub mod Tokens
+pub mod Answer

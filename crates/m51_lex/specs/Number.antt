@@ -1,5 +1,6 @@
 -- The number that a run of letters and digits writes (the assembler's rules of numbers).
-use Rattle.std.specs.Prelude.{ℕ, ◌+◌, ◌-◌, ◌*◌, nat_lt, nat_le, if◌then◌else◌, List, [], ◌∷◌, length, take, Option, Some, None, slice_index, codes}
+use Rattle.std.specs.Prelude.{ℕ, ◌+◌, ◌-◌, ◌*◌, nat_lt, nat_le, if◌then◌else◌, List, [], ◌∷◌, length, take, Option}
+use Rattle.std.specs.Prelude.{Some, None, slice_index, codes}
 use Rattle.std.specs.Char.{digit_value}
 use Rattle.m51_lex.specs.Characters.{is_among}
 
@@ -19,10 +20,11 @@ base_of last =
 abbrev pub digits_of : List ℕ → List ℕ
 digits_of run = if is_among (last_of run) (codes "HhBbDdOoQq") then take (length run - 1) run else run
 
--- the value of digits in a base behind a value, or none where one is no digit of the base
+-- the value of digits in a base after a value, or none where one is no digit of the base
 abbrev pub value_in : ℕ → ℕ → List ℕ → Option ℕ
 value_in base value [] = Some value
-value_in base value (c ∷ cs) = if nat_lt (digit_value c) base then value_in base (value * base + digit_value c) cs else None
+value_in base value (c ∷ cs) =
+    if nat_lt (digit_value c) base then value_in base (value * base + digit_value c) cs else None
 
 -- a value of 16 bits
 abbrev pub of_16_bits : Option ℕ → Option ℕ

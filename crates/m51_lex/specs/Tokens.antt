@@ -1,10 +1,10 @@
 -- The tokens of a line, and its faults (the assembler's rules of lines).
-use Rattle.std.specs.Prelude.{ℕ, zero, suc, ◌+◌, ◌-◌, ◌≤◌, ◌<◌, nat_lt, if◌then◌else◌, List, [], ◌∷◌, ◌++◌, length, Option, Some, None, Result, Ok, Err}
+use Rattle.std.specs.Prelude.{ℕ, zero, suc, ◌+◌, ◌-◌, ◌≤◌, ◌<◌, nat_lt, if◌then◌else◌, List, [], ◌∷◌, ◌++◌, length}
+use Rattle.std.specs.Prelude.{Result, Ok, Err}
 use Rattle.m51_lex.specs.declared.lexeme.Lexeme.{Lexeme}
 use Rattle.m51_lex.specs.declared.lexeme.Lexeme.TheVariants as lexeme
 use Rattle.m51_lex.specs.declared.token.Token.{Token}
-use Rattle.m51_lex.specs.declared.token.LexError.{LexError}
-use Rattle.m51_lex.specs.declared.token.LexError.TheVariants.{Fault, Memory}
+use Rattle.m51_lex.specs.declared.fault.TheConstants.{LONG_LINE}
 use Rattle.m51_lex.specs.Lexeme.{lexeme_of}
 
 -- tokens, or the number of a fault
@@ -16,11 +16,12 @@ abbrev pub put_front : List Token → Cut → Cut
 put_front front (Ok ts) = Ok (front ++ ts)
 put_front front (Err k) = Err k
 
--- what a lexeme at this place gives; `rest` goes on behind so many more bytes
+-- what a lexeme at this place gives; `rest` goes on after so many more bytes
 abbrev pub after_lexeme : ℕ → Lexeme → (ℕ → Cut) → Cut
 after_lexeme at lexeme.Blank rest = rest 0
 after_lexeme at lexeme.Comment rest = Ok []
-after_lexeme at (lexeme.Token what len) rest = put_front (record { what = what; from = at; to = at + len } ∷ []) (rest (len - 1))
+after_lexeme at (lexeme.Token what len) rest =
+    put_front (record { what = what; from = at; to = at + len } ∷ []) (rest (len - 1))
 after_lexeme at (lexeme.Fault k) rest = Err k
 
 -- The tokens of the rest of a line, which begins at this place, or the first fault in it. The first bytes of the rest
@@ -30,14 +31,9 @@ tokens_at passed at [] = Ok []
 tokens_at (suc passed) at (b ∷ rest) = tokens_at passed (at + 1) rest
 tokens_at zero at (b ∷ rest) = after_lexeme at (lexeme_of (b ∷ rest)) (λ passed. tokens_at passed (at + 1) rest)
 
--- the tokens of a line, or the number of its fault: 5 where it is too long, and else the first from the left
+-- the tokens of a line, or the number of its fault: that of a long line, or else the leftmost one
 abbrev pub tokens_of : List ℕ → Cut
-tokens_of line = if nat_lt 255 (length line) then Err 5 else tokens_at 0 0 line
-
--- the number of a fault; want of memory has none
-abbrev pub fault_of : LexError → Option ℕ
-fault_of (Fault k) = Some k
-fault_of Memory = None
+tokens_of line = if nat_lt 255 (length line) then Err LONG_LINE else tokens_at 0 0 line
 
 -- Tokens are slices in order, none of them empty, from one place of the line up to another.
 abbrev pub AreSlices : ℕ → ℕ → List Token → Type 0

@@ -5,6 +5,7 @@ ghost use Rattle.std.specs.List.{prefix_len};
 ghost use Rattle.m51_lex.specs.Characters.{is_name_byte, is_sign};
 ghost use Rattle.m51_lex.specs.Lexeme.{text_len, number_lexeme, name_lexeme, text_lexeme, lexeme_of, Fits};
 
+use crate::fault::{BAD_CHARACTER, BAD_NUMBER, LONG_NAME, UNCLOSED_TEXT};
 use crate::number::number_of;
 use crate::token::What;
 
@@ -71,7 +72,7 @@ fn number_lexeme(rest: &[u8]) -> Lexeme
     let len = number_len(rest);
     match number_of(&rest[..len]) {
         Some(value) => Lexeme::Token(What::Number(value), len),
-        None => Lexeme::Fault(3),
+        None => Lexeme::Fault(BAD_NUMBER),
     }
 }
 
@@ -82,7 +83,7 @@ fn name_lexeme(rest: &[u8]) -> Lexeme
 {
     let len = name_len(rest);
     if len > 31 {
-        return Lexeme::Fault(4);
+        return Lexeme::Fault(LONG_NAME);
     }
     Lexeme::Token(What::Name, len)
 }
@@ -94,7 +95,7 @@ fn text_lexeme(rest: &[u8]) -> Lexeme
 {
     match text_len(&rest[1..]) {
         Some(len) => Lexeme::Token(What::Text, 1 + len),
-        None => Lexeme::Fault(2),
+        None => Lexeme::Fault(UNCLOSED_TEXT),
     }
 }
 
@@ -119,6 +120,6 @@ pub(crate) fn lexeme_of(rest: &[u8]) -> Lexeme
     } else if is_sign(byte) {
         Lexeme::Token(What::Sign(byte), 1)
     } else {
-        Lexeme::Fault(1)
+        Lexeme::Fault(BAD_CHARACTER)
     }
 }

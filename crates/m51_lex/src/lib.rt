@@ -2,6 +2,7 @@
 #![tactic(auto)]
 
 mod cutting;
+mod fault;
 mod lexeme;
 mod number;
 #[cfg(test)]
@@ -9,4 +10,5 @@ mod tests;
 mod token;
 
 pub use cutting::tokens;
+pub use fault::{BAD_CHARACTER, BAD_NUMBER, LONG_LINE, LONG_NAME, UNCLOSED_TEXT};
 pub use token::{LexError, Token, What};

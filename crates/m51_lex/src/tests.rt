@@ -3,7 +3,7 @@ use crate::{LexError, Token, What, tokens};
 use std::alloc::Global;
 use std::test::Fail;
 
-// The number that a line writes alone, or its fault.
+// The number that is all that a line writes, or its fault.
 fn number_or_fault(alloc: Global, line: &str) -> Result<u16, LexError> {
     let found = tokens(alloc, line)?;
     match found.as_slice() {

@@ -18,7 +18,7 @@ pub enum What {
     Sign(u8),
 }
 
-/// The bytes of a line from `from` up to, and without, `to`, which are a token. Both are at most 255.
+/// A token: the bytes of a line from `from` up to, and without, `to`, counted from 0. Both are at most 255.
 ///
 /// Source: own choice ("Tokens are slices").
 #[derive(Clone, Copy, Debug, PartialEq, Eq)]
@@ -33,10 +33,9 @@ pub struct Token {
 /// Source: own choice ("Faults of a line").
 #[derive(Clone, Copy, Debug, PartialEq, Eq)]
 pub enum LexError {
-    /// The fault E`number`: 1 for a character that begins no token, 2 for a text that is not closed, 3 for a number
-    /// over 16 bits or with a wrong digit, 4 for a name over 31 characters, 5 for a line over 255.
+    /// The fault E`number`: `BAD_CHARACTER`, `UNCLOSED_TEXT`, `BAD_NUMBER`, `LONG_NAME` or `LONG_LINE`.
     Fault { number: u8 },
-    /// Want of memory.
+    /// Out of memory.
     Memory,
 }
 

@@ -13,7 +13,8 @@ use Rattle.m51_module.specs.declared.library_error.LibError.{LibError}
 use Rattle.m51_module.specs.declared.library_error.LibError.TheVariants.{B1, B2, B3, Full, Object, Memory}
 use Rattle.m51_module.specs.declared.parts.ModuleParts.{ModuleParts}
 use Rattle.m51_module.specs.declared.symbol.Public.{Public}
-use Rattle.m51_module.specs.Library.{IsLibrary, ShareNoPublic, is_named, holds, has_public, defines, and_then, unless, clash, add_refusal, added_each}
+use Rattle.m51_cells.specs.Outcome.{and_then}
+use Rattle.m51_module.specs.Library.{IsLibrary, ShareNoPublic, is_named, holds, has_public, defines, unless, clash, add_refusal, added_each}
 
 -- nothing passes where each element fails
 found_none : {X : Type 0} (p : X → Bool) (xs : List X) → ((k : ℕ) (d : X) → k < length xs → p (get_or xs k d) ≡ false) → find p xs ≡ None
@@ -27,9 +28,6 @@ any_none p [] h = refl
 any_none p (x ∷ xs) h =
     let head : p x ≡ false = h 0 x (omega arith) in
     rw head (any_none p xs (λ k d lt. h (suc k) d (omega (arith, lt))))
-
-equal_bytes : (one two : List ℕ) → bytes_eq one two ≡ true → one ≡ two
-equal_bytes one two h = (bytes_eq-Decides one two).0 h
 
 -- what is said of a module that stands after those before it
 module _ (before after : List ModuleParts) (m : ModuleParts) (h : IsLibrary (before ++ m ∷ after)) where
@@ -48,7 +46,7 @@ module _ (before after : List ModuleParts) (m : ModuleParts) (h : IsLibrary (bef
       subst P (get_or_append_left before (m ∷ after) d k lt) (subst Q (get_or-append_seam before m after d) (h.publics k (length before) d lt inside))
 
   no_name : holds before m.name ≡ false
-  no_name = any_none (is_named m.name) before (λ k d lt. false_from_ne_true _ (λ met. differs k d lt (equal_bytes _ _ met)))
+  no_name = any_none (is_named m.name) before (λ k d lt. false_from_ne_true _ (λ met. differs k d lt ((bytes_eq-Decides _ _).0 met)))
 
   no_clash : clash before m ≡ None
   no_clash =
@@ -58,7 +56,7 @@ module _ (before after : List ModuleParts) (m : ModuleParts) (h : IsLibrary (bef
       any_none (λ (q : Public). bytes_eq q.name (get_or m.publics j d).name) (get_or before k e).publics (λ i f it.
       false_from_ne_true _ (λ met.
       shares k e kt (get_or (get_or before k e).publics i f) (get_or m.publics j d)
-      (Contains-get_or (get_or before k e).publics i f it) (Contains-get_or m.publics j d lt) (equal_bytes _ _ met))))))
+      (Contains-get_or (get_or before k e).publics i f it) (Contains-get_or m.publics j d lt) ((bytes_eq-Decides _ _).0 met))))))
 
   room : nat_le 255 (length before) ≡ false
   room =

@@ -7,7 +7,8 @@ use Rattle.m51_module.specs.declared.library_error.LibError.TheVariants.{Object,
 use Rattle.m51_module.specs.declared.object_error.ObjError.{ObjError}
 use Rattle.m51_module.specs.declared.object_error.ObjError.TheVariants.{Memory as NoRoom}
 use Rattle.m51_module.specs.declared.parts.ModuleParts.{ModuleParts}
-use Rattle.m51_module.specs.Library.{IsLibrary, refusal_of, and_then, built}
+use Rattle.m51_cells.specs.Outcome.{and_then}
+use Rattle.m51_module.specs.Library.{IsLibrary, refusal_of, built}
 use Rattle.m51_module.specs.Validity.{IsValid}
 use Rattle.m51_records.specs.Fields.{refusal_of as byte_refusal_of}
 use Rattle.m51_library.specs.Spelling.{library_bytes}

@@ -5,7 +5,8 @@ use Rattle.m51_module.specs.declared.library_error.LibError.TheVariants.{Object,
 use Rattle.m51_module.specs.declared.object_error.ObjError.{ObjError}
 use Rattle.m51_module.specs.declared.object_error.ObjError.TheVariants.{O3, Memory as NoRoom}
 use Rattle.m51_module.specs.declared.parts.ModuleParts.{ModuleParts}
-use Rattle.m51_module.specs.Library.{and_then, built}
+use Rattle.m51_cells.specs.Outcome.{and_then}
+use Rattle.m51_module.specs.Library.{built}
 use Rattle.m51_records.specs.Fields.{◌>>=◌, place, pair_at, checked, ended}
 use Rattle.m51_records.specs.Reading.{one_at, module_at}
 use Rattle.m51_records.specs.Spelling.{records_in}
@@ -17,8 +18,8 @@ count_in end contents = do
   few ← checked (nat_le count.0 255) end contents count.0
   ended end count.1 few
 
--- So many modules, one after another, and the bytes after them. They end with the file, at its total length, and the next
--- record has that number.
+-- So many modules, one after another, and the bytes after them. They end with the file, at its total length, and the
+-- next record has that number.
 unfoldable pub modules_at : ℕ → ℕ → ℕ → List ℕ → Result (List ModuleParts × List ℕ) ObjError
 modules_at zero total number bytes = Ok ([], bytes)
 modules_at (suc more) total number bytes = do

@@ -7,18 +7,18 @@ ghost use Rattle.m51_records.specs.Reading.{one_at};
 ghost use Rattle.m51_library.specs.Spelling.{library_bytes};
 ghost use Rattle.m51_library.specs.Reading.{count_in, modules_at, at_end, modules_of};
 
-use m51_cells::NoMemory;
-use m51_module::{MOST_MODULES, Module, ObjError};
+use m51_cells::{MOST_MODULES, NoMemory};
+use m51_module::{Module, ObjError};
 use m51_records::{broken, checksum_place, module_at, pair_at, place, record_at};
 use std::alloc::Global;
 
 /// The type of the first record.
 ///
-/// Source: own choice ("Library files").
-pub const COUNT: u8 = 0x2C;
+/// Source: OMF-51.
+pub(crate) const COUNT: u8 = 0x2C;
 
-// The number of modules, from the contents of the first record: they end at that place. O4 where it is over 255, or where
-// the contents end before it or go on after it.
+// The number of modules, from the contents of the first record: they end at that place. O4 where it is over 255, or
+// where the contents end before it or go on after it.
 #[tactic(auto, unfolding(crate::specs::Reading::count_in))]
 fn read_count(end: u32, contents: &[u8]) -> Result<u16, ObjError>
     ensures { Reads (λ count. count) result (count_in end contents.now) }
@@ -52,8 +52,8 @@ fn push(modules: &mut Vec<Module>, member: Module) -> Result<(), NoMemory>
     Ok(())
 }
 
-// So many modules, one after another, and the bytes after them. They end with the file, at its total length, and the next
-// record has that number.
+// So many modules, one after another, and the bytes after them. They end with the file, at its total length, and the
+// next record has that number.
 fn modules_at(
     alloc: Global,
     count: u16,
@@ -93,12 +93,13 @@ fn at_end(total: u32, rest: &[u8], modules: Vec<Module>) -> Result<Vec<Module>, 
 
 /// The modules of a file: the first record gives their number, and nothing follows them.
 ///
-/// Errors: those of the bytes, in their order: O1, O2 and O3 of the first record, O4 where its number is over 255, cut off
-/// or followed by a byte of its contents; those of each module; O3 at the first byte after the last one. Want of memory.
+/// Errors: those of the bytes, in their order: O1, O2 and O3 of the first record, O4 where its number is over 255, cut
+/// off or followed by a byte of its contents; those of each module; O3 at the first byte after the last one. Want of
+/// memory.
 ///
 /// Source: own choice ("Library files").
 #[tactic(auto, unfolding(crate::specs::Reading::modules_of))]
-pub fn modules_of(alloc: Global, bytes: &[u8]) -> Result<Vec<Module>, ObjError>
+pub(crate) fn modules_of(alloc: Global, bytes: &[u8]) -> Result<Vec<Module>, ObjError>
     requires { length bytes.now < 2 ^ 32 }
     // The modules, or the first refusal.
     ensures value { Reads (λ modules. modules.items) result (modules_of bytes.now) }

@@ -37,8 +37,8 @@ fn library_of(alloc: Global, bytes: &[u8]) -> Result<Library, LibError>
 /// The library whose bytes these are.
 ///
 /// Errors: `Object` with the first refusal of the bytes, where places count from the first byte and record numbers from
-/// the first record, which is 0; then, for each module in order, `B1` where one before it has its name, else `B3` with its
-/// first public that one before it has; want of memory, which `Object` never holds.
+/// the first record, which is 0; then, for each module in order, `B1` where one before it has its name, else `B3` with
+/// its first public that one before it has; want of memory, which `Object` never holds.
 ///
 /// Source: own choice ("Library files").
 pub fn read_library(alloc: Global, bytes: &[u8]) -> Result<Library, LibError>
@@ -48,8 +48,8 @@ pub fn read_library(alloc: Global, bytes: &[u8]) -> Result<Library, LibError>
     // What is read is spelled so.
     ensures found { IfOk result (λ library. bytes.now ≡ library_bytes library) }
     // What is spelled so is read.
-    ensures only { (modules : List ModuleParts) → IsLibrary modules → All IsValid modules → bytes.now ≡ library_bytes modules
-        → Gives (λ library. library) refusal_of result (Ok modules) }
+    ensures only { (modules : List ModuleParts) → IsLibrary modules → All IsValid modules
+        → bytes.now ≡ library_bytes modules → Gives (λ library. library) refusal_of result (Ok modules) }
     // `Object` never holds want of memory.
     ensures memory { IfErr result (λ error. error ≢ LibError.Object ObjError.Memory) }
 {

@@ -38,6 +38,15 @@ const BOTH: [u8; 54] = [
     0x04, 0x00, 0x01, 0x41, 0x01, 0xB5,
 ];
 
+// The library of the modules A in version 1 and B in version 2, which both have the segment ?AG?F; it is marked in B.
+const VERSIONS: [u8; 68] = [
+    0x2C, 0x03, 0x00, 0x02, 0x00, 0xCF, 0x02, 0x04, 0x00, 0x01, 0x41, 0x01, 0xB7, 0x0E, 0x0E, 0x00,
+    0x02, 0x01, 0x01, 0x00, 0x00, 0x01, 0x00, 0x05, 0x3F, 0x41, 0x47, 0x3F, 0x46, 0x8E, 0x04, 0x04,
+    0x00, 0x01, 0x41, 0x01, 0xB5, 0x02, 0x04, 0x00, 0x01, 0x42, 0x02, 0xB5, 0x0E, 0x0E, 0x00, 0x02,
+    0x01, 0x03, 0x00, 0x00, 0x01, 0x00, 0x05, 0x3F, 0x41, 0x47, 0x3F, 0x46, 0x8C, 0x04, 0x04, 0x00,
+    0x01, 0x42, 0x01, 0xB4,
+];
+
 // Bytes that fail one test each, and the refusal.
 const BROKEN: [(&[u8], ObjError); 15] = [
     // No byte.
@@ -165,6 +174,17 @@ fn a_library_is_read_and_written_byte_for_byte(rt: HostRuntime) -> Result<(), Fa
     assert_eq!(rt; first.pieces().len(), 1);
     let bytes = write_library(rt.alloc(), &library)?;
     assert_eq!(rt; bytes.as_slice(), LIBRARY.as_slice());
+    Ok(())
+}
+
+#[test]
+fn a_library_holds_modules_of_both_versions(rt: HostRuntime) -> Result<(), Fail> {
+    let library = read_library(rt.alloc(), &VERSIONS)?;
+    assert_eq!(rt; library.list().len(), 2);
+    assert_eq!(rt; library.list()[0].version(), 1);
+    assert_eq!(rt; library.list()[1].version(), 2);
+    let bytes = write_library(rt.alloc(), &library)?;
+    assert_eq!(rt; bytes.as_slice(), VERSIONS.as_slice());
     Ok(())
 }
 

@@ -9,7 +9,8 @@ use Rattle.m51_cells.specs.declared.kind.Reloc.TheVariants.{Abs}
 use Rattle.m51_module.specs.declared.content.Piece.{Piece}
 use Rattle.m51_module.specs.declared.parts.ModuleParts.{ModuleParts}
 use Rattle.m51_module.specs.declared.segment.Segment.{Segment}
-use Rattle.m51_module.specs.Validity.{numbered, largest, IsSegmentValid, IsPieceValid, LiesBefore, IsValid}
+use Rattle.m51_cells.specs.Kinds.{largest}
+use Rattle.m51_module.specs.Validity.{numbered, IsSegmentValid, IsPieceValid, LiesBefore, IsValid}
 use Rattle.m51_module.specs.Validity.LiesBefore.{EarlierSegment, Apart, Touching}
 use Rattle.m51_linker.specs.Filling.{AreInOrder}
 use Rattle.m51_linker.specs.Shape.{is_absolute_type, is_absolute, IsFirstShape}

@@ -17,7 +17,8 @@ use Rattle.m51_module.specs.declared.segment.Segment.{Segment}
 use Rattle.m51_module.specs.Cells.{extent_at}
 use Rattle.m51_module.specs.Plan.{IsSegment, IsCodeSegment}
 use Rattle.m51_module.specs.Sound.{IsInside, IsFit, IsSound}
-use Rattle.m51_module.specs.Validity.{largest, IsSegmentValid, IsValid}
+use Rattle.m51_cells.specs.Kinds.{largest}
+use Rattle.m51_module.specs.Validity.{IsSegmentValid, IsValid}
 use Rattle.m51_linker.specs.Bases.{IsApart}
 use Rattle.m51_linker.specs.Link.{IsPlacedAs}
 use Rattle.m51_linker.specs.Placement.{bank_0, absolute_at, plain_at, absolutes_of, fixed_of, relocatable_of, IsNext, ArePlaced}

@@ -98,13 +98,13 @@ fn linked(alloc: Global, module: &Module, placed: PlacedList) -> Result<Linked, 
 }
 
 /// Links a module of the first shape: one absolute segment of program memory, at 0000H, and DATA segments of type UNIT
-/// without locals; BYTE fixups with segments as targets; no external, and no bank but bank 0. Each DATA segment takes the
-/// least base at which it fits and shares no cell with bank 0 or an earlier one, in the module's order; the image holds
-/// the content, with the low bytes of the targets' addresses in the fields, and FFH elsewhere.
+/// without locals; BYTE fixups with segments as targets; no external, and no bank but bank 0. Each DATA segment takes
+/// the least base at which it fits and shares no cell with bank 0 or an earlier one, in the module's order; the image
+/// holds the content, with the low bytes of the targets' addresses in the fields, and FFH elsewhere.
 ///
-/// L0 where the module is not of the first shape; else L12 with the name of the first segment for which there is no base;
-/// else L13 with the title `@0000` and the offset of the first fixup whose target's address is neither at most 00FFH nor
-/// at least FF00H. Memory where it is wanted.
+/// L0 where the module is not of the first shape; else L12 with the name of the first segment for which there is no
+/// base; else L13 with the title `@0000` and the offset of the first fixup whose target's address is neither at most
+/// 00FFH nor at least FF00H. Memory where it is wanted.
 ///
 /// Source: RL51 guide.
 pub fn link_plain(alloc: Global, module: &Module) -> Result<Linked, Refusal>

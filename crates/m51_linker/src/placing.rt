@@ -1,6 +1,7 @@
 //! Where the segments of a module stand.
 ghost use Rattle.std.specs.Prelude.{◌≡◌, [], ◌∷◌, ◌++◌, All, IfOk, OnOk, codes, map};
-ghost use Rattle.m51_linker.specs.Placement.{bank_0, absolute_at, plain_at, absolutes_of, fixed_of, relocatable_of, PlacesNext, Places};
+ghost use Rattle.m51_linker.specs.Placement.{bank_0, absolute_at, plain_at, absolutes_of, fixed_of, relocatable_of};
+ghost use Rattle.m51_linker.specs.Placement.{PlacesNext, Places};
 ghost use Rattle.m51_linker.specs.Ready.{PlacesModule};
 ghost use Rattle.m51_linker.specs.Shape.{IsData, IsTakenSegment, IsFirstShape};
 

@@ -1,7 +1,8 @@
 //! The shape of the modules that the first linker takes.
 ghost use Rattle.std.specs.Prelude.{◌≡◌, ◌↔◌, IsTrue, All, length};
 ghost use Rattle.std.specs.List.{filter};
-ghost use Rattle.m51_linker.specs.Shape.{is_absolute, IsStart, IsData, IsTakenSegment, IsSegmentBase, AreTakenSegments, IsTakenFixup, IsAlone, IsFirstShape};
+ghost use Rattle.m51_linker.specs.Shape.{is_absolute, IsStart, IsData, IsTakenSegment, IsSegmentBase, AreTakenSegments};
+ghost use Rattle.m51_linker.specs.Shape.{IsTakenFixup, IsAlone, IsFirstShape};
 
 use m51_cells::{Base, Kind, Reloc};
 use m51_module::{Fixup, Form, Module, Segment};

@@ -3,7 +3,8 @@ ghost use Rattle.std.specs.Prelude.{◌≡◌, ◌≢◌, ℕ, ◌↔◌, All, I
 ghost use Rattle.m51_module.specs.declared.placed.Placed.{Placed};
 ghost use Rattle.m51_module.specs.declared.segment.Segment.{Segment};
 ghost use Rattle.m51_module.specs.Validity.{numbered};
-ghost use Rattle.m51_linker.specs.Targets.{IsNamedSo, IsPlaceOf, HasBase, IsTargetOf, IsByteAddress, HasTarget, MeetsRule, IsFirstBreaking};
+ghost use Rattle.m51_linker.specs.Targets.{IsNamedSo, IsPlaceOf, HasBase, IsTargetOf, IsByteAddress, HasTarget};
+ghost use Rattle.m51_linker.specs.Targets.{MeetsRule, IsFirstBreaking};
 
 use m51_cells::{Base, Reloc};
 use m51_module::{Fixup, Mark, Placed, Segment};

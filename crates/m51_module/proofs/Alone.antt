@@ -88,6 +88,23 @@ set_alone p (x ∷ xs) (suc i) y h =
       others = λ k d lt ne. h.others (suc k) d (omega (arith, lt)) (omega (arith, ne));
     })))
 
+-- what a function makes of it in its place
+pub changed_alone : {X : Type 0} (p : X → Bool) (f : X → X) (xs : List X) (i : ℕ) (d : X) → PassesAlone p xs i
+    → slice_set xs i (f (get_or xs i d)) ≡ map (λ x. cond (p x) (f x) x) xs
+changed_alone p f [] i d h = absurd (omega (arith, h.within))
+changed_alone p f (x ∷ xs) zero d h =
+    let head : p x ≡ true = h.here x in
+    let rest : map (λ z. cond (p z) (f z) z) xs ≡ xs =
+    map_fixed (λ z. cond (p z) (f z) z) xs (λ k d lt. let e : p (get_or xs k d) ≡ false = h.others (suc k) d (omega (arith, lt)) (omega arith) in rw e refl) in
+    rw head (ap (λ ys. f x ∷ ys) (sym rest))
+changed_alone p f (x ∷ xs) (suc i) d h =
+    let head : p x ≡ false = h.others 0 x (omega arith) (omega arith) in
+    rw head (ap (λ ys. x ∷ ys) (changed_alone p f xs i d (record {
+      within = omega (arith, h.within);
+      here = h.here;
+      others = λ k d lt ne. h.others (suc k) d (omega (arith, lt)) (omega (arith, ne));
+    })))
+
 -- two numbers are equal or not
 pub equal_or : (k i : ℕ) {P : Type 0} → (k ≡ i → P) → (k ≢ i → P) → P
 equal_or k i {P} same other =

@@ -1,12 +1,14 @@
 -- What the edits answer where the module of a name stands at a place, and where there is none.
-use Rattle.std.proofs.Common.{◌≡◌, ℕ, List, get_or, Option, Some, None, ap, sym, ◌∙◌}
+use Rattle.std.proofs.Common.{◌≡◌, ℕ, cond, List, map, get_or, Option, Some, None, ap, sym, ◌∙◌}
 use Rattle.std.specs.Prelude.{position, remove, slice_set, Result, Ok, Err}
 use Rattle.std.specs.Option.{ok_or}
+use Rattle.m51_module.specs.Arguments.{raised}
 use Rattle.m51_module.specs.declared.library_error.LibError.{LibError}
 use Rattle.m51_module.specs.declared.library_error.LibError.TheVariants.{B2}
 use Rattle.m51_module.specs.declared.parts.ModuleParts.{ModuleParts}
-use Rattle.m51_module.specs.Library.{is_named, others_than, with_replaced, and_then, unless, clash, extracted, deleted, replaced}
-use Rattle.m51_module.proofs.Alone.{PassesAlone, found_alone, found_nowhere, removed_alone, set_alone}
+use Rattle.m51_cells.specs.Outcome.{and_then}
+use Rattle.m51_module.specs.Library.{is_named, others_than, with_replaced, unless, clash, extracted, deleted, replaced, raised_in}
+use Rattle.m51_module.proofs.Alone.{PassesAlone, changed_alone, found_alone, found_nowhere, removed_alone, set_alone}
 
 pub extract_there : (ms : List ModuleParts) (name : List ℕ) (i : ℕ) (m : ModuleParts) → PassesAlone (is_named name) ms i → m ≡ get_or ms i m → extracted ms name ≡ Ok m
 extract_there ms name i m alone e =
@@ -40,3 +42,14 @@ pub put_there : (ms : List ModuleParts) (new : ModuleParts) (i : ℕ) → Passes
 put_there ms new i alone =
     ap (λ (others : List ModuleParts). unless (clash others new) (with_replaced new ms)) (sym (removed_alone (is_named new.name) ms i alone))
     ∙ ap (λ (now : List ModuleParts). unless (clash (remove ms i) new) now) (sym (set_alone (is_named new.name) ms i new alone))
+
+pub raise_there : (ms : List ModuleParts) (name : List ℕ) (i : ℕ) (d : ModuleParts) → PassesAlone (is_named name) ms i
+    → raised_in ms name ≡ Ok (slice_set ms i (raised (get_or ms i d)))
+raise_there ms name i d alone =
+    ap (λ (o : Option ModuleParts). and_then (ok_or o (B2 name)) (λ _. Ok (map (λ m. cond (is_named name m) (raised m) m) ms)))
+    (found_alone (is_named name) ms i d alone)
+    ∙ ap (λ (now : List ModuleParts). Ok now) (sym (changed_alone (is_named name) raised ms i d alone))
+
+pub raise_nowhere : (ms : List ModuleParts) (name : List ℕ) → position (is_named name) ms ≡ None → raised_in ms name ≡ Err (B2 name)
+raise_nowhere ms name none =
+    ap (λ (r : Result ModuleParts LibError). and_then r (λ _. Ok (map (λ m. cond (is_named name m) (raised m) m) ms))) (extract_nowhere ms name none)

@@ -5,7 +5,8 @@ use Rattle.std.proofs.lemmas.List.{take_more, take_all, drop_all, drop_more}
 use Rattle.m51_module.specs.declared.edit.Edit.{Edit}
 use Rattle.m51_module.specs.declared.library_error.LibError.{LibError}
 use Rattle.m51_module.specs.declared.parts.ModuleParts.{ModuleParts}
-use Rattle.m51_module.specs.Library.{IsLibrary, and_then, unless, add_refusal, added_each}
+use Rattle.m51_cells.specs.Outcome.{and_then}
+use Rattle.m51_module.specs.Library.{IsLibrary, unless, add_refusal, added_each}
 use Rattle.m51_module.specs.Edits.{after_edit, after_edits}
 use Rattle.m51_module.proofs.Held.{add_keeps}
 

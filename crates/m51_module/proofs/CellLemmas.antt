@@ -7,7 +7,8 @@ use Rattle.m51_cells.specs.declared.kind.Kind.TheVariants.{Code, Direct}
 use Rattle.m51_cells.specs.Extent.{Covers, extent, extent_of}
 use Rattle.m51_module.specs.declared.placed.Placed.{Placed}
 use Rattle.m51_module.specs.Cells.{extent_at}
-use Rattle.m51_module.specs.Sound.{IsInside, cells_in}
+use Rattle.m51_cells.specs.Cells.{cells_in}
+use Rattle.m51_module.specs.Sound.{IsInside}
 
 -- an extent of program memory covers the bytes from its base
 pub code_covers : (p : Placed) (c : Cell) → p.kind ≡ Code → Covers (extent_at p) c → Covers (extent CodeSpace p.base p.size) c

@@ -1,15 +1,16 @@
 -- What edits of a library keep.
 use Rattle.std.proofs.Common.{◌≡◌, ◌≢◌, ℕ, ◌+◌, ◌-◌, ◌<◌, nat_le, Bool, true, false, cond, List, [], ◌∷◌, ◌++◌, length, get_or, take, drop, add-one, length-drop, Option, Some, None, refl, ap, sym, subst, ◌∙◌, arith, length-append}
 use Rattle.std.specs.Prelude.{slice_set, position, remove, option_map}
-use Rattle.std.specs.List.{find}
+use Rattle.std.specs.List.{AllPairs, find}
 use Rattle.std.specs.Str.{bytes_eq}
 use Rattle.std.proofs.lemmas.Bool.{false_from_ne_true}
 use Rattle.std.proofs.lemmas.Bool.Decides.{nat_tests}
 use Rattle.std.proofs.lemmas.Slice.Eq.{bytes_eq-Decides}
-use Rattle.std.proofs.lemmas.List.{length-set, take_all}
+use Rattle.std.proofs.lemmas.List.{get_or_default, length-set, take_all}
 use Rattle.std.proofs.lemmas.List.Edits.{length-remove, get_or-remove_below, get_or-remove_above}
 use Rattle.std.proofs.lemmas.List.Folds.{list_any_at}
 use Rattle.std.proofs.lemmas.List.Quantifiers.{all_pairs_push, all_pairs_remove, position-Some}
+use Rattle.m51_module.specs.Arguments.{raised}
 use Rattle.m51_module.specs.declared.library_error.LibError.{LibError}
 use Rattle.m51_module.specs.declared.library_error.LibError.TheVariants.{B1, B3, Full}
 use Rattle.m51_module.specs.declared.parts.ModuleParts.{ModuleParts}
@@ -130,3 +131,20 @@ pub around : (ms : List ModuleParts) (i : ℕ) → take i ms ++ take (length ms 
 around ms i =
     let all : take (length ms - (i + 1)) (drop (i + 1) ms) ≡ drop (i + 1) ms = take_all _ _ (omega (arith, length-drop (i + 1) ms)) in
     rw (all, add-one) refl
+
+-- a module that is raised in its place leaves a library
+pub raise_keeps : (ms : List ModuleParts) (i : ℕ) (d : ModuleParts) → i < length ms → IsLibrary ms → IsLibrary (slice_set ms i (raised (get_or ms i d)))
+raise_keeps ms i d within h = record {
+  few = omega (arith, length-set ms i (raised (get_or ms i d)), h.few);
+  names = pairs_set NamesDiffer ms i (raised (get_or ms i d)) within h.names (with_it NamesDiffer (λ m n differ e. differ (sym e)) (λ m differ. differ) (λ m differ. differ) h.names);
+  publics = pairs_set ShareNoPublic ms i (raised (get_or ms i d)) within h.publics (with_it ShareNoPublic swapped (λ m apart. apart) (λ m apart. apart) h.publics);
+} where
+  with_it : (R : ModuleParts → ModuleParts → Type 0) → ((m n : ModuleParts) → R m n → R n m)
+      → ((m : ModuleParts) → R m (get_or ms i d) → R m (raised (get_or ms i d))) → ((m : ModuleParts) → R (get_or ms i d) m → R (raised (get_or ms i d)) m)
+      → AllPairs R ms
+      → (k : ℕ) (e : ModuleParts) → k < length ms → k ≢ i → R (get_or ms k e) (raised (get_or ms i d)) × R (raised (get_or ms i d)) (get_or ms k e)
+  with_it R back into out all k e lt ne =
+      let same : get_or ms i e ≡ get_or ms i d = get_or_default ms i e d within in
+      one_less k i ne
+      (λ below. let r : R (get_or ms k e) (get_or ms i d) = subst (R (get_or ms k e)) same (all k i e below within) in (into _ r, out _ (back _ _ r)))
+      (λ above. let r : R (get_or ms i d) (get_or ms k e) = subst (λ m. R m (get_or ms k e)) same (all i k e above lt) in (into _ (back _ _ r), out _ r))

@@ -2,10 +2,14 @@ pub mod Alone
 pub mod Answered
 pub mod Building
 pub mod CellLemmas
+pub mod Conflicts
 pub mod Erased
 pub mod Held
+pub mod KeptLayout
 pub mod KeptRows
+pub mod KeptTables
 pub mod Owning
+pub mod Raised
 pub mod Reach
 pub mod SampleLayout
 pub mod SampleModule

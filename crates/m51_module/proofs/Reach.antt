@@ -1,13 +1,15 @@
 -- Walks that go on.
 use Rattle.std.proofs.Common.{◌≡◌, ◌⊎◌, inl, inr, ℕ, List, [], ◌∷◌, ◌++◌, refl, sym, subst}
+use Rattle.m51_module.specs.Program.{ProgramGraph}
 use Rattle.m51_module.specs.Walks.{Edges, HasEdge, IsWalk, last_of, Reaches}
 use Rattle.m51_module.specs.Roots.{LiesUnder}
 
-walk_on : (edges : Edges) (u : ℕ) (vs : List ℕ) (w : ℕ) → IsWalk edges u vs → HasEdge edges (last_of u vs) w → IsWalk edges u (vs ++ w ∷ [])
+-- an edge more at the end of a walk
+pub walk_on : (edges : Edges) (u : ℕ) (vs : List ℕ) (w : ℕ) → IsWalk edges u vs → HasEdge edges (last_of u vs) w → IsWalk edges u (vs ++ w ∷ [])
 walk_on edges u [] w p h = (h, tt)
 walk_on edges u (v ∷ vs) w p h = (p.0, walk_on edges v vs w p.1 h)
 
-last_on : (u : ℕ) (vs : List ℕ) (w : ℕ) → last_of u (vs ++ w ∷ []) ≡ w
+pub last_on : (u : ℕ) (vs : List ℕ) (w : ℕ) → last_of u (vs ++ w ∷ []) ≡ w
 last_on u [] w = refl
 last_on u (v ∷ vs) w = last_on v vs w
 
@@ -34,13 +36,9 @@ lead_on edges u v w (inl s) h = subst (λ x. Reaches edges x w) (sym s) (reach_e
 lead_on edges u v w (inr r) h = reach_on edges u v w r h
 
 -- what lies under a root, and then an edge
-pub under_on : (edges : Edges) (IsRoot : ℕ → ℕ → Type 0) (x u v : ℕ) → LiesUnder edges IsRoot x u → HasEdge edges u v → LiesUnder edges IsRoot x v
-under_on edges IsRoot x u v h e = record { root = h.root; is_root = h.is_root; leads = inr (lead_on edges h.root u v h.leads e) }
+pub under_on : (g : ProgramGraph) (x u v : ℕ) → LiesUnder g x u → HasEdge g.edges u v → LiesUnder g x v
+under_on g x u v h e = record { root = h.root; is_root = h.is_root; leads = inr (lead_on g.edges h.root u v h.leads e) }
 
 -- a root lies under itself
-pub under_root : (edges : Edges) (IsRoot : ℕ → ℕ → Type 0) (x u : ℕ) → IsRoot x u → LiesUnder edges IsRoot x u
-under_root edges IsRoot x u h = record { root = u; is_root = h; leads = inl refl }
-
--- roots of another kind, which are roots of this one
-pub under_roots : (edges : Edges) (Some All : ℕ → ℕ → Type 0) → ((x u : ℕ) → Some x u → All x u) → (x u : ℕ) → LiesUnder edges Some x u → LiesUnder edges All x u
-under_roots edges Some All are x u h = record { root = h.root; is_root = are x h.root h.is_root; leads = h.leads }
+pub under_root : (g : ProgramGraph) (x u : ℕ) → g.IsRoot x u → LiesUnder g x u
+under_root g x u h = record { root = u; is_root = h; leads = inl refl }

@@ -1,4 +1,5 @@
--- A layout of three units, of which the first calls the other two, whose locals share a cell, is sound.
+-- A layout of three units, of which the first calls the other two, whose locals share a cell, is sound; so is its argument
+-- segment, which two units own.
 use Rattle.std.proofs.Common.{◌≡◌, ◌≢◌, ◌⊎◌, inl, inr, ℕ, zero, suc, ◌<◌, Some, List, [], ◌∷◌, refl, sym, ap, subst, ◌∙◌, arith}
 use Rattle.std.specs.Prelude.{slice_get}
 use Rattle.std.specs.List.{Contains}
@@ -14,7 +15,7 @@ use Rattle.m51_module.specs.Cells.{extent_at}
 use Rattle.m51_module.specs.Walks.{HasEdge, IsWalk, last_of, Reaches}
 use Rattle.m51_module.specs.Conflict.{Same, Before, After, FirstUnderNone, SecondUnderNone, UnderTwo, FirstPlain, SecondPlain, Owners}
 use Rattle.m51_module.specs.Plan.{IsPlaced, IsOverlaid, IsCodeSegment, IsSegment, IsRootAt, owners_of, Owns, UnitLiesUnder, UnitsRelated, ExtentsConflict}
-use Rattle.m51_module.specs.Sample.{code, local, calls, sample_layout}
+use Rattle.m51_module.specs.Sample.{code, overlaid, calls, sample_layout}
 use Rattle.m51_module.specs.Sound.{IsSound, IsFit, HasOwners}
 use Rattle.m51_module.proofs.CellLemmas.{code_covers, data_covers}
 use Rattle.m51_module.proofs.Owning.{pair_of_owner, none_in_empty}
@@ -47,41 +48,61 @@ fit_code title reloc mark base low plain = record {
   code = λ _. plain;
 }
 
-fit_local : (title : List ℕ) → IsFit (local title)
-fit_local title = record {
+fit_overlaid : (base : ℕ) → base < 10 → IsFit (overlaid [] base)
+fit_overlaid base low = record {
   kind = λ e. cc;
-  inside = λ c h. omega (arith, h.below);
+  inside = λ c h. omega (arith, h.below, low);
   absolute = λ e. cc;
   code = λ e. cc;
 }
 
--- an extent of the sample: a segment of program memory of one byte at its own number, or a local
+-- an extent of the sample: a segment of program memory of one byte at its own number, a local, or the argument segment
 data Is (s : ℕ) (p : Placed) : Type 0 where
   IsCode : s < 3 → p.kind ≡ Code → IsSegment p.mark → p.mark ≢ Overlaid → p.base ≡ s → p.size ≡ 1 → Is s p
-  IsLocal : (s ≡ 3) ⊎ (s ≡ 4) → p.kind ≡ Direct → p.mark ≡ Overlaid → Is s p
+  IsLocal : (s ≡ 3) ⊎ (s ≡ 4) → p.kind ≡ Direct → p.mark ≡ Overlaid → p.base ≡ 8 → p.size ≡ 1 → Is s p
+  IsArgument : s ≡ 5 → p.kind ≡ Direct → p.mark ≡ Overlaid → p.base ≡ 9 → p.size ≡ 1 → Is s p
 
-module _ (a b c d e : List ℕ) where
+-- an overlaid segment, and a unit that owns it
+data OwnedBy (s u : ℕ) : Type 0 where
+  LocalOfSecond : s ≡ 3 → u ≡ 1 → OwnedBy s u
+  LocalOfThird : s ≡ 4 → u ≡ 2 → OwnedBy s u
+  ArgumentOfSecond : s ≡ 5 → u ≡ 1 → OwnedBy s u
+  ArgumentOfCaller : s ≡ 5 → u ≡ 0 → OwnedBy s u
+
+-- 1 is not in the list of 0
+only_zero : Contains {X = ℕ} (0 ∷ []) 1 → ⊥
+only_zero (zero, below, e) = omega (arith, e)
+only_zero (suc k, below, e) = omega (arith, below)
+
+-- a local is no argument segment
+no_argument : (s : ℕ) → (s ≡ 3) ⊎ (s ≡ 4) → s ≡ 5 → ⊥
+no_argument s (inl three) five = omega (arith, three, five)
+no_argument s (inr four) five = omega (arith, four, five)
+
+module _ (a : List ℕ) where
   abbrev sample : LayoutParts
-  sample = sample_layout a b c d e
+  sample = sample_layout a
 
   some_is : (p q : Placed) → Some p ≡ Some q → p ≡ q
   some_is p q h = cc h
 
   fit : (s : ℕ) (p : Placed) → IsPlaced sample s p → IsFit p
   fit zero p h = subst IsFit (some_is (code a Abs Absolute 0) p h) (fit_code a Abs Absolute 0 (omega arith) (λ h. cc))
-  fit (suc zero) p h = subst IsFit (some_is (code b UnitType Plain 1) p h) (fit_code b UnitType Plain 1 (omega arith) (λ h. cc))
-  fit (suc (suc zero)) p h = subst IsFit (some_is (code c UnitType Plain 2) p h) (fit_code c UnitType Plain 2 (omega arith) (λ h. cc))
-  fit (suc (suc (suc zero))) p h = subst IsFit (some_is (local d) p h) (fit_local d)
-  fit (suc (suc (suc (suc zero)))) p h = subst IsFit (some_is (local e) p h) (fit_local e)
-  fit (suc (suc (suc (suc (suc s))))) p h = absurd (cc h)
+  fit (suc zero) p h = subst IsFit (some_is (code [] UnitType Plain 1) p h) (fit_code [] UnitType Plain 1 (omega arith) (λ h. cc))
+  fit (suc (suc zero)) p h = subst IsFit (some_is (code [] UnitType Plain 2) p h) (fit_code [] UnitType Plain 2 (omega arith) (λ h. cc))
+  fit (suc (suc (suc zero))) p h = subst IsFit (some_is (overlaid [] 8) p h) (fit_overlaid 8 (omega arith))
+  fit (suc (suc (suc (suc zero)))) p h = subst IsFit (some_is (overlaid [] 8) p h) (fit_overlaid 8 (omega arith))
+  fit (suc (suc (suc (suc (suc zero))))) p h = subst IsFit (some_is (overlaid [] 9) p h) (fit_overlaid 9 (omega arith))
+  fit (suc (suc (suc (suc (suc (suc s)))))) p h = absurd (cc h)
 
   which : (s : ℕ) (p : Placed) → IsPlaced sample s p → Is s p
   which zero p h = subst (Is 0) (some_is (code a Abs Absolute 0) p h) (IsCode (omega arith) refl tt (λ h. cc) refl refl)
-  which (suc zero) p h = subst (Is 1) (some_is (code b UnitType Plain 1) p h) (IsCode (omega arith) refl tt (λ h. cc) refl refl)
-  which (suc (suc zero)) p h = subst (Is 2) (some_is (code c UnitType Plain 2) p h) (IsCode (omega arith) refl tt (λ h. cc) refl refl)
-  which (suc (suc (suc zero))) p h = subst (Is 3) (some_is (local d) p h) (IsLocal (inl refl) refl refl)
-  which (suc (suc (suc (suc zero)))) p h = subst (Is 4) (some_is (local e) p h) (IsLocal (inr refl) refl refl)
-  which (suc (suc (suc (suc (suc s))))) p h = absurd (cc h)
+  which (suc zero) p h = subst (Is 1) (some_is (code [] UnitType Plain 1) p h) (IsCode (omega arith) refl tt (λ h. cc) refl refl)
+  which (suc (suc zero)) p h = subst (Is 2) (some_is (code [] UnitType Plain 2) p h) (IsCode (omega arith) refl tt (λ h. cc) refl refl)
+  which (suc (suc (suc zero))) p h = subst (Is 3) (some_is (overlaid [] 8) p h) (IsLocal (inl refl) refl refl refl refl)
+  which (suc (suc (suc (suc zero)))) p h = subst (Is 4) (some_is (overlaid [] 8) p h) (IsLocal (inr refl) refl refl refl refl)
+  which (suc (suc (suc (suc (suc zero))))) p h = subst (Is 5) (some_is (overlaid [] 9) p h) (IsArgument refl refl refl refl refl)
+  which (suc (suc (suc (suc (suc (suc s)))))) p h = absurd (cc h)
 
   -- the units are the three segments of program memory
   unit_is : (u s : ℕ) → slice_get sample.units u ≡ Some s → (u ≡ s) × (s < 3)
@@ -94,14 +115,15 @@ module _ (a b c d e : List ℕ) where
   is_unit zero p h code = (0, omega arith, refl)
   is_unit (suc zero) p h code = (1, omega arith, refl)
   is_unit (suc (suc zero)) p h code = (2, omega arith, refl)
-  is_unit (suc (suc (suc zero))) p h code = let k = ap (λ (q : Placed). q.kind) (some_is (local d) p h) in let c = code.kind in cc (k, c)
-  is_unit (suc (suc (suc (suc zero)))) p h code = let k = ap (λ (q : Placed). q.kind) (some_is (local e) p h) in let c = code.kind in cc (k, c)
-  is_unit (suc (suc (suc (suc (suc s))))) p h code = absurd (cc h)
+  is_unit (suc (suc (suc zero))) p h code = let k = ap (λ (q : Placed). q.kind) (some_is (overlaid [] 8) p h) in let c = code.kind in cc (k, c)
+  is_unit (suc (suc (suc (suc zero)))) p h code = let k = ap (λ (q : Placed). q.kind) (some_is (overlaid [] 8) p h) in let c = code.kind in cc (k, c)
+  is_unit (suc (suc (suc (suc (suc zero))))) p h code = let k = ap (λ (q : Placed). q.kind) (some_is (overlaid [] 9) p h) in let c = code.kind in cc (k, c)
+  is_unit (suc (suc (suc (suc (suc (suc s)))))) p h code = absurd (cc h)
 
   is_code : (u s : ℕ) → slice_get sample.units u ≡ Some s → (p : Placed) × IsPlaced sample s p × IsCodeSegment p
   is_code zero s h = let k : 0 ≡ s = cc h in (code a Abs Absolute 0, subst (λ s. IsPlaced sample s (code a Abs Absolute 0)) k refl, record { kind = refl; segment = tt })
-  is_code (suc zero) s h = let k : 1 ≡ s = cc h in (code b UnitType Plain 1, subst (λ s. IsPlaced sample s (code b UnitType Plain 1)) k refl, record { kind = refl; segment = tt })
-  is_code (suc (suc zero)) s h = let k : 2 ≡ s = cc h in (code c UnitType Plain 2, subst (λ s. IsPlaced sample s (code c UnitType Plain 2)) k refl, record { kind = refl; segment = tt })
+  is_code (suc zero) s h = let k : 1 ≡ s = cc h in (code [] UnitType Plain 1, subst (λ s. IsPlaced sample s (code [] UnitType Plain 1)) k refl, record { kind = refl; segment = tt })
+  is_code (suc (suc zero)) s h = let k : 2 ≡ s = cc h in (code [] UnitType Plain 2, subst (λ s. IsPlaced sample s (code [] UnitType Plain 2)) k refl, record { kind = refl; segment = tt })
   is_code (suc (suc (suc u))) s h = absurd (cc h)
 
   edges : (u v : ℕ) → HasEdge calls u v → (u < 3) × (v < 3)
@@ -112,41 +134,56 @@ module _ (a b c d e : List ℕ) where
   no_cycle u r = let k = reach_of u u r in
       elim k.1 as (λ _. ⊥) [ inl one ↦ omega (arith, k.0, one) | inr two ↦ omega (arith, k.0, two) ]
 
-  -- the locals are of the second and of the third unit
-  owner_is : (u s : ℕ) → Owns sample u s → ((s ≡ 3) × (u ≡ 1)) ⊎ ((s ≡ 4) × (u ≡ 2))
+  -- whose the overlaid segments are
+  owner_is : (u s : ℕ) → Owns sample u s → OwnedBy s u
   owner_is u s h = pair (pair_of_owner sample.owners s u h) where
-    pair : Contains sample.owners (s, u) → ((s ≡ 3) × (u ≡ 1)) ⊎ ((s ≡ 4) × (u ≡ 2))
-    pair (zero, below, e) = inl (sym (ap (λ (p : ℕ × ℕ). p.0) e), sym (ap (λ (p : ℕ × ℕ). p.1) e))
-    pair (suc zero, below, e) = inr (sym (ap (λ (p : ℕ × ℕ). p.0) e), sym (ap (λ (p : ℕ × ℕ). p.1) e))
-    pair (suc (suc k), below, e) = absurd (omega (arith, below))
+    pair : Contains sample.owners (s, u) → OwnedBy s u
+    pair (zero, below, e) = LocalOfSecond (sym (ap (λ (p : ℕ × ℕ). p.0) e)) (sym (ap (λ (p : ℕ × ℕ). p.1) e))
+    pair (suc zero, below, e) = LocalOfThird (sym (ap (λ (p : ℕ × ℕ). p.0) e)) (sym (ap (λ (p : ℕ × ℕ). p.1) e))
+    pair (suc (suc zero), below, e) = ArgumentOfSecond (sym (ap (λ (p : ℕ × ℕ). p.0) e)) (sym (ap (λ (p : ℕ × ℕ). p.1) e))
+    pair (suc (suc (suc zero)), below, e) = ArgumentOfCaller (sym (ap (λ (p : ℕ × ℕ). p.0) e)) (sym (ap (λ (p : ℕ × ℕ). p.1) e))
+    pair (suc (suc (suc (suc k))), below, e) = absurd (omega (arith, below))
 
   owned : (u s : ℕ) → Owns sample u s → (u < 3) × IsOverlaid sample s
   owned u s h = elim (owner_is u s h) as (λ _. (u < 3) × IsOverlaid sample s) [
-    | inl first ↦ (omega (arith, first.1), subst (IsOverlaid sample) (sym first.0) (local d, refl, refl))
-    | inr second ↦ (omega (arith, second.1), subst (IsOverlaid sample) (sym second.0) (local e, refl, refl))
+    | LocalOfSecond s_is u_is ↦ (omega (arith, u_is), subst (IsOverlaid sample) (sym s_is) (overlaid [] 8, refl, refl))
+    | LocalOfThird s_is u_is ↦ (omega (arith, u_is), subst (IsOverlaid sample) (sym s_is) (overlaid [] 8, refl, refl))
+    | ArgumentOfSecond s_is u_is ↦ (omega (arith, u_is), subst (IsOverlaid sample) (sym s_is) (overlaid [] 9, refl, refl))
+    | ArgumentOfCaller s_is u_is ↦ (omega (arith, u_is), subst (IsOverlaid sample) (sym s_is) (overlaid [] 9, refl, refl))
   ]
 
-  -- the list of one owner
+  -- the list of one owner, and that of the argument's two
   one_owner : (u : ℕ) → HasOwners (u ∷ [])
-  one_owner u = record { own = u; others = []; are = refl; rising = λ i j n less below. absurd (omega (arith, below)); different = λ h. none_in_empty u h; none = refl }
+  one_owner u = record { own = u; others = []; are = refl; rising = λ i j n less below. absurd (omega (arith, below)); different = λ h. none_in_empty u h }
+
+  two_owners : HasOwners (1 ∷ 0 ∷ [])
+  two_owners = record {
+    own = 1;
+    others = 0 ∷ [];
+    are = refl;
+    rising = λ i j n less below. absurd (omega (arith, less, below));
+    different = only_zero;
+  }
 
   owners : (s : ℕ) → IsOverlaid sample s → HasOwners (owners_of sample.owners s)
   owners s (p, at, mark) = elim (which s p at) as (λ _. HasOwners (owners_of sample.owners s)) [
     | IsCode low kind segment plain base size ↦ absurd (plain mark)
-    | IsLocal number kind over ↦ elim number as (λ _. HasOwners (owners_of sample.owners s)) [
+    | IsLocal number kind over base size ↦ elim number as (λ _. HasOwners (owners_of sample.owners s)) [
       | inl three ↦ subst (λ n. HasOwners (owners_of sample.owners n)) (sym three) (one_owner 1)
       | inr four ↦ subst (λ n. HasOwners (owners_of sample.owners n)) (sym four) (one_owner 2)
     ]
+    | IsArgument five kind over base size ↦ subst (λ n. HasOwners (owners_of sample.owners n)) (sym five) two_owners
   ]
 
   -- only the first unit is a root, at 0000H
   absolute_is : (s : ℕ) (p : Placed) → IsPlaced sample s p → p.mark ≡ Absolute → p.base ≡ 0
   absolute_is zero p h m = sym (ap (λ (q : Placed). q.base) (some_is (code a Abs Absolute 0) p h))
-  absolute_is (suc zero) p h m = let k = ap (λ (q : Placed). q.mark) (some_is (code b UnitType Plain 1) p h) in cc (k, m)
-  absolute_is (suc (suc zero)) p h m = let k = ap (λ (q : Placed). q.mark) (some_is (code c UnitType Plain 2) p h) in cc (k, m)
-  absolute_is (suc (suc (suc zero))) p h m = let k = ap (λ (q : Placed). q.mark) (some_is (local d) p h) in cc (k, m)
-  absolute_is (suc (suc (suc (suc zero)))) p h m = let k = ap (λ (q : Placed). q.mark) (some_is (local e) p h) in cc (k, m)
-  absolute_is (suc (suc (suc (suc (suc s))))) p h m = absurd (cc h)
+  absolute_is (suc zero) p h m = let k = ap (λ (q : Placed). q.mark) (some_is (code [] UnitType Plain 1) p h) in cc (k, m)
+  absolute_is (suc (suc zero)) p h m = let k = ap (λ (q : Placed). q.mark) (some_is (code [] UnitType Plain 2) p h) in cc (k, m)
+  absolute_is (suc (suc (suc zero))) p h m = let k = ap (λ (q : Placed). q.mark) (some_is (overlaid [] 8) p h) in cc (k, m)
+  absolute_is (suc (suc (suc (suc zero)))) p h m = let k = ap (λ (q : Placed). q.mark) (some_is (overlaid [] 8) p h) in cc (k, m)
+  absolute_is (suc (suc (suc (suc (suc zero))))) p h m = let k = ap (λ (q : Placed). q.mark) (some_is (overlaid [] 9) p h) in cc (k, m)
+  absolute_is (suc (suc (suc (suc (suc (suc s)))))) p h m = absurd (cc h)
 
   under_is : (x u : ℕ) → UnitLiesUnder sample x u → x ≡ 0
   under_is x u h = sym h.is_root.base ∙ absolute_is h.is_root.unit_is.segment h.is_root.is h.is_root.unit_is.placed h.is_root.absolute
@@ -173,17 +210,28 @@ module _ (a b c d e : List ℕ) where
   ]
 
   -- so their locals are not in conflict
-  no_conflict : (s t : ℕ) → IsOverlaid sample s → IsOverlaid sample t → s ≢ t → ExtentsConflict sample s t → ⊥
-  no_conflict s t over_s over_t differ conflict = elim conflict as (λ _. ⊥) [
+  no_conflict : (s t : ℕ) → (s ≡ 3) ⊎ (s ≡ 4) → (t ≡ 3) ⊎ (t ≡ 4) → IsOverlaid sample s → IsOverlaid sample t → s ≢ t → ExtentsConflict sample s t → ⊥
+  no_conflict s t s_in t_in over_s over_t differ conflict = elim conflict as (λ _. ⊥) [
     | FirstPlain plain ↦ plain over_s
     | SecondPlain plain ↦ plain over_t
-    | Owners u v owns_s owns_t related ↦ cases u v (owner_is u s owns_s) (owner_is v t owns_t) related
+    | Owners u v owns_s owns_t related ↦ cases s_in t_in u v (owner_is u s owns_s) (owner_is v t owns_t) related
   ] where
-    cases : (u v : ℕ) → ((s ≡ 3) × (u ≡ 1)) ⊎ ((s ≡ 4) × (u ≡ 2)) → ((t ≡ 3) × (v ≡ 1)) ⊎ ((t ≡ 4) × (v ≡ 2)) → UnitsRelated sample u v → ⊥
-    cases u v (inl x) (inl y) related = differ (x.0 ∙ sym y.0)
-    cases u v (inl x) (inr y) related = let r = subst (λ n. UnitsRelated sample n 2) x.1 (subst (λ n. UnitsRelated sample u n) y.1 related) in unrelated 1 2 (0, omega arith, refl) (1, omega arith, refl) (λ e. omega (arith, e)) (λ e. omega (arith, e)) (λ e. omega (arith, e)) r
-    cases u v (inr x) (inl y) related = let r = subst (λ n. UnitsRelated sample n 1) x.1 (subst (λ n. UnitsRelated sample u n) y.1 related) in unrelated 2 1 (1, omega arith, refl) (0, omega arith, refl) (λ e. omega (arith, e)) (λ e. omega (arith, e)) (λ e. omega (arith, e)) r
-    cases u v (inr x) (inr y) related = differ (x.0 ∙ sym y.0)
+    cases : (s ≡ 3) ⊎ (s ≡ 4) → (t ≡ 3) ⊎ (t ≡ 4) → (u v : ℕ) → OwnedBy s u → OwnedBy t v → UnitsRelated sample u v → ⊥
+    cases s_in t_in u v (LocalOfSecond x x_u) (LocalOfSecond y y_v) related = differ (x ∙ sym y)
+    cases s_in t_in u v (LocalOfSecond x x_u) (LocalOfThird y y_v) related = let r = subst (λ n. UnitsRelated sample n 2) x_u (subst (λ n. UnitsRelated sample u n) y_v related) in unrelated 1 2 (0, omega arith, refl) (1, omega arith, refl) (λ e. omega (arith, e)) (λ e. omega (arith, e)) (λ e. omega (arith, e)) r
+    cases s_in t_in u v (LocalOfThird x x_u) (LocalOfSecond y y_v) related = let r = subst (λ n. UnitsRelated sample n 1) x_u (subst (λ n. UnitsRelated sample u n) y_v related) in unrelated 2 1 (1, omega arith, refl) (0, omega arith, refl) (λ e. omega (arith, e)) (λ e. omega (arith, e)) (λ e. omega (arith, e)) r
+    cases s_in t_in u v (LocalOfThird x x_u) (LocalOfThird y y_v) related = differ (x ∙ sym y)
+    cases s_in t_in u v (ArgumentOfSecond x x_u) other related = no_argument s s_in x
+    cases s_in t_in u v (ArgumentOfCaller x x_u) other related = no_argument s s_in x
+    cases s_in t_in u v one (ArgumentOfSecond y y_v) related = no_argument t t_in y
+    cases s_in t_in u v one (ArgumentOfCaller y y_v) related = no_argument t t_in y
+
+  -- bytes of DATA at different bases do not meet
+  data_apart : (p q : Placed) (i j : ℕ) → p.kind ≡ Direct → q.kind ≡ Direct → p.base ≡ i → q.base ≡ j → p.size ≡ 1 → q.size ≡ 1 → i ≢ j → Meet (extent_at p) (extent_at q) → ⊥
+  data_apart p q i j kind kind' base base' size size' differ (cell, first, second) =
+      let one = data_covers p cell kind first in
+      let two = data_covers q cell kind' second in
+      differ (omega (arith, one.from, one.below, two.from, two.below, base, size, base', size'))
 
   apart : (s t : ℕ) (p q : Placed) → IsPlaced sample s p → IsPlaced sample t q → s ≢ t → ExtentsConflict sample s t → Meet (extent_at p) (extent_at q) → ⊥
   apart s t p q at_s at_t differ conflict (cell, first, second) = cases (which s p at_s) (which t q at_t) where
@@ -192,11 +240,21 @@ module _ (a b c d e : List ℕ) where
         let one = code_covers p cell kind first in
         let two = code_covers q cell kind' second in
         differ (omega (arith, one.from, one.below, two.from, two.below, base, size, base', size'))
-    cases (IsCode low kind segment plain base size) (IsLocal number kind' over) =
+    cases (IsCode low kind segment plain base size) (IsLocal number kind' over base' size') =
         let one = (code_covers p cell kind first).space in let two = (data_covers q cell kind' second).space in cc (one, two)
-    cases (IsLocal number kind over) (IsCode low kind' segment plain base size) =
+    cases (IsCode low kind segment plain base size) (IsArgument number kind' over base' size') =
+        let one = (code_covers p cell kind first).space in let two = (data_covers q cell kind' second).space in cc (one, two)
+    cases (IsLocal number kind over base size) (IsCode low kind' segment plain base' size') =
         let one = (data_covers p cell kind first).space in let two = (code_covers q cell kind' second).space in cc (one, two)
-    cases (IsLocal number kind over) (IsLocal number' kind' over') = no_conflict s t (p, at_s, over) (q, at_t, over') differ conflict
+    cases (IsArgument number kind over base size) (IsCode low kind' segment plain base' size') =
+        let one = (data_covers p cell kind first).space in let two = (code_covers q cell kind' second).space in cc (one, two)
+    cases (IsLocal number kind over base size) (IsLocal number' kind' over' base' size') =
+        no_conflict s t number number' (p, at_s, over) (q, at_t, over') differ conflict
+    cases (IsLocal number kind over base size) (IsArgument five kind' over' base' size') =
+        data_apart p q 8 9 kind kind' base base' size size' (λ e. omega (arith, e)) (cell, first, second)
+    cases (IsArgument five kind over base size) (IsLocal number kind' over' base' size') =
+        data_apart p q 9 8 kind kind' base base' size size' (λ e. omega (arith, e)) (cell, first, second)
+    cases (IsArgument five kind over base size) (IsArgument five' kind' over' base' size') = differ (five ∙ sym five')
 
   pub sample_sound : IsSound sample
   sample_sound = record {
@@ -214,6 +272,10 @@ module _ (a b c d e : List ℕ) where
     apart = apart;
   }
 
--- so it is under any name
-pub sample_is_sound : (l : LayoutParts) (a b c d e : List ℕ) → l ≡ sample_layout a b c d e → IsSound l
-sample_is_sound l a b c d e is = subst IsSound (sym is) (sample_sound a b c d e)
+-- so it is under any title
+pub sample_is_sound : (l : LayoutParts) (a : List ℕ) → l ≡ sample_layout a → IsSound l
+sample_is_sound l a is = subst IsSound (sym is) (sample_sound a)
+
+-- and it has a root at the reset's vector
+pub sample_has_root : (l : LayoutParts) (a : List ℕ) → l ≡ sample_layout a → (unit : ℕ) × IsRootAt l 0 unit
+sample_has_root l a is = (0, subst (λ (l : LayoutParts). IsRootAt l 0 0) (sym is) (root a))

@@ -1,5 +1,5 @@
 -- A module of two segments, with a public, an external and two fixups, is valid.
-use Rattle.std.proofs.Common.{◌≡◌, ◌≢◌, ℕ, zero, suc, ◌+◌, ◌<◌, [], ◌∷◌, refl, sym, subst, arith, lit≤, All, AllPairs}
+use Rattle.std.proofs.Common.{◌≡◌, ◌≢◌, inr, ℕ, zero, suc, ◌+◌, ◌<◌, [], ◌∷◌, refl, sym, subst, arith, lit≤, All, AllPairs}
 use Rattle.m51_cells.specs.declared.kind.Base.TheVariants.{Segment as InSegment, External as OfExternal}
 use Rattle.m51_module.specs.declared.parts.ModuleParts.{ModuleParts}
 use Rattle.m51_module.specs.declared.segment.Segment.{Segment}
@@ -36,8 +36,10 @@ code_valid = record {
   kind = λ e. cc;
   reloc = refl;
   size = omega arith;
-  absolute = λ _. record { name = refl; some = omega arith; fits = omega arith; plain = refl };
+  absolute = λ _. record { name = refl; some = omega arith; fits = omega arith };
   relocatable = λ ne. absurd (ne refl);
+  overlay = λ e. absurd (cc e);
+  argument = λ e. absurd (cc e);
 }
 
 data_valid : IsSegmentValid data_segment
@@ -46,7 +48,9 @@ data_valid = record {
   reloc = refl;
   size = omega arith;
   absolute = λ e. cc;
-  relocatable = λ _. record { name = refl; base = refl; overlay = λ _ e. cc };
+  relocatable = λ _. record { name = refl; base = refl };
+  overlay = λ _. refl;
+  argument = λ _. record { kind = refl; overlay = refl; name = refl };
 }
 
 public_valid : IsPublicValid sample_module.segments byte_public
@@ -64,10 +68,12 @@ byte_field = record { bit = refl; target = (data_segment, refl); held = λ k low
 pub sample_valid : IsValid sample_module
 sample_valid = record {
   name = refl;
+  version = inr refl;
   few_segments = omega arith;
   few_externals = omega arith;
   few_fixups = omega arith;
   segments = all_two IsSegmentValid code_segment data_segment code_valid data_valid;
+  marks = λ k d below e. refl;
   segment_names = pairs_two (λ (s t : Segment). Differ s.name t.name) code_segment data_segment (λ named. absurd (named refl));
   publics = all_one (IsPublicValid sample_module.segments) byte_public public_valid;
   public_names = pairs_one (λ (p q : Public). p.name ≢ q.name) byte_public;

@@ -1,5 +1,6 @@
 -- Heaviest chains: for each root the walk from it that has the most bytes of overlaid DATA.
-use Rattle.std.specs.Prelude.{◌≡◌, ◌⊎◌, ◌==◌, ℕ, ◌+◌, ◌<◌, Bool, true, false, ◌&&◌, if◌then◌else◌, List, [], ◌∷◌, sum, map}
+use Rattle.std.specs.Prelude.{◌≡◌, ◌⊎◌, ◌==◌, ℕ, ◌+◌, ◌<◌, Bool, true, false, ◌&&◌, if◌then◌else◌, List, [], ◌∷◌, sum}
+use Rattle.std.specs.Prelude.{map}
 use Rattle.m51_cells.specs.declared.kind.Kind.{Kind}
 use Rattle.m51_cells.specs.declared.kind.Kind.TheVariants.{Direct}
 use Rattle.m51_cells.specs.declared.kind.Reloc.{Reloc}
@@ -27,7 +28,8 @@ is_first unit (own ∷ others) = unit == own
 abbrev pub data_of : LayoutParts → ℕ → ℕ → List Placed → ℕ
 data_of l unit number [] = 0
 data_of l unit number (p ∷ more) =
-    (if is_overlaid_data p.kind p.reloc p.mark && is_first unit (owners_of l.owners number) then p.size else 0) + data_of l unit (number + 1) more
+    (if is_overlaid_data p.kind p.reloc p.mark && is_first unit (owners_of l.owners number) then p.size else 0)
+    + data_of l unit (number + 1) more
 
 -- the bytes of a unit, and of the units of a walk
 abbrev pub weight_of : LayoutParts → ℕ → ℕ
@@ -49,7 +51,8 @@ pub record IsHeaviest (l : LayoutParts) (chain : Chain) : Type 0 where
   pub walk : IsWalk l.edges chain.root more
   pub bytes : chain.bytes ≡ weight_along l (chain.root ∷ more)
   pub most : (other : List ℕ) → IsWalk l.edges chain.root other
-      → (weight_along l (chain.root ∷ other) < chain.bytes) ⊎ ((weight_along l (chain.root ∷ other) ≡ chain.bytes) × ComesFirst more other)
+      → (weight_along l (chain.root ∷ other) < chain.bytes)
+      ⊎ ((weight_along l (chain.root ∷ other) ≡ chain.bytes) × ComesFirst more other)
 
 -- there is no root at the vector
 abbrev pub HasNoRoot : LayoutParts → ℕ → Type 0
@@ -61,7 +64,8 @@ ChainsAt l [] [] = Unit {0}
 ChainsAt l [] (chain ∷ chains) = ⊥
 ChainsAt l (vector ∷ more) [] = HasNoRoot l vector × ChainsAt l more []
 ChainsAt l (vector ∷ more) (chain ∷ chains) =
-    (HasNoRoot l vector × ChainsAt l more (chain ∷ chains)) ⊎ (IsRootAt l vector chain.root × IsHeaviest l chain × ChainsAt l more chains)
+    (HasNoRoot l vector × ChainsAt l more (chain ∷ chains))
+    ⊎ (IsRootAt l vector chain.root × IsHeaviest l chain × ChainsAt l more chains)
 
 -- the heaviest chains of a layout, by the addresses of their roots
 abbrev pub AreHeaviest : LayoutParts → List Chain → Type 0

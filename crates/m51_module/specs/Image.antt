@@ -4,7 +4,7 @@ use Rattle.std.specs.Prelude.{◌≡◌, ℕ, ◌<◌, List, length, slice_index
 -- so many bytes, all of them FFH
 pub record IsErased (count : ℕ) (bytes : List ℕ) : Type 0 where
   pub len : length bytes ≡ count
-  pub each : (place : ℕ) → place < count → slice_index bytes place ≡ 0xFF
+  pub each : (address : ℕ) → address < count → slice_index bytes address ≡ 0xFF
 
 -- a byte for each address of program memory, and all FFH
 abbrev pub IsBlank : List ℕ → Type 0

@@ -1,11 +1,14 @@
+pub mod Arguments
 pub mod Cells
 pub mod Chains
 pub mod Conflict
 pub mod Edits
 pub mod Image
 pub mod Kept
+pub mod Laws
 pub mod Library
 pub mod Plan
+pub mod Program
 pub mod Rising
 pub mod Roots
 pub mod Sample

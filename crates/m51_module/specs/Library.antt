@@ -1,7 +1,10 @@
 -- Libraries: which modules one may hold, and what each edit answers.
-use Rattle.std.specs.Prelude.{◌≢◌, ℕ, ◌≤◌, nat_le, Bool, not, if◌then◌else◌, List, [], ◌∷◌, ◌++◌, length, map, filter, bytes_eq, Option, Some, None, option_map, Result, Ok, Err}
+use Rattle.std.specs.Prelude.{◌≢◌, ℕ, ◌≤◌, nat_le, Bool, not, if◌then◌else◌, List, [], ◌∷◌, ◌++◌, length, map, filter}
+use Rattle.std.specs.Prelude.{bytes_eq, Option, Some, None, option_map, Result, Ok, Err}
 use Rattle.std.specs.List.{AllPairs, Contains, find, list_any}
 use Rattle.std.specs.Option.{ok_or}
+use Rattle.m51_cells.specs.Outcome.{and_then}
+use Rattle.m51_module.specs.Arguments.{raised}
 use Rattle.m51_module.specs.declared.library_error.LibError.{LibError}
 use Rattle.m51_module.specs.declared.library_error.LibError.TheVariants.{B1, B2, B3, Full, Memory}
 use Rattle.m51_module.specs.declared.parts.ModuleParts.{ModuleParts}
@@ -45,11 +48,6 @@ others_than name modules = filter (λ m. not (is_named name m)) modules
 abbrev pub with_replaced : ModuleParts → List ModuleParts → List ModuleParts
 with_replaced new modules = map (λ m. if is_named new.name m then new else m) modules
 
--- the first, and where it is accepted what the second makes of its value
-abbrev pub and_then : {A B : Type 0} → Result A LibError → (A → Result B LibError) → Result B LibError
-and_then (Ok value) next = next value
-and_then (Err refusal) next = Err refusal
-
 -- the value, where there is nothing to refuse
 abbrev pub unless : {A : Type 0} → Option LibError → A → Result A LibError
 unless None value = Ok value
@@ -81,7 +79,13 @@ deleted modules name = and_then (extracted modules name) (λ m. Ok (m, others_th
 -- replace: the module in the place of the one of its name, which must be there; then B3 beside the others
 abbrev pub replaced : List ModuleParts → ModuleParts → Result (List ModuleParts) LibError
 replaced modules new =
-    and_then (extracted modules new.name) (λ _. unless (clash (others_than new.name modules) new) (with_replaced new modules))
+    and_then (extracted modules new.name)
+    (λ _. unless (clash (others_than new.name modules) new) (with_replaced new modules))
+
+-- raise: the module of that name raised in its place, and the others as they are; B2 where there is none
+abbrev pub raised_in : List ModuleParts → List ℕ → Result (List ModuleParts) LibError
+raised_in modules name =
+    and_then (extracted modules name) (λ _. Ok (map (λ m. if is_named name m then raised m else m) modules))
 
 -- the modules added one by one to those that are held
 abbrev pub added_each : List ModuleParts → List ModuleParts → Result (List ModuleParts) LibError

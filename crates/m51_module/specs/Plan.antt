@@ -10,6 +10,7 @@ use Rattle.m51_module.specs.declared.placed.Mark.TheVariants.{Bank, Reserve, Abs
 use Rattle.m51_module.specs.declared.placed.Placed.{Placed}
 use Rattle.m51_module.specs.Roots.{vectors, LiesUnder}
 use Rattle.m51_module.specs.Conflict.{AreRelated, InConflict}
+use Rattle.m51_module.specs.Program.{ProgramGraph}
 use Rattle.m51_module.specs.Rising.{Rises}
 
 -- the extent is a segment, and no bank or reserve
@@ -47,10 +48,6 @@ owners_of owners segment = map (λ pair. pair.1) (filter (λ pair. pair.0 == seg
 abbrev pub Owns : LayoutParts → ℕ → ℕ → Type 0
 Owns l unit segment = Contains (owners_of l.owners segment) unit
 
--- the unit is the segment's own one: the first of its owners
-abbrev pub IsOwnUnit : LayoutParts → ℕ → ℕ → Type 0
-IsOwnUnit l segment unit = slice_get (owners_of l.owners segment) 0 ≡ Some unit
-
 -- these are the overlaid segments that the unit owns, ascending
 pub record AreLocals (l : LayoutParts) (unit : ℕ) (segments : List ℕ) : Type 0 where
   pub rising : Rises segments
@@ -71,14 +68,18 @@ pub record IsUnitAt (l : LayoutParts) (address unit : ℕ) : Type 0 where
   pub unit_is : IsUnit l unit is
   pub covers : Covers (extent_at is) (code_cell address)
 
+-- the layout's graph: edges and roots are of its units, owners and what is overlaid of its placed extents
+abbrev pub layout_graph : LayoutParts → ProgramGraph
+layout_graph l = record { edges = l.edges; IsRoot = IsRootAt l; Owns = Owns l; IsOverlaid = IsOverlaid l }
+
 -- the unit lies under the root at this vector
 abbrev pub UnitLiesUnder : LayoutParts → ℕ → ℕ → Type 0
-UnitLiesUnder l vector unit = LiesUnder l.edges (IsRootAt l) vector unit
+UnitLiesUnder l vector unit = LiesUnder (layout_graph l) vector unit
 
 -- the two units may be active together
 abbrev pub UnitsRelated : LayoutParts → ℕ → ℕ → Type 0
-UnitsRelated l one two = AreRelated l.edges (IsRootAt l) one two
+UnitsRelated l one two = AreRelated (layout_graph l) one two
 
 -- the two extents must not share a cell
 abbrev pub ExtentsConflict : LayoutParts → ℕ → ℕ → Type 0
-ExtentsConflict l s t = InConflict l.edges (IsRootAt l) (Owns l) (IsOverlaid l) s t
+ExtentsConflict l s t = InConflict (layout_graph l) s t

@@ -1,11 +1,10 @@
 -- Which layouts are sound.
-use Rattle.std.specs.Prelude.{◌≡◌, ◌≢◌, ℕ, ◌<◌, ◌≤◌, List, [], ◌∷◌, length, slice_get, Some}
+use Rattle.std.specs.Prelude.{◌≡◌, ◌≢◌, ℕ, ◌<◌, ◌≤◌, List, ◌∷◌, length, slice_get, Some}
 use Rattle.std.specs.List.{Contains}
 use Rattle.m51_cells.specs.declared.cell.Cell.{Cell}
-use Rattle.m51_cells.specs.declared.cell.Space.{Space}
-use Rattle.m51_cells.specs.declared.cell.Space.TheVariants.{Ram, Xram, Code as CodeSpace}
 use Rattle.m51_cells.specs.declared.extent.Extent.{Extent}
 use Rattle.m51_cells.specs.declared.kind.Kind.TheVariants.{Code, Number}
+use Rattle.m51_cells.specs.Cells.{cells_in}
 use Rattle.m51_cells.specs.Extent.{Covers, Meet}
 use Rattle.m51_module.specs.declared.parts.LayoutParts.{LayoutParts}
 use Rattle.m51_module.specs.declared.placed.Mark.TheVariants.{Absolute, Overlaid}
@@ -14,12 +13,6 @@ use Rattle.m51_module.specs.Cells.{extent_at}
 use Rattle.m51_module.specs.Walks.{HasEdge, Reaches}
 use Rattle.m51_module.specs.Rising.{Rises}
 use Rattle.m51_module.specs.Plan.{IsCodeSegment, IsPlaced, IsOverlaid, owners_of, Owns, UnitLiesUnder, ExtentsConflict}
-
--- how many cells a memory has
-abbrev pub cells_in : Space → ℕ
-cells_in Ram = 2048
-cells_in Xram = 65536
-cells_in CodeSpace = 65536
 
 -- all of its cells are cells of its memory
 abbrev pub IsInside : Extent → Type 0
@@ -32,15 +25,14 @@ pub record IsFit (p : Placed) : Type 0 where
   pub absolute : p.mark ≡ Absolute → 0 < p.size
   pub code : p.kind ≡ Code → p.mark ≢ Overlaid
 
--- The owners of an overlaid segment: its own unit, and then others, ascending and different from it. There are no others,
--- as no segment is handed from a caller to what it calls.
+-- The owners of an overlaid segment: its own unit, and then others, ascending and different from it. An argument
+-- segment has others, the units that call its own.
 pub record HasOwners (owners : List ℕ) : Type 0 where
   pub own : ℕ
   pub others : List ℕ
   pub are : owners ≡ own ∷ others
   pub rising : Rises others
   pub different : Contains others own → ⊥
-  pub none : others ≡ []
 
 -- A layout is sound.
 pub record IsSound (l : LayoutParts) : Type 0 where
@@ -60,4 +52,5 @@ pub record IsSound (l : LayoutParts) : Type 0 where
   -- each owner lies under at most one root
   pub one_root : (s u x y : ℕ) → Owns l u s → UnitLiesUnder l x u → UnitLiesUnder l y u → x ≡ y
   -- extents in conflict share no cell
-  pub apart : (s t : ℕ) (p q : Placed) → IsPlaced l s p → IsPlaced l t q → s ≢ t → ExtentsConflict l s t → Meet (extent_at p) (extent_at q) → ⊥
+  pub apart : (s t : ℕ) (p q : Placed) → IsPlaced l s p → IsPlaced l t q → s ≢ t → ExtentsConflict l s t
+      → Meet (extent_at p) (extent_at q) → ⊥

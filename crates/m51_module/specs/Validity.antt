@@ -1,13 +1,16 @@
 -- Which modules are valid.
-use Rattle.std.specs.Prelude.{◌≡◌, ◌≢◌, ℕ, zero, suc, ◌+◌, ◌%◌, ◌<◌, ◌≤◌, true, false, List, [], length, slice_get, Option, Some, None}
+use Rattle.std.specs.Prelude.{◌≡◌, ◌≢◌, ◌⊎◌, ℕ, zero, suc, ◌+◌, ◌%◌, ◌<◌, ◌≤◌, true, List, [], length, slice_get}
+use Rattle.std.specs.Prelude.{Option, Some, None}
 use Rattle.std.specs.List.{All, AllPairs, Contains}
 use Rattle.m51_cells.specs.declared.kind.Base.{Base}
 use Rattle.m51_cells.specs.declared.kind.Base.TheVariants.{None as NoBase, Segment as InSegment, External as OfExternal}
 use Rattle.m51_cells.specs.declared.kind.Kind.{Kind}
-use Rattle.m51_cells.specs.declared.kind.Kind.TheVariants.{Code, Direct, Idata, Bits, Number}
+use Rattle.m51_cells.specs.declared.kind.Kind.TheVariants.{Code, Direct, Number}
 use Rattle.m51_cells.specs.declared.kind.Reloc.TheVariants.{Abs}
-use Rattle.m51_cells.specs.Fits.{allows, Fits}
+use Rattle.m51_cells.specs.Fits.{Fits}
+use Rattle.m51_cells.specs.Kinds.{allows, largest, may_overlay}
 use Rattle.m51_cells.specs.Name.{IsWritten}
+use Rattle.m51_module.specs.Arguments.{is_argument_name}
 use Rattle.m51_module.specs.declared.content.Fixup.{Fixup}
 use Rattle.m51_module.specs.declared.content.Form.{Form}
 use Rattle.m51_module.specs.declared.content.Form.TheVariants.{Word, Inblock, Conv}
@@ -22,33 +25,37 @@ abbrev pub numbered : {A : Type 0} → List A → ℕ → Option A
 numbered items zero = None
 numbered items (suc before) = slice_get items before
 
--- the most bytes, for BIT bits, that a segment of the kind has
-abbrev pub largest : Kind → ℕ
-largest Direct = 128
-largest Bits = 128
-largest Idata = 256
-largest _ = 65535
-
--- An absolute segment has no name and at least one byte, and fits. It is not OVERLAYABLE.
+-- an absolute segment has no name and at least one byte, and fits
 pub record IsAbsolute (s : Segment) : Type 0 where
   pub name : s.name ≡ []
   pub some : 0 < s.size
   pub fits : Fits s.kind Abs s.base s.size
-  pub plain : s.overlay ≡ false
 
--- A relocatable segment has a name and base 0. It is OVERLAYABLE at most where it is not of program memory.
+-- a relocatable segment has a name and base 0
 pub record IsRelocatable (s : Segment) : Type 0 where
   pub name : IsWritten s.name
   pub base : s.base ≡ 0
-  pub overlay : s.overlay ≡ true → s.kind ≢ Code
 
--- a segment has a kind and a type that the kind allows, is not too large, and is absolute or relocatable
+-- A segment with the argument mark is OVERLAYABLE DATA, and its name begins with ?AG?.
+pub record IsArgument (s : Segment) : Type 0 where
+  pub kind : s.kind ≡ Direct
+  pub overlay : s.overlay ≡ true
+  pub name : is_argument_name s.name ≡ true
+
+-- A segment has a kind and a type that the kind allows, is not too large, and is absolute or relocatable. It is
+-- OVERLAYABLE and has the argument mark at most where it may.
 pub record IsSegmentValid (s : Segment) : Type 0 where
   pub kind : s.kind ≢ Number
   pub reloc : allows s.kind s.reloc ≡ true
   pub size : s.size ≤ largest s.kind
   pub absolute : s.reloc ≡ Abs → IsAbsolute s
   pub relocatable : s.reloc ≢ Abs → IsRelocatable s
+  pub overlay : s.overlay ≡ true → may_overlay s.kind s.reloc ≡ true
+  pub argument : s.argument ≡ true → IsArgument s
+
+-- the versions of a module
+abbrev pub IsVersion : ℕ → Type 0
+IsVersion version = (version ≡ 1) ⊎ (version ≡ 2)
 
 -- the two names differ, where the first is one
 abbrev pub Differ : List ℕ → List ℕ → Type 0
@@ -98,7 +105,7 @@ IsTarget segments externals NoBase = ⊥
 IsTarget segments externals (InSegment number) = (s : Segment) × (numbered segments number ≡ Some s)
 IsTarget segments externals (OfExternal number) = (e : External) × (numbered externals number ≡ Some e)
 
--- a piece holds the byte at that place of the segment
+-- a piece holds the byte at that offset of the segment
 pub record IsHeld (pieces : List Piece) (segment offset : ℕ) : Type 0 where
   pub piece : Piece
   pub is : Contains pieces piece
@@ -107,7 +114,8 @@ pub record IsHeld (pieces : List Piece) (segment offset : ℕ) : Type 0 where
   pub below : offset < piece.offset + length piece.bytes
 
 -- A fixup has a bit number and a target, and pieces hold each byte of its field; so the pieces that hold it touch.
-pub record IsFixupValid (segments : List Segment) (externals : List External) (pieces : List Piece) (f : Fixup) : Type 0 where
+pub record IsFixupValid (segments : List Segment) (externals : List External) (pieces : List Piece) (f : Fixup)
+    : Type 0 where
   pub bit : IsBitNumber f.form f.bit
   pub target : IsTarget segments externals f.target
   pub held : (k : ℕ) → k < field_len f.form → IsHeld pieces f.segment (f.offset + k)
@@ -120,10 +128,13 @@ pub data FieldBefore (f g : Fixup) : Type 0 where
 -- A module is valid.
 pub record IsValid (m : ModuleParts) : Type 0 where
   pub name : IsWritten m.name
+  pub version : IsVersion m.version
   pub few_segments : length m.segments ≤ 254
   pub few_externals : length m.externals ≤ 255
   pub few_fixups : length m.fixups ≤ 65535
   pub segments : All IsSegmentValid m.segments
+  -- the argument mark stands in version 2 only
+  pub marks : All (λ s. s.argument ≡ true → m.version ≡ 2) m.segments
   -- segments without a name are absolute ones
   pub segment_names : AllPairs (λ s t. Differ s.name t.name) m.segments
   pub publics : All (IsPublicValid m.segments) m.publics

@@ -1,14 +1,14 @@
-//! What segments of program memory hold, and the places in it that the linker fills.
+//! What segments of program memory hold, and the fields in it that the linker fills.
 use m51_cells::{Base, Bytes, ListOf};
 
 /// Bytes in a row in a segment.
 ///
-/// Source: OMF-51.
+/// Source: own choice ("Valid modules").
 #[derive(Drop)]
 pub struct Piece {
     /// The segment, counted from 1.
     pub segment: u8,
-    /// The place of the first byte, from the segment's base.
+    /// The offset of the first byte from the segment's base.
     pub offset: u16,
     /// 1 to 1,024 bytes.
     pub bytes: Bytes,
@@ -41,12 +41,12 @@ pub enum Form {
 
 /// A field that the linker fills.
 ///
-/// Source: OMF-51.
+/// Source: own choice ("Valid modules").
 #[derive(Clone, Copy, Debug, PartialEq, Eq)]
 pub struct Fixup {
     /// The segment of the field, counted from 1.
     pub segment: u8,
-    /// The place of the field's first byte, from the segment's base.
+    /// The offset of the field's first byte from the segment's base.
     pub offset: u16,
     pub form: Form,
     /// The number of the bit, 0 to 7, for CONV; 0 else.

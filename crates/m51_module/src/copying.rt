@@ -49,6 +49,7 @@ impl Module {
         let fixups = list_of(alloc, self.fixups())?;
         Ok(Module::make(ModuleParts {
             name: self.name(),
+            version: self.version(),
             segments,
             publics,
             externals,

@@ -16,6 +16,8 @@ pub enum Edit {
     Delete(Name),
     /// Replace the module of this one's name.
     Replace(Module),
+    /// Raise the module of this name to version 2.
+    Raise(Name),
 }
 
 // Want of memory; a refusal is passed over.
@@ -30,8 +32,8 @@ fn unless_memory(answer: Result<(), LibError>) -> Result<(), NoMemory>
 }
 
 impl Library {
-    /// Makes the edit, or leaves the library as it was where the edit is refused. An error is want of memory, and then the
-    /// library is as before.
+    /// Makes the edit, or leaves the library as it was where the edit is refused. An error is want of memory, and then
+    /// the library is as before.
     ///
     /// Source: own choice ("Libraries").
     pub fn edit(&mut self, edit: Edit) -> Result<(), NoMemory>
@@ -42,6 +44,7 @@ impl Library {
             Edit::Add(incoming) => unless_memory(self.add(incoming)),
             Edit::Delete(name) => unless_memory(self.delete(&name).map(|_| ())),
             Edit::Replace(incoming) => unless_memory(self.replace(incoming)),
+            Edit::Raise(name) => unless_memory(self.raise(&name)),
         }
     }
 

@@ -3,14 +3,20 @@ ghost use Rattle.std.specs.Prelude.{◌≡◌, ◌<◌, ◌≤◌, ◌↔◌, �
 ghost use Rattle.std.specs.List.{Contains};
 ghost use Rattle.m51_module.specs.Roots.{vectors};
 ghost use Rattle.m51_module.specs.Walks.{HasEdge};
-ghost use Rattle.m51_module.specs.Plan.{owners_of, AreLocals, IsOverlaid, IsUnit, IsRootAt, IsUnitAt};
+ghost use Rattle.m51_module.specs.Plan.{owners_of, AreLocals, IsOverlaid, IsRootAt, IsUnitAt};
 ghost use Rattle.m51_module.specs.Sound.{IsSound};
 
 use crate::rows::{local_rows, owner_rows};
+use crate::tables::{Bits, edge_rows, unit_of, units_at};
 use crate::{LayoutParts, Mark, Placed, Units};
-use m51_cells::{Kind, NoMemory};
+use m51_cells::NoMemory;
 use std::alloc::Global;
 use std::marker::Model;
+
+/// Where the reset and the six interrupts begin, ascending.
+///
+/// Source: family manual.
+pub const VECTORS: [u16; 7] = [0x00, 0x03, 0x0B, 0x13, 0x1B, 0x23, 0x2B];
 
 /// A sound layout, which contracts see as its parts.
 ///
@@ -20,6 +26,8 @@ pub struct Layout {
     parts: LayoutParts,
     owner_rows: Vec<Units>,
     local_rows: Vec<Units>,
+    edge_rows: Vec<Bits>,
+    units_at: Vec<Option<u16>>,
 }
 
 impl Model for Layout {
@@ -30,14 +38,14 @@ impl Model for Layout {
 
     ghost view = { λ l. l.parts };
 
-    ghost invariant = { λ l. IsKept l.parts l.owner_rows.items l.local_rows.items };
+    ghost invariant = { λ l. IsKept l.parts l.owner_rows.items l.local_rows.items l.edge_rows.items l.units_at.items };
 }
 
 // Whether the reset or an interrupt begins at this address.
 fn is_vector(address: u16) -> bool
     ensures { IsTrue result ↔ Contains vectors address }
 {
-    [0x00, 0x03, 0x0B, 0x13, 0x1B, 0x23, 0x2B].contains(&address)
+    VECTORS.contains(&address)
 }
 
 impl Layout {
@@ -50,10 +58,14 @@ impl Layout {
     {
         let owner_rows = owner_rows(alloc, parts.owners.as_slice(), parts.placed.len())?;
         let local_rows = local_rows(alloc, &owner_rows, parts.units.len())?;
+        let edge_rows = edge_rows(alloc, parts.edges.as_slice(), parts.units.len())?;
+        let units_at = units_at(alloc, &parts)?;
         Ok(Layout {
             parts,
             owner_rows,
             local_rows,
+            edge_rows,
+            units_at,
         })
     }
 
@@ -67,7 +79,7 @@ impl Layout {
         self.parts.placed.as_slice()
     }
 
-    /// For each unit its place among the placed extents.
+    /// For each unit its index among the placed extents.
     ///
     /// Source: own choice ("Layouts").
     pub fn units(&self) -> &[u16]
@@ -75,6 +87,16 @@ impl Layout {
         ensures sound { IsSound self.now }
     {
         self.parts.units.as_slice()
+    }
+
+    /// The edges: for each the unit that it leaves and the unit that it leads to.
+    ///
+    /// Source: own choice ("Edges").
+    pub fn edges(&self) -> &[(u16, u16)]
+        ensures list { result.now ≡ self.now.edges }
+        ensures sound { IsSound self.now }
+    {
+        self.parts.edges.as_slice()
     }
 
     /// Whether an edge leads from the first unit to the second.
@@ -85,42 +107,17 @@ impl Layout {
         requires to { to < length self.now.units }
         ensures { IsTrue result ↔ HasEdge self.now.edges from to }
     {
-        self.parts.edges.as_slice().contains(&(from, to))
-    }
-
-    // The placed extent that a unit is.
-    #[tactic(auto, using(crate::proofs::Units::unit_place, crate::proofs::Units::unit_at_place))]
-    fn unit(&self, unit: usize) -> &Placed
-        requires { unit < length self.now.units }
-        ensures unit { IsUnit self.now unit result.now }
-        ensures code { result.now.kind ≡ Kind.Code }
-    {
-        &self.parts.placed.as_slice()[usize::from(self.parts.units.as_slice()[unit])]
-    }
-
-    // Whether the unit covers the address.
-    #[tactic(auto, using(crate::proofs::Units::at_from_covers, crate::proofs::Units::covers_from_at))]
-    fn covers(&self, unit: usize, address: u16) -> bool
-        requires { unit < length self.now.units }
-        ensures { IsTrue result ↔ IsUnitAt self.now address unit }
-    {
-        self.unit(unit).covers(address)
+        self.edge_rows[usize::from(from)].is_set(usize::from(to))
     }
 
     /// The unit that covers the address, if one does.
     ///
     /// Source: own choice ("Units").
-    #[tactic(auto, using(crate::proofs::Units::one_unit, crate::proofs::Units::unit_below))]
     pub fn unit_at(&self, address: u16) -> Option<u16>
         ensures some { IfSome result (λ unit. IsUnitAt self.now address unit) }
         ensures only { (unit : ℕ) → IsUnitAt self.now address unit → result ≡ Some unit }
     {
-        for unit in 0..self.parts.units.len() {
-            if self.covers(unit, address) {
-                return Some(unit as u16);
-            }
-        }
-        None
+        self.units_at[usize::from(address)]
     }
 
     // Whether the unit is the root at this vector.
@@ -129,12 +126,12 @@ impl Layout {
         requires { unit < length self.now.units }
         ensures { IsTrue result ↔ IsRootAt self.now vector unit }
     {
-        let placed = self.unit(unit);
+        let placed = unit_of(&self.parts, unit);
         is_vector(vector) && placed.mark == Mark::Absolute && placed.base == vector
     }
 
-    /// The unit that is the root at this vector, if there is one: an absolute segment of program memory that begins there.
-    /// No root is at another address than the vectors of the reset and of the six interrupts.
+    /// The unit that is the root at this vector, if there is one: an absolute segment of program memory that begins
+    /// there. No root is at another address than the vectors of the reset and of the six interrupts.
     ///
     /// Source: own choice ("Roots").
     #[tactic(auto, using(crate::proofs::Units::one_root, crate::proofs::Units::root_below))]
@@ -150,7 +147,7 @@ impl Layout {
         None
     }
 
-    /// The units that own the extent, its own unit first; empty unless it is overlaid.
+    /// The units that own the extent: its own unit first, then the others, ascending; none unless it is overlaid.
     ///
     /// Source: own choice ("Owners").
     pub fn owners(&self, segment: u16) -> &[u16]

@@ -1,16 +1,17 @@
 //! Libraries of modules, and their edits.
 ghost use Rattle.std.specs.Prelude.{◌≡◌, [], Some, OnErr, position};
 ghost use Rattle.m51_cells.specs.Outcome.{Gives};
-ghost use Rattle.m51_module.specs.Library.{IsLibrary, is_named, refusal_of, clash, unless, others_than, with_replaced, added, deleted, replaced, extracted, built};
+ghost use Rattle.m51_module.specs.Library.{IsLibrary, is_named, refusal_of, clash, unless, others_than, with_replaced};
+ghost use Rattle.m51_module.specs.Library.{added, deleted, replaced, raised_in, extracted, built};
 
-use crate::members::{add_refusal, clash_with_others, place_of, take_out};
+use crate::members::{add_refusal, clash_with_others, index_of, raise_at, take_out};
 use crate::{LibError, Module};
 use m51_cells::Name;
 use std::alloc::Global;
 use std::marker::Model;
 
-/// A library, which contracts see as the list of its modules: at most 255, their names all different, and no name a public
-/// of two of them.
+/// A library, which contracts see as the list of its modules: at most 255, their names all different, and no name a
+/// public of two of them.
 ///
 /// Source: own choice ("Libraries").
 #[derive(Drop)]
@@ -30,16 +31,16 @@ impl Model for Library {
     ghost invariant = { λ l. IsLibrary l.members.items };
 }
 
-/// The library of these modules. It is refused as if they were added one by one to none: at the first that can't be added,
-/// by `B1`, then `Full`, then `B3`. It takes no memory.
+/// The library of these modules. It is refused as if they were added one by one to none: at the first that can't be
+/// added, by `B1`, then `Full`, then `B3`. It takes no memory.
 ///
 /// Source: own choice ("Libraries").
 pub fn build(_alloc: Global, modules: Vec<Module>) -> Result<Library, LibError>
     // It takes no memory: each error is a refusal.
     ensures { Gives (λ l. l) Some result (built modules.items) }
 {
-    for place in 0..modules.len() {
-        match add_refusal(&modules[..place], &modules[place]) {
+    for index in 0..modules.len() {
+        match add_refusal(&modules[..index], &modules[index]) {
             Some(refusal) => return Err(refusal),
             None => continue,
         }
@@ -69,9 +70,9 @@ impl Library {
         &self.members
     }
 
-    /// Adds the module at the end. It is refused by `B1` where a module of its name is held, else by `Full` where 255 are
-    /// held, else by `B3` with its first public that a held module has. A module that is refused, or for which memory is
-    /// wanted, is dropped, and the library is as before.
+    /// Adds the module at the end. It is refused by `B1` where a module of its name is held, else by `Full` where 255
+    /// are held, else by `B3` with its first public that a held module has. A module that is refused, or for which
+    /// memory is wanted, is dropped, and the library is as before.
     ///
     /// Source: own choice ("Libraries").
     pub fn add(&mut self, incoming: Module) -> Result<(), LibError>
@@ -93,15 +94,15 @@ impl Library {
         ensures answer { Gives (λ m. (m, self.new)) Some result (deleted self.old name.now) }
         ensures kept { OnErr result (self.new ≡ self.old) }
     {
-        match place_of(&self.members, name) {
-            Some(place) => Ok(take_out(&mut self.members, place)),
+        match index_of(&self.members, name) {
+            Some(index) => Ok(take_out(&mut self.members, index)),
             None => Err(LibError::B2 { name: *name }),
         }
     }
 
-    /// Puts the module in the place of the one of its name. It is refused by `B2` where there is none, else by `B3` with
-    /// its first public that one of the others has. A module that is refused is dropped, and the library is as before. It
-    /// takes no memory.
+    /// Puts the module in the place of the one of its name. It is refused by `B2` where there is none, else by `B3`
+    /// with its first public that one of the others has. A module that is refused is dropped, and the library is as
+    /// before. It takes no memory.
     ///
     /// Source: own choice ("Libraries").
     pub fn replace(&mut self, incoming: Module) -> Result<(), LibError>
@@ -110,10 +111,26 @@ impl Library {
         ensures kept { OnErr result (self.new ≡ self.old) }
     {
         let name = incoming.name();
-        match place_of(&self.members, &name) {
-            Some(place) => self.replace_at(place, incoming),
+        match index_of(&self.members, &name) {
+            Some(index) => self.replace_at(index, incoming),
             None => Err(LibError::B2 { name }),
         }
+    }
+
+    /// Raises the module of that name to version 2, in its place. It is refused by `B2` where there is none, and the
+    /// library is then as before. It takes no memory.
+    ///
+    /// Source: own choice ("Argument segments").
+    pub fn raise(&mut self, name: &Name) -> Result<(), LibError>
+        // It takes no memory: each error is a refusal.
+        ensures answer { Gives (λ _. self.new) Some result (raised_in self.old name.now) }
+        ensures kept { OnErr result (self.new ≡ self.old) }
+    {
+        match index_of(&self.members, name) {
+            Some(index) => raise_at(&mut self.members, index),
+            None => return Err(LibError::B2 { name: *name }),
+        }
+        Ok(())
     }
 
     /// A module that is equal to the one of that name. It is refused by `B2` where there is none.
@@ -122,22 +139,23 @@ impl Library {
     pub fn extract(&self, alloc: Global, name: &Name) -> Result<Module, LibError>
         ensures { Gives (λ m. m) refusal_of result (extracted self.now name.now) }
     {
-        match place_of(&self.members, name) {
-            Some(place) => Ok(self.members[place].copy(alloc)?),
+        match index_of(&self.members, name) {
+            Some(index) => Ok(self.members[index].copy(alloc)?),
             None => Err(LibError::B2 { name: *name }),
         }
     }
 
-    // Puts the module in that place, where the one of its name stands.
-    fn replace_at(&mut self, place: usize, incoming: Module) -> Result<(), LibError>
-        requires { position (is_named incoming.name) self.old ≡ Some place }
-        ensures answer { Gives (λ _. self.new) Some result (unless (clash (others_than incoming.name self.old) incoming) (with_replaced incoming self.old)) }
+    // Puts the module at that index, where the one of its name stands.
+    fn replace_at(&mut self, index: usize, incoming: Module) -> Result<(), LibError>
+        requires { position (is_named incoming.name) self.old ≡ Some index }
+        ensures answer { Gives (λ _. self.new) Some result
+            (unless (clash (others_than incoming.name self.old) incoming) (with_replaced incoming self.old)) }
         ensures kept { OnErr result (self.new ≡ self.old) }
     {
-        match clash_with_others(&self.members, place, &incoming) {
+        match clash_with_others(&self.members, index, &incoming) {
             Some(refusal) => Err(refusal),
             None => {
-                self.members[place] = incoming;
+                self.members[index] = incoming;
                 Ok(())
             }
         }

@@ -24,8 +24,8 @@ pub enum LibError {
     /// The bytes are no library. It is never want of memory.
     #[error("the bytes are no library")]
     Object(ObjError),
-    /// Memory is wanted.
-    #[error("memory is wanted")]
+    /// Out of memory.
+    #[error("out of memory")]
     Memory,
 }
 

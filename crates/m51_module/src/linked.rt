@@ -58,11 +58,12 @@ pub enum Refusal {
     L2 { name: Name },
     /// The kinds of this external and of its public do not agree.
     L3 { name: Name },
-    /// Parts of the segment of this name differ in kind, type or OVERLAYABLE.
+    /// Parts of the segment of this name differ in kind, type, OVERLAYABLE or ARGUMENT.
     L4 { name: Name },
     /// The joined segment of this name is too large.
     L5 { name: Name },
-    /// The segment of this name is marked OVERLAYABLE and is no local of a unit that is there.
+    /// The segment of this name is marked OVERLAYABLE, and is neither a local nor the argument segment of a unit that
+    /// is there.
     L6 { name: Name },
     /// The control line of this number does not fit the program.
     L7 { line: u32 },
@@ -72,15 +73,15 @@ pub enum Refusal {
     L9 { one: Name, two: Name },
     /// Some units reach themselves: all of them, in order.
     L10 { units: Names },
-    /// A unit with overlaid locals lies under two roots.
+    /// A unit with an overlaid local or argument segment lies under two roots.
     L11 { unit: Name, one: Name, two: Name },
     /// There is no base for the segment of this name.
     L12 { name: Name },
-    /// The rule of a fixup fails: the segment of the field, and the field's place in it.
+    /// The rule of a fixup fails: the segment of the field, and the field's offset in it.
     L13 { name: Name, offset: u16 },
     /// There are more of these than a link takes.
     Limit { what: Quantity },
-    /// Memory is wanted.
+    /// Out of memory.
     Memory,
 }
 

@@ -1,20 +1,17 @@
 //! What is asked of the modules of a library, and of one that comes in.
-ghost use Rattle.std.specs.Prelude.{◌≡◌, ◌<◌, ◌++◌, length, position, remove, slice_index_or, vec_len};
+ghost use Rattle.std.specs.Prelude.{◌≡◌, ◌<◌, ◌++◌, length, position, remove, slice_set, slice_index_or, vec_len};
+ghost use Rattle.m51_module.specs.declared.parts.ModuleParts.{ModuleParts};
+ghost use Rattle.m51_module.specs.Arguments.{raised};
 ghost use Rattle.m51_module.specs.Library.{is_named, holds, has_public, defines, clash, add_refusal};
 
 use crate::{LibError, Module, Public};
-use m51_cells::Name;
-
-/// The most modules that a library holds.
-///
-/// Source: own choice ("Libraries").
-pub const MOST_MODULES: usize = 255;
+use m51_cells::{MOST_MODULES, Name};
 
 // Whether the module has that name.
 fn is_named(member: &Module, name: &Name) -> bool
     ensures { result ≡ is_named name.now member.now }
 {
-    member.name().bytes() == name.bytes()
+    member.name() == *name
 }
 
 // Whether one of the modules has that name.
@@ -24,10 +21,10 @@ fn holds(members: &[Module], name: &Name) -> bool
     members.iter().any(|member| is_named(member, name))
 }
 
-/// Where the module of that name stands, counted from 0.
+/// The index of the module of that name.
 ///
 /// Source: own choice ("Libraries").
-pub(crate) fn place_of(members: &[Module], name: &Name) -> Option<usize>
+pub(crate) fn index_of(members: &[Module], name: &Name) -> Option<usize>
     ensures { result ≡ position (is_named name.now) members.now }
 {
     members.iter().position(|member| is_named(member, name))
@@ -37,10 +34,7 @@ pub(crate) fn place_of(members: &[Module], name: &Name) -> Option<usize>
 fn has_public(member: &Module, name: &Name) -> bool
     ensures { result ≡ has_public name.now member.now }
 {
-    member
-        .publics()
-        .iter()
-        .any(|public| public.name.bytes() == name.bytes())
+    member.publics().iter().any(|public| public.name == *name)
 }
 
 // Whether one of the modules has a public of that name.
@@ -68,31 +62,41 @@ fn clash(before: &[Module], after: &[Module], incoming: &Module) -> Option<LibEr
         .map(|public| LibError::B3 { name: public.name })
 }
 
-/// What refuses the module beside all of these but the one at that place, counted from 0: B3 with its first public that one
+/// What refuses the module beside all of these but the one at that index: B3 with its first public that one
 /// of them has.
 ///
 /// Source: own choice ("Libraries").
 #[tactic(auto, using(crate::proofs::Held::around))]
 pub(crate) fn clash_with_others(
     members: &[Module],
-    place: usize,
+    index: usize,
     incoming: &Module,
 ) -> Option<LibError>
-    requires { place < length members.now }
-    ensures { result ≡ clash (remove members.now place) incoming.now }
+    requires { index < length members.now }
+    ensures { result ≡ clash (remove members.now index) incoming.now }
 {
-    clash(&members[..place], &members[place + 1..], incoming)
+    clash(&members[..index], &members[index + 1..], incoming)
 }
 
-/// Takes out the module at that place, counted from 0, and closes up the list.
+/// Takes out the module at that index, and closes up the list.
 ///
 /// Source: own choice ("Libraries").
-pub(crate) fn take_out(members: &mut Vec<Module>, place: usize) -> Module
-    requires { place < vec_len members.old }
-    ensures value { result ≡ slice_index_or members.old.items place result }
-    ensures items { members.new.items ≡ remove members.old.items place }
+pub(crate) fn take_out(members: &mut Vec<Module>, index: usize) -> Module
+    requires { index < vec_len members.old }
+    ensures value { result ≡ slice_index_or members.old.items index result }
+    ensures items { members.new.items ≡ remove members.old.items index }
 {
-    members.remove(place)
+    members.remove(index)
+}
+
+// Raises the module at that index to version 2.
+pub(crate) fn raise_at(members: &mut Vec<Module>, index: usize)
+    requires { index < vec_len members.old }
+    ensures { (d : ModuleParts) → members.new.items
+        ≡ slice_set members.old.items index (raised (slice_index_or members.old.items index d)) }
+{
+    let alloc = *members.allocator();
+    members[index].raise_in_place(alloc);
 }
 
 /// What refuses to add the module to these: B1, then Full, then B3.

@@ -1,14 +1,18 @@
 //! Valid modules.
 ghost use Rattle.std.specs.Prelude.{◌≡◌};
+ghost use Rattle.m51_module.specs.Arguments.{raised};
 ghost use Rattle.m51_module.specs.Validity.{IsValid};
 
+use crate::raising::raised_parts;
 use crate::{External, Fixup, ModuleParts, Piece, Public, Segment};
-use m51_cells::Name;
+use m51_cells::{ListOf, Name};
+use std::alloc::Global;
 use std::marker::Model;
+use std::mem;
 
 /// A valid module, which contracts see as its parts: what one source gives, and what an object file holds.
 ///
-/// Source: OMF-51.
+/// Source: own choice ("Valid modules").
 #[derive(Drop)]
 pub struct Module {
     parts: ModuleParts,
@@ -28,7 +32,7 @@ impl Model for Module {
 impl Module {
     /// The module of these parts. It takes no memory.
     ///
-    /// Source: OMF-51.
+    /// Source: own choice ("Valid modules").
     pub fn make(parts: ModuleParts) -> Module
         requires { IsValid parts }
         ensures { result ≡ parts }
@@ -38,16 +42,26 @@ impl Module {
 
     /// The name of the module.
     ///
-    /// Source: OMF-51.
+    /// Source: own choice ("Valid modules").
     pub fn name(&self) -> Name
         ensures { result ≡ self.now.name }
     {
         self.parts.name
     }
 
+    /// The version of the object that holds the module: 1 or 2.
+    ///
+    /// Source: own choice ("Argument segments").
+    pub fn version(&self) -> u8
+        ensures version { result ≡ self.now.version }
+        ensures valid { IsValid self.now }
+    {
+        self.parts.version
+    }
+
     /// The segments, counted from 1.
     ///
-    /// Source: OMF-51.
+    /// Source: own choice ("Valid modules").
     pub fn segments(&self) -> &[Segment]
         ensures list { result.now ≡ self.now.segments }
         ensures valid { IsValid self.now }
@@ -57,7 +71,7 @@ impl Module {
 
     /// The publics, in the order in which the module names them.
     ///
-    /// Source: OMF-51.
+    /// Source: own choice ("Valid modules").
     pub fn publics(&self) -> &[Public]
         ensures list { result.now ≡ self.now.publics }
         ensures valid { IsValid self.now }
@@ -67,7 +81,7 @@ impl Module {
 
     /// The externals, counted from 1.
     ///
-    /// Source: OMF-51.
+    /// Source: own choice ("Valid modules").
     pub fn externals(&self) -> &[External]
         ensures list { result.now ≡ self.now.externals }
         ensures valid { IsValid self.now }
@@ -77,7 +91,7 @@ impl Module {
 
     /// The content of the segments of program memory, in ascending order.
     ///
-    /// Source: OMF-51.
+    /// Source: own choice ("Valid modules").
     pub fn pieces(&self) -> &[Piece]
         ensures list { result.now ≡ self.now.pieces }
         ensures valid { IsValid self.now }
@@ -87,7 +101,7 @@ impl Module {
 
     /// The fields that the linker fills, in ascending order.
     ///
-    /// Source: OMF-51.
+    /// Source: own choice ("Valid modules").
     pub fn fixups(&self) -> &[Fixup]
         ensures list { result.now ≡ self.now.fixups }
         ensures valid { IsValid self.now }
@@ -97,11 +111,46 @@ impl Module {
 
     /// The register banks that the module uses: bit k for bank k, 0 to 3; bit 0 is always set.
     ///
-    /// Source: OMF-51.
+    /// Source: own choice ("Valid modules").
     pub fn banks(&self) -> u8
         ensures banks { result ≡ self.now.banks }
         ensures valid { IsValid self.now }
     {
         self.parts.banks
+    }
+
+    /// The module in version 2: each OVERLAYABLE DATA segment whose name begins with `?AG?` has the argument mark, and
+    /// all else is the same. It takes no memory.
+    ///
+    /// Source: own choice ("Argument segments").
+    pub fn raise(self) -> Module
+        ensures { result ≡ raised self }
+    {
+        let Module { parts } = self;
+        Module {
+            parts: raised_parts(parts),
+        }
+    }
+
+    // The same where the module stands.
+    pub(crate) fn raise_in_place(&mut self, alloc: Global)
+        ensures { self.new ≡ raised self.old }
+    {
+        let parts = mem::replace(&mut self.parts, no_parts(alloc));
+        self.parts = raised_parts(parts);
+    }
+}
+
+// Parts with nothing in them, which take no memory. They are of no module.
+fn no_parts(alloc: Global) -> ModuleParts {
+    ModuleParts {
+        name: Name::none(),
+        version: 1,
+        segments: ListOf::new(alloc),
+        publics: ListOf::new(alloc),
+        externals: ListOf::new(alloc),
+        pieces: ListOf::new(alloc),
+        fixups: ListOf::new(alloc),
+        banks: 1,
     }
 }

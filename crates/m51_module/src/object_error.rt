@@ -2,13 +2,13 @@
 use m51_cells::NoMemory;
 use thiserror::Error;
 
-/// Why bytes are refused as an object or a library: the first failing test, record by record. Places are counted from the
-/// first byte, from 0; so are records.
+/// Why bytes are refused as an object or a library: the first failing test, record by record. Offsets are counted from
+/// the first byte, and records from 0.
 ///
-/// Source: OMF-51.
+/// Source: own choice ("Places in object files").
 #[derive(Clone, Copy, Debug, PartialEq, Eq, Error)]
 pub enum ObjError {
-    /// The bytes end at this place, inside a record or before one that must come.
+    /// The bytes end at this offset, inside a record or before one that must come.
     #[error("the bytes end inside a record or before it")]
     O1 {
         at: u32,
@@ -20,23 +20,23 @@ pub enum ObjError {
         found: u8,
         needed: u8,
     },
-    /// The type of the record at this place is not allowed there, or bytes follow the end.
+    /// The type of the record at this offset is not allowed there, or bytes follow the end.
     #[error("a record of this type can't stand here")]
     O3 {
         at: u32,
     },
-    /// The field at this place is cut off, has a value that it can't have, or breaks a rule.
+    /// The field at this offset is cut off, has a value that it can't have, or breaks a rule.
     #[error("a field is cut off, out of range or against a rule")]
     O4 {
         at: u32,
     },
-    /// The field at this place numbers a segment or an external that is not there.
+    /// The field at this offset numbers a segment or an external that is not there.
     #[error("a segment or an external is not there")]
     O5 {
         at: u32,
     },
-    /// Memory is wanted.
-    #[error("memory is wanted")]
+    /// Out of memory.
+    #[error("out of memory")]
     Memory,
 }
 

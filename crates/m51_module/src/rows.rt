@@ -1,76 +1,73 @@
-//! The rows that a layout keeps: the owners of each placed extent, and the locals of each unit.
-ghost use Rattle.std.specs.Prelude.{◌≡◌, ◌<◌, ℕ, IsTrue, ◌↔◌, length, IfOk};
-ghost use Rattle.std.specs.List.{Contains};
-ghost use Rattle.m51_module.specs.Plan.{owners_of};
-ghost use Rattle.m51_module.specs.Kept.{AreOwnerRows, AreSegmentsOf, AreLocalRows};
+//! The rows that a layout keeps: the owners of each placed extent, and the locals of each unit. Each list is gone over
+//! once.
+ghost use Rattle.std.specs.Prelude.{◌≡◌, ◌<◌, [], ◌∷◌, ◌++◌, length, slice_set, slice_index_or, IfOk, OnOk};
+ghost use Rattle.std.specs.List.{All};
+ghost use Rattle.m51_module.specs.Kept.{AreOwnerRows, AreLocalRows, AreEmptyRows, IsRowAlong, HaveRows, IsAddedAt};
 
 use crate::Units;
 use m51_cells::{ListOf, NoMemory};
-use std::alloc::{AllocError, Global};
+use std::alloc::Global;
 
-// The owners of a segment, in the order of their pairs.
-fn owners_in(alloc: Global, owners: &[(u16, u16)], segment: u16) -> Result<Vec<u16>, AllocError>
-    ensures { IfOk result (λ row. row.items ≡ owners_of owners.now segment) }
-{
-    owners
-        .iter()
-        .filter(|pair| pair.0 == segment)
-        .map(|pair| pair.1)
-        .collect(alloc)
-}
-
-#[tactic(auto, using(crate::proofs::KeptRows::owner_row_more))]
-/// The owners of each of so many segments.
-///
-/// Source: own choice ("Owners").
-pub fn owner_rows(
-    alloc: Global,
-    owners: &[(u16, u16)],
-    count: usize,
-) -> Result<Vec<Units>, NoMemory>
-    requires { count < 65536 }
-    ensures { IfOk result (λ rows. AreOwnerRows owners.now count rows.items) }
+// So many rows with nothing in them.
+fn empty_rows(alloc: Global, count: usize) -> Result<Vec<Units>, NoMemory>
+    ensures { IfOk result (λ rows. AreEmptyRows count rows.items) }
 {
     let mut rows = Vec::new(alloc);
-    for segment in 0..count {
-        let row = owners_in(alloc, owners, segment as u16)?;
-        rows.push(ListOf::of(row))?;
+    for _ in 0..count {
+        rows.push(ListOf::new(alloc))?;
     }
     Ok(rows)
 }
 
-/// Whether the unit is one of these.
-fn is_among(units: &Units, unit: u16) -> bool
-    ensures { IsTrue result ↔ Contains units.now unit }
+// Adds the number to the row at that index.
+fn add_to(rows: &mut Vec<Units>, index: usize, number: u16) -> Result<(), NoMemory>
+    requires { index < length rows.old.items }
+    ensures { OnOk result (rows.new.items
+        ≡ slice_set rows.old.items index (slice_index_or rows.old.items index [] ++ number ∷ [])) }
 {
-    units.as_slice().contains(&unit)
+    rows[index].push(number)
 }
 
-// The segments in whose rows the unit stands, ascending.
-fn segments_of(alloc: Global, rows: &[Units], unit: u16) -> Result<Units, NoMemory>
-    requires { length rows.now < 65536 }
-    ensures { IfOk result (λ segments. AreSegmentsOf rows.now unit (length rows.now) segments) }
+/// The owners of each of so many segments.
+pub(crate) fn owner_rows(
+    alloc: Global,
+    owners: &[(u16, u16)],
+    count: usize,
+) -> Result<Vec<Units>, NoMemory>
+    requires { HaveRows count owners.now }
+    ensures { IfOk result (λ rows. AreOwnerRows owners.now count rows.items) }
 {
-    let mut segments = Vec::new(alloc);
-    for (segment, row) in rows.iter().enumerate() {
-        if is_among(row, unit) {
-            segments.push(segment as u16)?;
-        }
+    let mut rows = empty_rows(alloc, count)?;
+    for pair in owners {
+        add_to(&mut rows, usize::from(pair.0), pair.1)?;
     }
-    Ok(ListOf::of(segments))
+    Ok(rows)
+}
+
+// Adds the segment to the row of each of these units.
+fn add_local(rows: &mut Vec<Units>, owners: &[u16], segment: u16) -> Result<(), NoMemory>
+    requires { IsRowAlong (length rows.old.items) owners.now }
+    ensures { OnOk result (IsAddedAt owners.now segment rows.old.items rows.new.items) }
+{
+    for unit in owners {
+        add_to(rows, usize::from(*unit), segment)?;
+    }
+    Ok(())
 }
 
 /// The segments of each of so many units.
-///
-/// Source: own choice ("Owners").
-pub fn local_rows(alloc: Global, rows: &[Units], count: usize) -> Result<Vec<Units>, NoMemory>
+pub(crate) fn local_rows(
+    alloc: Global,
+    rows: &[Units],
+    count: usize,
+) -> Result<Vec<Units>, NoMemory>
     requires segments { length rows.now < 65536 }
-    requires units { count < 65536 }
-    ensures { IfOk result (λ locals. AreLocalRows rows.now count locals.items) }
+    requires rows { All (IsRowAlong count) rows.now }
+    ensures { IfOk result (λ locals. AreLocalRows rows.now count (length rows.now) locals.items) }
 {
-    let mut locals = Vec::new(alloc);
-    for unit in 0..count {
-        locals.push(segments_of(alloc, rows, unit as u16)?)?;
+    let mut locals = empty_rows(alloc, count)?;
+    for (segment, row) in rows.iter().enumerate() {
+        add_local(&mut locals, row.as_slice(), segment as u16)?;
     }
     Ok(locals)
 }

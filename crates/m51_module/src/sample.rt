@@ -1,8 +1,8 @@
-//! A sound layout and a valid module, which show that there are such.
+//! A sound layout and valid modules, which show that there are such. The crates above test with them.
 ghost use Rattle.std.specs.Prelude.{◌≡◌, [], IfOk, Some, true, map};
 ghost use Rattle.std.specs.Char.{to_ascii_uppercase};
 ghost use Rattle.m51_cells.specs.Name.{is_name, title_at, IsWritten};
-ghost use Rattle.m51_module.specs.Sample.{code, local, field, sample_layout, sample_module};
+ghost use Rattle.m51_module.specs.Sample.{code, overlaid, field, sample_layout, sample_module, public_module};
 
 use crate::{
     External, Fixup, Form, Layout, LayoutParts, Mark, Module, ModuleParts, Piece, Placed, Public,
@@ -25,23 +25,23 @@ fn code(title: Name, reloc: Reloc, mark: Mark, base: u16) -> Placed
     }
 }
 
-// A local of one byte at 08H.
-fn local(title: Name) -> Placed
-    ensures { result ≡ local title }
+// An overlaid byte of DATA.
+fn overlaid(title: Name, base: u16) -> Placed
+    ensures { result ≡ overlaid title base }
 {
     Placed {
         title,
         kind: Kind::Direct,
         reloc: Reloc::Unit,
         mark: Mark::Overlaid,
-        base: 8,
+        base,
         size: 1,
     }
 }
 
-// The parts of a layout of three units: one at the reset's vector, and two that it calls, whose locals share a byte.
+// The parts of that layout.
 fn layout_parts(alloc: Global) -> Result<LayoutParts, NoMemory>
-    ensures { IfOk result (λ parts. parts ≡ sample_layout (title_at 0) [] [] [] []) }
+    ensures { IfOk result (λ parts. parts ≡ sample_layout (title_at 0)) }
 {
     let root = code(Name::at(0), Reloc::Abs, Mark::Absolute, 0);
     let first = code(Name::none(), Reloc::Unit, Mark::Plain, 1);
@@ -50,12 +50,13 @@ fn layout_parts(alloc: Global) -> Result<LayoutParts, NoMemory>
         root,
         first,
         second,
-        local(Name::none()),
-        local(Name::none()),
+        overlaid(Name::none(), 8),
+        overlaid(Name::none(), 8),
+        overlaid(Name::none(), 9),
     ]?;
     let units = vec![in alloc; 0u16, 1, 2]?;
     let edges = vec![in alloc; (0u16, 1u16), (0, 2)]?;
-    let owners = vec![in alloc; (3u16, 1u16), (4, 2)]?;
+    let owners = vec![in alloc; (3u16, 1u16), (4, 2), (5, 1), (5, 0)]?;
     Ok(LayoutParts {
         placed: ListOf::of(placed),
         units: ListOf::of(units),
@@ -64,16 +65,22 @@ fn layout_parts(alloc: Global) -> Result<LayoutParts, NoMemory>
     })
 }
 
-/// A layout of those parts.
-pub(crate) fn layout(alloc: Global) -> Result<Layout, NoMemory>
-    ensures { IfOk result (λ layout. layout ≡ sample_layout (title_at 0) [] [] [] []) }
+/// A layout of three units: one that begins at the reset's vector, and two that it calls, whose locals share the byte
+/// at 08H. The byte at 09H is an argument of the second unit, and belongs to the first one too. An error is want of
+/// memory.
+///
+/// Source: own choice ("Samples").
+pub fn layout(alloc: Global) -> Result<Layout, NoMemory>
+    ensures { IfOk result (λ layout. layout ≡ sample_layout (title_at 0)) }
 {
     let parts = layout_parts(alloc)?;
     Layout::make(alloc, parts)
 }
 
-/// The name that the text writes.
-pub(crate) fn name(text: &[u8]) -> Name
+/// The name that the text writes, in upper case.
+///
+/// Source: own choice ("Samples").
+pub fn name(text: &[u8]) -> Name
     requires { is_name text.now ≡ true }
     ensures { result ≡ map to_ascii_uppercase text.now }
 {
@@ -97,29 +104,30 @@ fn field(offset: u16, target: Base) -> Fixup
     }
 }
 
-// The parts of a module with one instruction of three bytes, whose operands are an external and a byte of its own.
+// The parts of that module.
 fn module_parts(alloc: Global) -> Result<ModuleParts, NoMemory>
     ensures { IfOk result (λ parts. parts ≡ sample_module) }
 {
-    let data_name = name(b"D");
     let code = Segment {
         name: Name::none(),
         kind: Kind::Code,
         reloc: Reloc::Abs,
         overlay: false,
+        argument: false,
         base: 0,
         size: 3,
     };
     let data = Segment {
-        name: data_name,
+        name: name(b"?AG?F"),
         kind: Kind::Direct,
         reloc: Reloc::Unit,
         overlay: true,
+        argument: true,
         base: 0,
         size: 1,
     };
     let public = Public {
-        name: data_name,
+        name: name(b"D"),
         kind: Kind::Direct,
         base: Base::Segment(2),
         number: 0,
@@ -136,6 +144,7 @@ fn module_parts(alloc: Global) -> Result<ModuleParts, NoMemory>
     let fields = vec![in alloc; field(1, Base::External(1)), field(2, Base::Segment(2))]?;
     Ok(ModuleParts {
         name: name(b"M"),
+        version: 2,
         segments: ListOf::of(vec![in alloc; code, data]?),
         publics: ListOf::of(vec![in alloc; public]?),
         externals: ListOf::of(vec![in alloc; external]?),
@@ -145,19 +154,24 @@ fn module_parts(alloc: Global) -> Result<ModuleParts, NoMemory>
     })
 }
 
-/// A module of those parts.
-pub(crate) fn module(alloc: Global) -> Result<Module, NoMemory>
+/// A module in version 2, with one instruction of three bytes, whose operands are an external and an argument of its
+/// own. An error is want of memory.
+///
+/// Source: own choice ("Samples").
+pub fn module(alloc: Global) -> Result<Module, NoMemory>
     ensures { IfOk result (λ made. made ≡ sample_module) }
 {
     let parts = module_parts(alloc)?;
     Ok(Module::make(parts))
 }
 
-/// A module without segments, with one public, a number.
-pub(crate) fn module_with(alloc: Global, name: Name, public: Name) -> Result<Module, NoMemory>
+/// A module in version 1 without segments, with one public, the number 0. An error is want of memory.
+///
+/// Source: own choice ("Samples").
+pub fn module_with(alloc: Global, name: Name, public: Name) -> Result<Module, NoMemory>
     requires name { IsWritten name }
     requires public { IsWritten public }
-    ensures name { IfOk result (λ made. made.name ≡ name) }
+    ensures { IfOk result (λ made. made ≡ public_module name public) }
 {
     let public = Public {
         name: public,
@@ -168,6 +182,7 @@ pub(crate) fn module_with(alloc: Global, name: Name, public: Name) -> Result<Mod
     let publics = ListOf::of(vec![in alloc; public]?);
     Ok(Module::make(ModuleParts {
         name,
+        version: 1,
         segments: ListOf::of(Vec::new(alloc)),
         publics,
         externals: ListOf::of(Vec::new(alloc)),
@@ -175,12 +190,4 @@ pub(crate) fn module_with(alloc: Global, name: Name, public: Name) -> Result<Mod
         fixups: ListOf::of(Vec::new(alloc)),
         banks: 1,
     }))
-}
-
-/// The modules A, B and C, whose publics are P, Q and R.
-pub(crate) fn modules(alloc: Global) -> Result<Vec<Module>, NoMemory> {
-    let first = module_with(alloc, name(b"A"), name(b"P"))?;
-    let second = module_with(alloc, name(b"B"), name(b"Q"))?;
-    let third = module_with(alloc, name(b"C"), name(b"R"))?;
-    Ok(vec![in alloc; first, second, third]?)
 }

@@ -3,7 +3,7 @@ use m51_cells::{Base, Kind, ListOf, Name};
 
 /// A name that other modules may use.
 ///
-/// Source: OMF-51.
+/// Source: own choice ("Valid modules").
 #[derive(Clone, Copy, Debug, PartialEq, Eq)]
 pub struct Public {
     pub name: Name,
@@ -16,7 +16,7 @@ pub struct Public {
 
 /// A name that another module defines.
 ///
-/// Source: OMF-51.
+/// Source: own choice ("Valid modules").
 #[derive(Clone, Copy, Debug, PartialEq, Eq)]
 pub struct External {
     pub name: Name,

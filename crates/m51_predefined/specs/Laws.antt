@@ -1,5 +1,6 @@
 -- What the tables of predefined names promise.
-use Rattle.std.specs.Prelude.{◌≡◌, ◌≢◌, ℕ, ◌+◌, ◌<◌, ◌≤◌, true, false, List, ◌++◌, length, All, Some, None, Ok, map, Contains}
+use Rattle.std.specs.Prelude.{◌≡◌, ◌≢◌, ℕ, ◌+◌, ◌<◌, ◌≤◌, true, false, List, ◌++◌, length, All, Some, None, Ok, map}
+use Rattle.std.specs.Prelude.{Contains}
 use Rattle.std.specs.List.{AllPairs}
 use Rattle.m51_cells.specs.Name.{IsWritten}
 use Rattle.m51_cells.specs.declared.kind.Kind.TheVariants as kind
@@ -45,7 +46,8 @@ pub record HasBits (b : NamedByte) : Type 0 where
   pub register : Contains (map (λ (r : Row). r.address) registers) b.address
   pub eight : length b.names ≡ 8
   pub addresses : (bit : ℕ) → bit < 8 → bit_address b.address bit ≡ Some (b.address + bit)
-  pub dot : (names : Meanings) (bit : ℕ) → bit < 8 → bit_of names (plain b.address kind.Direct) bit ≡ Ok (plain (b.address + bit) kind.Bits)
+  pub dot : (names : Meanings) (bit : ℕ) → bit < 8
+      → bit_of names (plain b.address kind.Direct) bit ≡ Ok (plain (b.address + bit) kind.Bits)
 
 -- all bytes with named bits
 abbrev pub BytesHaveBits : Type 0

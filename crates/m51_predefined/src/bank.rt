@@ -3,19 +3,13 @@ ghost use Rattle.std.specs.Prelude.{◌≡◌, ◌<◌, IfSome, length, position
 ghost use Rattle.std.specs.Str.{bytes_eq};
 ghost use Rattle.m51_predefined.specs.Predefined.{absolute_register_of, register_value};
 
-use crate::names::plain;
 use m51_cells::{Kind, Name};
-use m51_expr::Value;
+use m51_expr::{BANK_REGISTERS, Value, plain};
 
-// The registers of a bank by their names, from register 0 upward.
-const BANK_REGISTERS: [&[u8]; 8] = [
-    b"AR0", b"AR1", b"AR2", b"AR3", b"AR4", b"AR5", b"AR6", b"AR7",
-];
-
-// The place of the word among these, counted from 0.
-fn place_in(words: &[&[u8]], word: &[u8]) -> Option<usize>
-    ensures place { result ≡ position (λ w. bytes_eq w.now word.now) words.now }
-    ensures within { IfSome result (λ place. place < length words.now) }
+// The index of the word among these.
+fn index_in(words: &[&[u8]], word: &[u8]) -> Option<usize>
+    ensures index { result ≡ position (λ w. bytes_eq w.now word.now) words.now }
+    ensures within { IfSome result (λ index. index < length words.now) }
 {
     words.iter().position(|one| *one == word)
 }
@@ -27,12 +21,12 @@ pub fn absolute_register(name: &Name) -> Option<u8>
     ensures register { result ≡ absolute_register_of name.now }
     ensures range { IfSome result (λ register. register < 8) }
 {
-    let place = place_in(&BANK_REGISTERS, name.bytes())?;
-    Some(place as u8)
+    let index = index_in(&BANK_REGISTERS, name.bytes())?;
+    Some(index as u8)
 }
 
-/// The direct address of a register, 0 to 7, of a bank, 0 to 3, as the value of `AR0` to `AR7`: 8 times the bank plus the
-/// register, of class DATA and without a base.
+/// The direct address of a register, 0 to 7, of a bank, 0 to 3, as the value of `AR0` to `AR7`: 8 times the bank plus
+/// the register, of class DATA and without a base.
 ///
 /// Source: ASM51 guide.
 pub fn register_value(bank: u8, register: u8) -> Value

@@ -1,5 +1,6 @@
 //! What the tables of predefined names promise. Each law is the contract of a function that does nothing.
-ghost use Rattle.m51_predefined.specs.Laws.{NamesDiffer, AddressesDiffer, NamesAreFree, RowsAreRead, ReservedStandForNothing, BytesHaveBits};
+ghost use Rattle.m51_predefined.specs.Laws.{NamesDiffer, AddressesDiffer, NamesAreFree, RowsAreRead};
+ghost use Rattle.m51_predefined.specs.Laws.{ReservedStandForNothing, BytesHaveBits};
 
 /// No two predefined names are the same.
 ///

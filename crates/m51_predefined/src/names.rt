@@ -1,30 +1,14 @@
 //! What names stand for before any definition of a module.
 ghost use Rattle.std.specs.Prelude.{◌≡◌};
-ghost use Rattle.m51_cells.specs.declared.kind.Base.TheVariants as base;
-ghost use Rattle.m51_expr.specs.Value.{plain};
 ghost use Rattle.m51_predefined.specs.Predefined.{predefined_of};
 
 use crate::tables::{bit_named, register_named};
-use m51_cells::{Base, Kind, Name};
-use m51_expr::{Part, Value};
-
-/// A number without a base.
-///
-/// Source: own choice ("Values with a base").
-pub(crate) fn plain(number: u16, class: Kind) -> Value
-    ensures { result ≡ plain number class }
-{
-    Value {
-        number,
-        class,
-        base: Base::None,
-        part: Part::Whole,
-    }
-}
+use m51_cells::{Kind, Name};
+use m51_expr::{Value, plain};
 
 /// What a name stands for before any definition of the module: a special function register of the 8052 is its direct
-/// address, from 80H, of class DATA; a named bit is its bit address, of class BIT; both are numbers without a base. `None`
-/// for each other name. No reserved word is predefined, nor is `AR0` to `AR7`.
+/// address, from 80H, of class DATA; a named bit is its bit address, of class BIT; both are numbers without a base.
+/// `None` for each other name. No reserved word is predefined, nor is `AR0` to `AR7`.
 ///
 /// Source: family manual.
 pub fn predefined(name: &Name) -> Option<Value>

@@ -110,8 +110,6 @@ fn address_in(rows: &[Row], name: &[u8]) -> Option<u8>
 }
 
 /// The direct address of the special function register of this name.
-///
-/// Source: family manual.
 #[tactic(auto, unfolding(crate::specs::Registers::registers))]
 pub(crate) fn register_named(name: &[u8]) -> Option<u8>
     ensures { result ≡ address_in registers name.now }
@@ -120,8 +118,6 @@ pub(crate) fn register_named(name: &[u8]) -> Option<u8>
 }
 
 /// The bit address of the bit of this name.
-///
-/// Source: family manual.
 #[tactic(auto, unfolding(crate::specs::Bits::bits, crate::specs::Bits::named_bytes))]
 pub(crate) fn bit_named(name: &[u8]) -> Option<u8>
     ensures { result ≡ address_in bits name.now }

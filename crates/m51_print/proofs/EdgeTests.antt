@@ -3,16 +3,11 @@ use Rattle.std.proofs.Common.{◌≡◌, ℕ, Bool, true, false, slice_index_or,
 use Rattle.std.specs.Prelude.{◌==◌, ◌&&◌, IsTrue, ◌↔◌}
 use Rattle.std.specs.Cmp.Derive.{both_true}
 use Rattle.std.specs.List.{Any}
-use Rattle.std.proofs.lemmas.Bool.{eq-eqb, eqb-true}
+use Rattle.std.proofs.lemmas.Bool.{and_parts, eq-eqb, eqb-true}
 use Rattle.std.proofs.lemmas.Bool.Decides.{same_from_decides}
 use Rattle.std.proofs.lemmas.List.Folds.{Any-from_list_any, list_any-from_Any}
 use Rattle.m51_module.specs.Walks.{Edges, HasEdge}
 use Rattle.m51_print.specs.Map.{has_edge}
-
--- a conjunction that is true has true parts
-both : (a b : Bool) → (a && b) ≡ true → (a ≡ true) × (b ≡ true)
-both true b h = (refl, h)
-both false b h = absurd (cc h)
 
 -- a pair is its two parts
 pair_is : (edge : ℕ × ℕ) (from to : ℕ) → edge.0 ≡ from → edge.1 ≡ to → edge ≡ (from, to)
@@ -22,7 +17,7 @@ edge_from_test : (edges : Edges) (from to : ℕ) → has_edge edges from to ≡ 
 edge_from_test edges from to h = there (Any-from_list_any _ edges h) where
   there : Any (λ (edge : ℕ × ℕ). ((edge.0 == from) && (edge.1 == to)) ≡ true) edges → HasEdge edges from to
   there (k, edge, below, at, is) =
-      let parts = both (edge.0 == from) (edge.1 == to) is in
+      let parts = and_parts (edge.0 == from) (edge.1 == to) is in
       let e = pair_is edge from to (eqb-true edge.0 from parts.0) (eqb-true edge.1 to parts.1) in
       (k, below, subst (λ (p : ℕ × ℕ). slice_index_or edges k p ≡ p) e at)
 

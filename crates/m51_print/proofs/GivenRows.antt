@@ -3,17 +3,17 @@ use Rattle.std.proofs.Common.{◌≡◌, ℕ, ◌<◌, ◌≤◌, List, [], ◌�
 use Rattle.std.specs.Prelude.{All}
 use Rattle.std.specs.List.{slice_index_or}
 use Rattle.std.proofs.lemmas.List.Elements.{All-cons, All-nil}
-use Rattle.m51_lines.specs.Lines.{lines_of}
+use Rattle.std.specs.Str.Lines.{lines}
 use Rattle.m51_module.specs.declared.source.Row.{Row}
 use Rattle.m51_module.specs.declared.source.SourceFile.{SourceFile}
 use Rattle.m51_print.specs.Listing.{IsRowOf, AreOf}
 
 -- rows of a source and one include
 pub are_of_texts : (source include : SourceFile) (rows given : List Row) (text more : List ℕ) → source.bytes ≡ text → include.bytes ≡ more → rows ≡ given
-    → All (IsRowOf (lines_of text ∷ lines_of more ∷ [])) given → AreOf source (include ∷ []) rows
+    → All (IsRowOf (lines text ∷ lines more ∷ [])) given → AreOf source (include ∷ []) rows
 are_of_texts source include rows given text more is_text is_more is_given each =
-    let files = ap (λ a. lines_of a ∷ lines_of include.bytes ∷ []) is_text ∙ ap (λ b. lines_of text ∷ lines_of b ∷ []) is_more in
-    record { each = subst (λ f. All (IsRowOf f) rows) (sym files) (subst (λ r. All (IsRowOf (lines_of text ∷ lines_of more ∷ [])) r) (sym is_given) each) }
+    let files = ap (λ a. lines a ∷ lines include.bytes ∷ []) is_text ∙ ap (λ b. lines text ∷ lines b ∷ []) is_more in
+    record { each = subst (λ f. All (IsRowOf f) rows) (sym files) (subst (λ r. All (IsRowOf (lines text ∷ lines more ∷ [])) r) (sym is_given) each) }
 
 -- a row of this file, line and count
 pub is_row : (files : List (List (List ℕ))) (row : Row) (file line count : ℕ) → row.file ≡ file → row.line ≡ line → row.count ≡ count

@@ -9,7 +9,9 @@ use Rattle.m51_cells.specs.declared.event.Event.TheVariants.{Transfer, Outside, 
 use Rattle.m51_cells.specs.declared.event.Entry.{Entry}
 use Rattle.m51_cells.specs.declared.event.Entry.TheVariants.{Port, Sent}
 use Rattle.m51_cells.specs.declared.event.Why.{Why}
-use Rattle.m51_cells.specs.declared.event.Why.TheVariants.{NoUnit, NoEdge, NotCalled, WrongAddress, SpMoved, SpBelow, NoHandler, RootBusy, PastEnd}
+use Rattle.m51_cells.specs.declared.event.Why.TheVariants.{NoUnit, NoEdge, NotCalled, WrongAddress, SpMoved, SpBelow}
+use Rattle.m51_cells.specs.declared.event.Why.TheVariants.{NoHandler, RootBusy, PastEnd}
+use Rattle.m51_cells.specs.Cells.{IsDataCell}
 use Rattle.m51_cells.specs.Hex.{hex2, hex4}
 use Rattle.m51_module.specs.declared.placed.Placed.{Placed}
 
@@ -21,7 +23,8 @@ ninth_text (Some true) = codes " 1"
 
 -- the line of an entry
 abbrev pub entry_line : Entry → List ℕ
-entry_line (Port cycle port value) = decimal cycle ++ codes " P" ++ decimal port ++ codes " " ++ hex2 value ++ codes "\n"
+entry_line (Port cycle port value) =
+    decimal cycle ++ codes " P" ++ decimal port ++ codes " " ++ hex2 value ++ codes "\n"
 entry_line (Sent cycle byte ninth) = decimal cycle ++ codes " TX " ++ hex2 byte ++ ninth_text ninth ++ codes "\n"
 
 -- a reason in capitals
@@ -36,13 +39,7 @@ why_text NoHandler = codes "NOHANDLER"
 why_text RootBusy = codes "ROOTBUSY"
 why_text PastEnd = codes "PASTEND"
 
--- the cell is a bit of internal RAM or a byte of external data memory
-abbrev pub IsDataCell : Space → ℕ → Type 0
-IsDataCell Ram at = at < 2048
-IsDataCell Xram at = at < 65536
-IsDataCell Code at = ⊥
-
--- such a cell: the byte and the bit of internal RAM, or the address; program memory has no such cell
+-- a cell: the byte and the bit of internal RAM, or the address; never asked of program memory, which events do not name
 abbrev pub cell_text : Space → ℕ → List ℕ
 cell_text Ram at = codes "D:" ++ hex2 (at / 8) ++ codes "." ++ decimal (at % 8)
 cell_text Xram at = codes "X:" ++ hex4 at
@@ -58,17 +55,20 @@ title_of titles segment = slice_index_or titles segment []
 
 -- an event
 abbrev pub event_text : List (List ℕ) → Event → List ℕ
-event_text titles (Transfer why leaves target) = codes "EVENT V1 " ++ why_text why ++ codes " FROM " ++ hex4 leaves ++ codes " TO " ++ hex4 target
+event_text titles (Transfer why leaves target) =
+    codes "EVENT V1 " ++ why_text why ++ codes " FROM " ++ hex4 leaves ++ codes " TO " ++ hex4 target
 event_text titles (Outside cell at) = codes "EVENT V2 " ++ cell_text cell.space cell.at ++ codes " AT " ++ hex4 at
-event_text titles (Unwritten cell segment at) = codes "EVENT V3 " ++ cell_text cell.space cell.at ++ codes " IN " ++ title_of titles segment ++ codes " AT " ++ hex4 at
+event_text titles (Unwritten cell segment at) =
+    codes "EVENT V3 " ++ cell_text cell.space cell.at ++ codes " IN " ++ title_of titles segment
+    ++ codes " AT " ++ hex4 at
 event_text titles (Reserved at) = codes "EVENT V4 AT " ++ hex4 at
 event_text titles (PowerDown at) = codes "EVENT V5 AT " ++ hex4 at
 
 -- what an event names has a text, where so many extents are placed
 abbrev pub HasText : ℕ → Event → Type 0
 HasText count (Transfer why leaves target) = Unit {0}
-HasText count (Outside cell at) = IsDataCell cell.space cell.at
-HasText count (Unwritten cell segment at) = IsDataCell cell.space cell.at × (segment < count)
+HasText count (Outside cell at) = IsDataCell cell
+HasText count (Unwritten cell segment at) = IsDataCell cell × (segment < count)
 HasText count (Reserved at) = Unit {0}
 HasText count (PowerDown at) = Unit {0}
 

@@ -1,9 +1,10 @@
 -- The listing of a source: a line for each row. File 0 is the source, file k the k-th include.
-use Rattle.std.specs.Prelude.{ℕ, ◌-◌, ◌<◌, ◌≤◌, Bool, true, false, List, [], ◌∷◌, ◌++◌, map, flat_map, length, take, replicate, Option, Some, None, codes, All}
+use Rattle.std.specs.Prelude.{ℕ, ◌-◌, ◌<◌, ◌≤◌, Bool, true, false, List, [], ◌∷◌, ◌++◌, map, flat_map, length, take}
+use Rattle.std.specs.Prelude.{replicate, Option, Some, None, codes, All}
 use Rattle.std.specs.List.{slice_index_or}
 use Rattle.std.specs.Fmt.{decimal}
 use Rattle.m51_cells.specs.Hex.{hex2, hex4}
-use Rattle.m51_lines.specs.Lines.{lines_of}
+use Rattle.std.specs.Str.Lines.{lines}
 use Rattle.m51_module.specs.declared.source.Row.{Row}
 use Rattle.m51_module.specs.declared.source.SourceFile.{SourceFile}
 
@@ -35,7 +36,9 @@ content row = take row.count row.bytes
 
 -- the line of a row, before the text of its line
 unfoldable pub row_front : Row → List ℕ
-row_front row = right_in 5 (decimal row.line) ++ codes " " ++ place_text row.place ++ codes " " ++ left_in 6 (flat_map hex2 (content row)) ++ fixup_sign row.marked ++ codes " "
+row_front row =
+    right_in 5 (decimal row.line) ++ codes " " ++ place_text row.place ++ codes " "
+    ++ left_in 6 (flat_map hex2 (content row)) ++ fixup_sign row.marked ++ codes " "
 
 -- the line of a row and of the text of its line
 unfoldable pub row_line : Row → List ℕ → List ℕ
@@ -43,7 +46,7 @@ row_line row text = row_front row ++ text ++ codes "\n"
 
 -- the lines of each file, the source first
 abbrev pub lines_of_files : SourceFile → List SourceFile → List (List (List ℕ))
-lines_of_files source includes = map (λ file. lines_of file.bytes) (source ∷ includes)
+lines_of_files source includes = map (λ file. lines file.bytes) (source ∷ includes)
 
 -- the text of the line that a row names
 abbrev pub line_text : List (List (List ℕ)) → Row → List ℕ

@@ -1,5 +1,6 @@
 -- The map of a layout: its placed extents, its units, the heaviest chains, and the bytes in use.
-use Rattle.std.specs.Prelude.{ℕ, ◌+◌, ◌/◌, ◌%◌, ◌<◌, ◌==◌, ◌&&◌, nat_le, nat_lt, Bool, true, false, if◌then◌else◌, List, [], ◌∷◌, ◌++◌, map, length, slice_index, codes, All, flat_map, count_by}
+use Rattle.std.specs.Prelude.{ℕ, ◌+◌, ◌/◌, ◌%◌, ◌<◌, ◌==◌, ◌&&◌, nat_le, nat_lt, Bool, true, false, if◌then◌else◌, List}
+use Rattle.std.specs.Prelude.{[], ◌∷◌, ◌++◌, map, length, slice_index, codes, All, flat_map, count_by}
 use Rattle.std.specs.List.{filter, range_with_len, list_any}
 use Rattle.std.specs.Fmt.{decimal}
 use Rattle.m51_cells.specs.declared.kind.Kind.{Kind}
@@ -34,7 +35,9 @@ mark_text Overlaid = codes "O"
 
 -- the line of a placed extent: kind, base, size, mark and title
 unfoldable pub segment_line : Placed → List ℕ
-segment_line p = kind_text p.kind ++ codes " " ++ hex4 p.base ++ codes " " ++ hex4 p.size ++ codes " " ++ mark_text p.mark ++ codes " " ++ p.title ++ codes "\n"
+segment_line p =
+    kind_text p.kind ++ codes " " ++ hex4 p.base ++ codes " " ++ hex4 p.size ++ codes " " ++ mark_text p.mark
+    ++ codes " " ++ p.title ++ codes "\n"
 
 -- a name after a comma
 abbrev pub after_comma : List ℕ → List ℕ
@@ -48,7 +51,8 @@ listed (name ∷ more) = name ++ flat_map after_comma more
 -- those of the vectors whose bits are set: the lowest bit is that of the first vector
 abbrev pub roots_among : ℕ → List ℕ → List ℕ
 roots_among byte [] = []
-roots_among byte (vector ∷ more) = if byte % 2 == 1 then vector ∷ roots_among (byte / 2) more else roots_among (byte / 2) more
+roots_among byte (vector ∷ more) =
+    if byte % 2 == 1 then vector ∷ roots_among (byte / 2) more else roots_among (byte / 2) more
 
 -- the titles of the roots of a byte
 unfoldable pub root_titles : ℕ → List (List ℕ)
@@ -68,28 +72,31 @@ targets_of l unit = filter (has_edge l.edges unit) (range_with_len 0 (length l.u
 
 -- the line of a unit: the roots under which it lies, and the titles of the units to which an edge leads
 unfoldable pub unit_line : List ℕ → ℕ → List (List ℕ) → List ℕ
-unit_line title roots targets = title ++ codes " FROM " ++ listed (root_titles roots) ++ codes " TO " ++ listed targets ++ codes "\n"
+unit_line title roots targets =
+    title ++ codes " FROM " ++ listed (root_titles roots) ++ codes " TO " ++ listed targets ++ codes "\n"
 
 -- the line of the unit of that number
 unfoldable pub line_of_unit : LayoutParts → List ℕ → ℕ → List ℕ
-line_of_unit l roots unit = unit_line (unit_title l unit) (slice_index roots unit) (map (unit_title l) (targets_of l unit))
+line_of_unit l roots unit =
+    unit_line (unit_title l unit) (slice_index roots unit) (map (unit_title l) (targets_of l unit))
 
 -- the line of a chain: its root, its bytes and its units
 unfoldable pub chain_line : List ℕ → ℕ → List (List ℕ) → List ℕ
-chain_line root bytes units = codes "CHAIN " ++ root ++ codes " " ++ decimal bytes ++ codes " " ++ listed units ++ codes "\n"
+chain_line root bytes units =
+    codes "CHAIN " ++ root ++ codes " " ++ decimal bytes ++ codes " " ++ listed units ++ codes "\n"
 
 -- the line of a chain of this layout
 unfoldable pub line_of_chain : LayoutParts → Chain → List ℕ
 line_of_chain l chain = chain_line (unit_title l chain.root) chain.bytes (map (unit_title l) chain.units)
 
--- the extent is an overlaid segment of DATA
-abbrev pub is_overlaid_data : Mark → Kind → Bool
-is_overlaid_data Overlaid Direct = true
-is_overlaid_data mark kind = false
+-- an extent of this mark and kind is an overlaid segment of DATA, of any type
+abbrev pub is_overlaid_in_data : Mark → Kind → Bool
+is_overlaid_in_data Overlaid Direct = true
+is_overlaid_in_data mark kind = false
 
--- it is one, and covers the byte at this address of internal RAM
+-- the extent is an overlaid segment of DATA that covers the byte at this address of internal RAM
 abbrev pub overlays : ℕ → Placed → Bool
-overlays address p = is_overlaid_data p.mark p.kind && nat_le p.base address && nat_lt address (p.base + p.size)
+overlays address p = is_overlaid_in_data p.mark p.kind && nat_le p.base address && nat_lt address (p.base + p.size)
 
 -- how many of the first addresses of internal RAM lie in some overlaid segment of DATA
 unfoldable pub overlaid_below : List Placed → ℕ → ℕ

@@ -3,9 +3,11 @@ use Rattle.std.specs.Prelude.{ℕ, List, [], ◌++◌, codes, flat_map}
 use Rattle.std.specs.Fmt.{decimal}
 use Rattle.m51_cells.specs.Hex.{hex4}
 use Rattle.m51_module.specs.declared.linked.Quantity.{Quantity}
-use Rattle.m51_module.specs.declared.linked.Quantity.TheVariants.{Files, Bytes, ControlLines, ScriptLines, Modules, Segments, Units}
+use Rattle.m51_module.specs.declared.linked.Quantity.TheVariants.{Files, Bytes, ControlLines, ScriptLines, Modules}
+use Rattle.m51_module.specs.declared.linked.Quantity.TheVariants.{Segments, Units}
 use Rattle.m51_module.specs.declared.linked.Refusal.{Refusal}
-use Rattle.m51_module.specs.declared.linked.Refusal.TheVariants.{L0, L1, L2, L3, L4, L5, L6, L7, L8, L9, L10, L11, L12, L13, Limit, Memory}
+use Rattle.m51_module.specs.declared.linked.Refusal.TheVariants.{L0, L1, L2, L3, L4, L5, L6, L7, L8, L9, L10, L11, L12}
+use Rattle.m51_module.specs.declared.linked.Refusal.TheVariants.{L13, Limit, Memory}
 
 -- a name after a blank
 abbrev pub after_blank : List ℕ → List ℕ
@@ -21,7 +23,7 @@ limit_text Modules = codes "MODULES 255"
 limit_text Segments = codes "SEGMENTS 2000"
 limit_text Units = codes "UNITS 1000"
 
--- a refusal: its number and the names, each after a blank; want of memory has no text
+-- a refusal: its number and the names, each after a blank; never asked of out of memory, which has no text
 abbrev pub refusal_words : Refusal → List ℕ
 refusal_words L0 = codes "LINK L0"
 refusal_words (L1 name) = codes "LINK L1" ++ after_blank name

@@ -1,7 +1,9 @@
 //! The lines of a record: one for each entry, and the last one.
 ghost use Rattle.std.specs.Prelude.{◌≡◌, ◌≤◌, ◌+◌, ◌++◌, ◌<◌, length, take, option_copied};
 ghost use Rattle.std.specs.Option.{ForSome};
-ghost use Rattle.m51_print.specs.Lines.{entry_line, why_text, cell_text, titles_of, title_of, IsDataCell, event_text, HasText, counts_text, last_line};
+ghost use Rattle.m51_cells.specs.Cells.{IsDataCell};
+ghost use Rattle.m51_print.specs.Lines.{entry_line, why_text, cell_text, titles_of, title_of, event_text, HasText};
+ghost use Rattle.m51_print.specs.Lines.{counts_text, last_line};
 
 use crate::putting::{put, put_decimal, put_digit, put_hex2, put_hex4};
 use m51_cells::{Cell, Entry, Event, Space, Why};
@@ -58,7 +60,7 @@ fn why_text(why: Why) -> &'static [u8]
 // Puts a cell of internal RAM or of external data memory.
 fn put_cell(into: &mut [u8; 128], at: usize, cell: Cell) -> usize
     requires room { at + 6 ≤ 128 }
-    requires place { IsDataCell cell.space cell.at }
+    requires place { IsDataCell cell }
     ensures bound { result ≤ at + 6 }
     ensures written { take result into.new ≡ take at into.old ++ cell_text cell.space cell.at }
 {
@@ -143,8 +145,8 @@ fn put_counts(into: &mut [u8; 128], at: usize, steps: u32, cycles: u64) -> usize
     put(into, at, b" CYCLES\n")
 }
 
-/// Writes the last line of a record into the front of the array, and answers its length, line feed included. The segment
-/// of an event is one of the placed extents, and its cell one of internal RAM or of external data memory.
+/// Writes the last line of a record into the front of the array, and answers its length, line feed included. The
+/// segment of an event is one of the placed extents, and its cell one of internal RAM or of external data memory.
 ///
 /// Source: own choice ("Texts").
 pub fn end_line(

@@ -1,6 +1,8 @@
 //! The map of a layout.
 ghost use Rattle.std.specs.Prelude.{◌≡◌, ◌<◌, ◌++◌, OnOk, IfOk, map, flat_map, length, slice_index, All};
-ghost use Rattle.m51_print.specs.Map.{kind_text, mark_text, segment_line, unit_title, root_titles, targets_of, unit_line, line_of_unit, unit_lines, chain_line, line_of_chain, NamesUnits, overlaid_line, image_line, map_of};
+ghost use Rattle.m51_print.specs.Map.{kind_text, mark_text, segment_line, unit_title, root_titles, targets_of};
+ghost use Rattle.m51_print.specs.Map.{unit_line, line_of_unit, unit_lines, chain_line, line_of_chain, NamesUnits};
+ghost use Rattle.m51_print.specs.Map.{overlaid_line, image_line, map_of};
 
 use crate::overlaid::overlaid_below;
 use crate::pushing::{push_decimal, push_hex4, push_text};
@@ -54,9 +56,7 @@ fn push_segment(text: &mut Vec<u8>, placed: &Placed) -> Result<(), NoMemory>
 }
 
 /// Appends the lines of the placed extents.
-///
-/// Source: own choice ("Texts").
-pub fn push_segments(text: &mut Vec<u8>, placed: &[Placed]) -> Result<(), NoMemory>
+pub(crate) fn push_segments(text: &mut Vec<u8>, placed: &[Placed]) -> Result<(), NoMemory>
     ensures { OnOk result (text.new.items ≡ text.old.items ++ flat_map segment_line placed.now) }
 {
     for extent in placed {
@@ -66,10 +66,8 @@ pub fn push_segments(text: &mut Vec<u8>, placed: &[Placed]) -> Result<(), NoMemo
 }
 
 /// Appends the line of a unit.
-///
-/// Source: own choice ("Texts").
 #[tactic(auto, unfolding(crate::specs::Map::unit_line))]
-pub fn push_unit_line(
+pub(crate) fn push_unit_line(
     text: &mut Vec<u8>,
     alloc: Global,
     title: &Name,
@@ -118,7 +116,8 @@ fn push_units(
     roots: &[u8],
 ) -> Result<(), NoMemory>
     requires { length roots.now ≡ length layout.now.units }
-    ensures { OnOk result (text.new.items ≡ text.old.items ++ unit_lines layout.now roots.now (length layout.now.units)) }
+    ensures { OnOk result (text.new.items
+        ≡ text.old.items ++ unit_lines layout.now roots.now (length layout.now.units)) }
 {
     for unit in 0..layout.units().len() {
         push_unit(text, alloc, layout, roots, unit as u16)?;
@@ -127,10 +126,8 @@ fn push_units(
 }
 
 /// Appends the line of a chain.
-///
-/// Source: own choice ("Texts").
 #[tactic(auto, unfolding(crate::specs::Map::chain_line))]
-pub fn push_chain_line(
+pub(crate) fn push_chain_line(
     text: &mut Vec<u8>,
     root: &Name,
     bytes: u32,
@@ -196,9 +193,9 @@ fn push_image(text: &mut Vec<u8>, bytes: u32) -> Result<(), NoMemory>
     push_text(text, b" BYTES\n")
 }
 
-/// The map of a layout, from the line `SEGMENTS` to the line of the image's bytes. There is a byte of roots for each unit:
-/// bit 0 is set where it lies under the root at 0000H, and bits 1 to 6 are for the interrupts in order. The chains name
-/// units of the layout. `bytes` is how many bytes content fills.
+/// The map of a layout, from the line `SEGMENTS` to the line of the image's bytes. There is a byte of roots for each
+/// unit: bit 0 is set where it lies under the root at 0000H, and bits 1 to 6 are for the interrupts in order. The
+/// chains name units of the layout. `bytes` is how many bytes content fills.
 ///
 /// Source: own choice ("Texts").
 #[tactic(auto, unfolding(crate::specs::Map::map_of))]

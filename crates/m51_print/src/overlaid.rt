@@ -1,14 +1,14 @@
 //! The bytes of internal RAM that overlaid segments of DATA cover.
 ghost use Rattle.std.specs.Prelude.{◌≡◌, ◌≤◌, count_by};
 ghost use Rattle.std.specs.List.{list_any, range_with_len};
-ghost use Rattle.m51_print.specs.Map.{is_overlaid_data, overlays, overlaid_below};
+ghost use Rattle.m51_print.specs.Map.{is_overlaid_in_data, overlays, overlaid_below};
 
 use m51_cells::Kind;
 use m51_module::{Mark, Placed};
 
-// Whether an extent of this mark and kind is an overlaid segment of DATA.
-fn is_overlaid_data(mark: Mark, kind: Kind) -> bool
-    ensures { result ≡ is_overlaid_data mark kind }
+// Whether an extent of this mark and kind is an overlaid segment of DATA, of any type.
+fn is_overlaid_in_data(mark: Mark, kind: Kind) -> bool
+    ensures { result ≡ is_overlaid_in_data mark kind }
 {
     match (mark, kind) {
         (Mark::Overlaid, Kind::Direct) => true,
@@ -16,17 +16,17 @@ fn is_overlaid_data(mark: Mark, kind: Kind) -> bool
     }
 }
 
-// Whether the extent is one and covers the byte at this address.
+// Whether the extent is an overlaid segment of DATA that covers the byte at this address.
 fn overlays(address: u32, placed: &Placed) -> bool
     ensures { result ≡ overlays address placed.now }
 {
     let base = u32::from(placed.base);
-    is_overlaid_data(placed.mark, placed.kind)
+    is_overlaid_in_data(placed.mark, placed.kind)
         && base <= address
         && address < base + u32::from(placed.size)
 }
 
-// Whether some extent does.
+// Whether some overlaid segment of DATA covers the byte at this address.
 fn is_overlaid(address: u32, placed: &[Placed]) -> bool
     ensures { result ≡ list_any (overlays address) placed.now }
 {
@@ -34,10 +34,8 @@ fn is_overlaid(address: u32, placed: &[Placed]) -> bool
 }
 
 /// How many of the first addresses of internal RAM lie in some overlaid segment of DATA.
-///
-/// Source: own choice ("Texts").
-#[tactic(auto, using(crate::proofs::Steps::none_overlaid, crate::proofs::Steps::overlaid_yes, crate::proofs::Steps::overlaid_no))]
-pub fn overlaid_below(placed: &[Placed], count: u32) -> u32
+#[tactic(auto, using(crate::proofs::Steps::overlaid_steps))]
+pub(crate) fn overlaid_below(placed: &[Placed], count: u32) -> u32
     ensures count { result ≡ overlaid_below placed.now count }
     ensures bound { result ≤ count }
 {

@@ -7,9 +7,7 @@ use crate::putting::{put_decimal, put_hex2, put_hex4};
 use m51_cells::NoMemory;
 
 /// Appends bytes.
-///
-/// Source: own choice ("Texts").
-pub fn push_text(text: &mut Vec<u8>, more: &[u8]) -> Result<(), NoMemory>
+pub(crate) fn push_text(text: &mut Vec<u8>, more: &[u8]) -> Result<(), NoMemory>
     ensures { OnOk result (text.new.items ≡ text.old.items ++ more.now) }
 {
     text.extend_from_slice(more)?;
@@ -17,9 +15,7 @@ pub fn push_text(text: &mut Vec<u8>, more: &[u8]) -> Result<(), NoMemory>
 }
 
 /// Appends a number in decimal.
-///
-/// Source: own choice ("Texts").
-pub fn push_decimal(text: &mut Vec<u8>, number: u64) -> Result<(), NoMemory>
+pub(crate) fn push_decimal(text: &mut Vec<u8>, number: u64) -> Result<(), NoMemory>
     ensures { OnOk result (text.new.items ≡ text.old.items ++ decimal number) }
 {
     let mut digits = [0; 128];
@@ -28,9 +24,7 @@ pub fn push_decimal(text: &mut Vec<u8>, number: u64) -> Result<(), NoMemory>
 }
 
 /// Appends the two digits of a byte.
-///
-/// Source: own choice ("Texts").
-pub fn push_hex2(text: &mut Vec<u8>, byte: u8) -> Result<(), NoMemory>
+pub(crate) fn push_hex2(text: &mut Vec<u8>, byte: u8) -> Result<(), NoMemory>
     ensures { OnOk result (text.new.items ≡ text.old.items ++ hex2 byte) }
 {
     let mut digits = [0; 128];
@@ -39,9 +33,7 @@ pub fn push_hex2(text: &mut Vec<u8>, byte: u8) -> Result<(), NoMemory>
 }
 
 /// Appends the four digits of an address or a size.
-///
-/// Source: own choice ("Texts").
-pub fn push_hex4(text: &mut Vec<u8>, number: u16) -> Result<(), NoMemory>
+pub(crate) fn push_hex4(text: &mut Vec<u8>, number: u16) -> Result<(), NoMemory>
     ensures { OnOk result (text.new.items ≡ text.old.items ++ hex4 number) }
 {
     let mut digits = [0; 128];

@@ -1,12 +1,12 @@
 //! Texts and numbers put into the array of a line.
-ghost use Rattle.std.specs.Prelude.{◌≡◌, ◌≤◌, ◌+◌, ◌++◌, ◌<◌, true, length, take};
-ghost use Rattle.std.specs.Fmt.{decimal, digit_glyph};
+ghost use Rattle.std.specs.Prelude.{◌≡◌, ◌≤◌, ◌+◌, ◌++◌, ◌<◌, length, take};
+ghost use Rattle.std.specs.Fmt.{decimal};
 ghost use Rattle.m51_cells.specs.Hex.{hex2, hex4};
 
-/// Puts the bytes behind the first `at` of the line, and answers where they end.
-///
-/// Source: own choice ("Texts of a run").
-pub fn put(into: &mut [u8; 128], at: usize, bytes: &[u8]) -> usize
+use m51_cells::{hex2, hex4};
+
+/// Puts the bytes after the first `at` of the line, and answers where they end.
+pub(crate) fn put(into: &mut [u8; 128], at: usize, bytes: &[u8]) -> usize
     requires { at + length bytes.now ≤ 128 }
     ensures end { result ≡ at + length bytes.now }
     ensures written { take result into.new ≡ take at into.old ++ bytes.now }
@@ -31,9 +31,7 @@ fn put_digits(into: &mut [u8; 128], at: usize, number: u64) -> usize
 }
 
 /// Puts a number in decimal, which takes up to 20 digits.
-///
-/// Source: own choice ("Texts of a run").
-pub fn put_decimal(into: &mut [u8; 128], at: usize, number: u64) -> usize
+pub(crate) fn put_decimal(into: &mut [u8; 128], at: usize, number: u64) -> usize
     requires { at + 20 ≤ 128 }
     ensures bound { result ≤ at + 20 }
     ensures written { take result into.new ≡ take at into.old ++ decimal number }
@@ -42,10 +40,8 @@ pub fn put_decimal(into: &mut [u8; 128], at: usize, number: u64) -> usize
 }
 
 /// Puts a number below 10.
-///
-/// Source: own choice ("Texts of a run").
 #[tactic(auto, using(std::proofs::lemmas::Fmt::decimal_digit))]
-pub fn put_digit(into: &mut [u8; 128], at: usize, digit: u8) -> usize
+pub(crate) fn put_digit(into: &mut [u8; 128], at: usize, digit: u8) -> usize
     requires digit { digit < 10 }
     requires room { at + 1 ≤ 128 }
     ensures end { result ≡ at + 1 }
@@ -54,39 +50,20 @@ pub fn put_digit(into: &mut [u8; 128], at: usize, digit: u8) -> usize
     put(into, at, &[b'0' + digit])
 }
 
-/// The hexadecimal digit of a number below 16, in upper case.
-///
-/// Source: own choice ("Texts of a run").
-pub fn hex_digit(number: u8) -> u8
-    requires { number < 16 }
-    ensures { result ≡ digit_glyph true number }
-{
-    if number < 10 {
-        b'0' + number
-    } else {
-        b'A' + (number - 10)
-    }
-}
-
 /// Puts the two digits of a byte.
-///
-/// Source: own choice ("Texts of a run").
-pub fn put_hex2(into: &mut [u8; 128], at: usize, byte: u8) -> usize
+pub(crate) fn put_hex2(into: &mut [u8; 128], at: usize, byte: u8) -> usize
     requires { at + 2 ≤ 128 }
     ensures end { result ≡ at + 2 }
     ensures written { take result into.new ≡ take at into.old ++ hex2 byte }
 {
-    put(into, at, &[hex_digit(byte / 16), hex_digit(byte % 16)])
+    put(into, at, &hex2(byte))
 }
 
 /// Puts the four digits of an address.
-///
-/// Source: own choice ("Texts of a run").
-pub fn put_hex4(into: &mut [u8; 128], at: usize, number: u16) -> usize
+pub(crate) fn put_hex4(into: &mut [u8; 128], at: usize, number: u16) -> usize
     requires { at + 4 ≤ 128 }
     ensures end { result ≡ at + 4 }
     ensures written { take result into.new ≡ take at into.old ++ hex4 number }
 {
-    let middle = put_hex2(into, at, (number / 256) as u8);
-    put_hex2(into, middle, (number % 256) as u8)
+    put(into, at, &hex4(number))
 }

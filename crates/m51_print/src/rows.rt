@@ -2,7 +2,8 @@
 ghost use Rattle.std.specs.Prelude.{◌≡◌, ◌≤◌, ◌++◌, OnOk, flat_map, length};
 ghost use Rattle.std.specs.Fmt.{decimal};
 ghost use Rattle.m51_cells.specs.Hex.{hex2};
-ghost use Rattle.m51_print.specs.Listing.{blanks, right_in, left_in, place_text, fixup_sign, content, row_front, row_line};
+ghost use Rattle.m51_print.specs.Listing.{blanks, right_in, left_in, place_text, fixup_sign, content, row_front};
+ghost use Rattle.m51_print.specs.Listing.{row_line};
 
 use crate::pushing::{push_hex2, push_hex4, push_text};
 use crate::putting::put_decimal;
@@ -99,10 +100,8 @@ fn push_front(text: &mut Vec<u8>, row: &Row) -> Result<(), NoMemory>
 }
 
 /// Appends the line of a row, whose line has this text.
-///
-/// Source: own choice ("Listing").
 #[tactic(auto, unfolding(crate::specs::Listing::row_line))]
-pub fn push_row(text: &mut Vec<u8>, row: &Row, line: &[u8]) -> Result<(), NoMemory>
+pub(crate) fn push_row(text: &mut Vec<u8>, row: &Row, line: &[u8]) -> Result<(), NoMemory>
     requires { row.now.count ≤ 3 }
     ensures { OnOk result (text.new.items ≡ text.old.items ++ row_line row.now line.now) }
 {

@@ -1,19 +1,18 @@
 //! The listing of a source: its lines and those of its includes, and the rows that name them.
 ghost use Rattle.std.specs.Prelude.{◌≡◌, ◌<◌, ◌≤◌, ◌-◌, ◌++◌, [], OnOk, IfOk, All, map, flat_map, length};
 ghost use Rattle.std.specs.List.{slice_index_or};
-ghost use Rattle.m51_lines.specs.Lines.{lines_of};
+ghost use Rattle.std.specs.Str.Lines.{lines};
 ghost use Rattle.m51_print.specs.Lent.{texts, file_texts};
 ghost use Rattle.m51_print.specs.Listing.{lines_of_files, line_text, listed_row, listing_of, IsRowOf, AreOf};
 
 use crate::rows::push_row;
-use m51_cells::NoMemory;
-use m51_lines::lines;
+use m51_cells::{NoMemory, lines};
 use m51_module::{Row, Rows, SourceFile};
 use std::alloc::Global;
 
 // The lines of a file.
 fn lines_of_file<'a>(alloc: Global, file: &'a SourceFile) -> Result<Vec<&'a [u8]>, NoMemory>
-    ensures { IfOk result (λ lines. file_texts lines ≡ lines_of file.now.bytes) }
+    ensures { IfOk result (λ found. file_texts found ≡ lines file.now.bytes) }
 {
     lines(alloc, file.bytes.as_slice())
 }
@@ -72,7 +71,8 @@ fn push_listed(text: &mut Vec<u8>, files: &[Vec<&[u8]>], row: &Row) -> Result<()
 // Appends the lines of rows.
 fn push_rows(text: &mut Vec<u8>, files: &[Vec<&[u8]>], rows: &[Row]) -> Result<(), NoMemory>
     requires { All (IsRowOf (map file_texts files.now)) rows.now }
-    ensures { OnOk result (text.new.items ≡ text.old.items ++ flat_map (listed_row (map file_texts files.now)) rows.now) }
+    ensures { OnOk result (text.new.items
+        ≡ text.old.items ++ flat_map (listed_row (map file_texts files.now)) rows.now) }
 {
     for row in rows {
         push_listed(text, files, row)?;
@@ -80,12 +80,12 @@ fn push_rows(text: &mut Vec<u8>, files: &[Vec<&[u8]>], rows: &[Row]) -> Result<(
     Ok(())
 }
 
-/// The listing of a source: a line for each row, which ends in a line feed. It has the number of the row's line right in 5
-/// places, the place in four hexadecimal digits or 4 blanks, the bytes that count left in 6 places, `*` where a fixup lies in
-/// the statement, and the text of the line; a blank follows the number, the place and the sign.
+/// The listing of a source: a line for each row, which ends in a line feed. It has the number of the row's line right
+/// in 5 places, the place in four hexadecimal digits or 4 blanks, the bytes that count left in 6 places, `*` where a
+/// fixup lies in the statement, and the text of the line; a blank follows the number, the place and the sign.
 ///
-/// A row of file 0 is of the source, a row of file `k` of the `k`-th include. Condition: each row names a file that is given
-/// and a line that is there, and has 0 to 3 bytes. Error: want of memory alone.
+/// A row of file 0 is of the source, a row of file `k` of the `k`-th include. Condition: each row names a file that is
+/// given and a line that is there, and has 0 to 3 bytes. Error: out of memory.
 ///
 /// Source: own choice ("Listing").
 #[tactic(auto, unfolding(crate::specs::Listing::listing_of))]

@@ -1,7 +1,7 @@
 //! What no clause says: that the definitions give the texts that the formats ask for.
 ghost use Rattle.std.specs.Prelude.{◌≡◌, ◌≢◌, ◌<◌, ◌≤◌, ◌∷◌, [], All, IfOk, length};
-ghost use Rattle.m51_lines.specs.Lines.{lines_of};
-ghost use Rattle.m51_print.specs.Lines.{IsDataCell};
+ghost use Rattle.std.specs.Str.Lines.{lines};
+ghost use Rattle.m51_cells.specs.Cells.{IsDataCell};
 ghost use Rattle.m51_print.specs.Listing.{IsRowOf};
 
 use crate::map::{push_chain_line, push_segments, push_unit_line};
@@ -49,7 +49,7 @@ fn transfer_ends(why: Why, from: u16, to: u16, expected: &[u8]) -> bool {
 }
 
 fn outside_ends(cell: Cell, at: u16, expected: &[u8]) -> bool
-    requires { IsDataCell cell.space cell.at }
+    requires { IsDataCell cell }
 {
     let event = Event::Outside { cell, at };
     let mut line = [0; 128];
@@ -58,7 +58,7 @@ fn outside_ends(cell: Cell, at: u16, expected: &[u8]) -> bool
 }
 
 fn unwritten_ends(cell: Cell, placed: &[Placed], expected: &[u8]) -> bool
-    requires cell { IsDataCell cell.space cell.at }
+    requires cell { IsDataCell cell }
     requires placed { 0 < length placed.now }
 {
     let event = Event::Unwritten {
@@ -291,7 +291,7 @@ fn lists(
     rows: &[Row],
     expected: &[u8],
 ) -> Result<bool, NoMemory>
-    requires { All (IsRowOf (lines_of source.now ∷ lines_of include.now ∷ [])) rows.now }
+    requires { All (IsRowOf (lines source.now ∷ lines include.now ∷ [])) rows.now }
 {
     let source = file(alloc, source)?;
     let includes = [file(alloc, include)?];

@@ -6,11 +6,8 @@ ghost use Rattle.m51_print.specs.Map.{after_comma, listed, roots_among, root_tit
 
 use crate::pushing::push_text;
 use m51_cells::{Name, NoMemory};
-use m51_module::Layout;
+use m51_module::{Layout, VECTORS};
 use std::alloc::Global;
-
-// Where the reset and the six interrupts begin.
-const VECTORS: [u16; 7] = [0x00, 0x03, 0x0B, 0x13, 0x1B, 0x23, 0x2B];
 
 // Appends each name after a comma.
 fn push_others(text: &mut Vec<u8>, names: &[Name]) -> Result<(), NoMemory>
@@ -24,10 +21,8 @@ fn push_others(text: &mut Vec<u8>, names: &[Name]) -> Result<(), NoMemory>
 }
 
 /// Appends names with commas between them, and `-` where there is none.
-///
-/// Source: own choice ("Texts").
 #[tactic(auto, unfolding(crate::specs::Map::listed))]
-pub fn push_list(text: &mut Vec<u8>, names: &[Name]) -> Result<(), NoMemory>
+pub(crate) fn push_list(text: &mut Vec<u8>, names: &[Name]) -> Result<(), NoMemory>
     ensures { OnOk result (text.new.items ≡ text.old.items ++ listed names.now) }
 {
     match names {
@@ -56,20 +51,16 @@ fn titles_among(alloc: Global, byte: u8, vectors: &[u16]) -> Result<Vec<Name>, N
 }
 
 /// The titles of the roots of a byte: bit 0 is for the reset, bits 1 to 6 for the interrupts in order.
-///
-/// Source: own choice ("Texts").
 #[tactic(auto, unfolding(crate::specs::Map::root_titles))]
-pub fn root_titles(alloc: Global, byte: u8) -> Result<Vec<Name>, NoMemory>
+pub(crate) fn root_titles(alloc: Global, byte: u8) -> Result<Vec<Name>, NoMemory>
     ensures { IfOk result (λ titles. titles.items ≡ root_titles byte) }
 {
     titles_among(alloc, byte, &VECTORS)
 }
 
 /// The title of a unit.
-///
-/// Source: own choice ("Texts").
 #[tactic(auto, using(crate::proofs::PlacedTitles::title_at), unfolding(crate::specs::Map::unit_title))]
-pub fn unit_title(layout: &Layout, unit: u16) -> &Name
+pub(crate) fn unit_title(layout: &Layout, unit: u16) -> &Name
     requires { unit < length layout.now.units }
     ensures { result.now ≡ unit_title layout.now unit }
 {
@@ -77,9 +68,11 @@ pub fn unit_title(layout: &Layout, unit: u16) -> &Name
 }
 
 /// The titles of units.
-///
-/// Source: own choice ("Texts").
-pub fn unit_titles(alloc: Global, layout: &Layout, units: &[u16]) -> Result<Vec<Name>, NoMemory>
+pub(crate) fn unit_titles(
+    alloc: Global,
+    layout: &Layout,
+    units: &[u16],
+) -> Result<Vec<Name>, NoMemory>
     requires { All (λ unit. unit < length layout.now.units) units.now }
     ensures { IfOk result (λ titles. titles.items ≡ map (unit_title layout.now) units.now) }
 {
@@ -100,10 +93,12 @@ fn has_edge(layout: &Layout, from: u16, to: u16) -> bool
 }
 
 /// The titles of the units to which an edge leads from this one, by number.
-///
-/// Source: own choice ("Texts").
 #[tactic(auto, using(crate::proofs::Ranges::named_yes, crate::proofs::Ranges::named_no))]
-pub fn target_titles(alloc: Global, layout: &Layout, unit: u16) -> Result<Vec<Name>, NoMemory>
+pub(crate) fn target_titles(
+    alloc: Global,
+    layout: &Layout,
+    unit: u16,
+) -> Result<Vec<Name>, NoMemory>
     requires { unit < length layout.now.units }
     ensures { IfOk result (λ titles. titles.items ≡ map (unit_title layout.now) (targets_of layout.now unit)) }
 {

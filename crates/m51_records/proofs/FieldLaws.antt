@@ -2,7 +2,7 @@
 use Rattle.std.proofs.Common.{◌≡◌, ℕ, zero, suc, ◌+◌, ◌*◌, ◌/◌, ◌%◌, ◌<◌, ◌≤◌, Bool, true, false, cond, List, [], ◌∷◌, ◌++◌, length, get_or, take, drop, Option, Some, None, Ok, Err, refl, sym, ap, subst, ◌∙◌, arith, length-append}
 use Rattle.std.specs.Prelude.{nat_le}
 use Rattle.std.specs.Cmp.Lexicographic.{bytes_decides}
-use Rattle.std.proofs.lemmas.Bool.{leb-true, le-leb, eqb-true}
+use Rattle.std.proofs.lemmas.Bool.{leb-true, le-leb}
 use Rattle.std.proofs.lemmas.List.{take_at, drop_at, take-append-drop, length-take}
 use Rattle.m51_cells.specs.declared.kind.Kind.{Kind}
 use Rattle.m51_cells.specs.declared.kind.Kind.TheVariants.{Code, Xdata, Direct, Idata, Bits, Number}
@@ -12,7 +12,9 @@ use Rattle.m51_cells.specs.Name.{name_of, IsWritten}
 use Rattle.m51_module.specs.declared.content.Form.{Form}
 use Rattle.m51_module.specs.declared.content.Form.TheVariants.{Low, Byte, Relative, High, Word, Inblock, Bit, Conv}
 use Rattle.m51_module.specs.declared.object_error.ObjError.{ObjError}
-use Rattle.m51_records.specs.Codes.{kind_number, kind_of, reloc_number, reloc_of, form_number, form_of, same_kind}
+use Rattle.m51_cells.specs.Kinds.{same_kind}
+use Rattle.m51_cells.proofs.KindLaws.{kind_again}
+use Rattle.m51_records.specs.Codes.{kind_number, kind_of, reloc_number, reloc_of, form_number, form_of}
 use Rattle.m51_records.specs.Fields.{place, pair, pair_at, text_field, text_at, same, if_same, upper_name}
 use Rattle.m51_records.proofs.Tools.{ok_is, some_is}
 
@@ -150,17 +152,5 @@ form_read Inblock = refl
 form_read Bit = refl
 form_read Conv = refl
 
-pub same_kind_is : (j k : Kind) → same_kind j k ≡ true → j ≡ k
-same_kind_is j k h =
-    let n : kind_number j ≡ kind_number k = eqb-true (kind_number j) (kind_number k) h in
-    some_is j k (sym (kind_read j) ∙ ap kind_of n ∙ kind_read k)
-
 pub same_kind_of : (j k : Kind) → j ≡ k → same_kind j k ≡ true
-same_kind_of j k e = ap (λ i. same_kind i k) e ∙ itself k where
-  itself : (k : Kind) → same_kind k k ≡ true
-  itself Code = refl
-  itself Xdata = refl
-  itself Direct = refl
-  itself Idata = refl
-  itself Bits = refl
-  itself Number = refl
+same_kind_of j k e = subst (λ i. same_kind j i ≡ true) e (kind_again j)

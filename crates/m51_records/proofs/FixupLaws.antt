@@ -26,7 +26,7 @@ byte_tested test end (n ∷ rest) y e =
     subst (λ (y : ℕ × List ℕ). (n ∷ rest ≡ y.0 ∷ y.1) × (test y.0 ≡ true)) b.1 (refl, b.0)
 
 module _ (segments : List Segment) (externals : List External) (pieces : List Piece) where
-  -- what the tests of the reader say of a fixup, behind those before it
+  -- what the tests of the reader say of a fixup, after those before it
   pub record IsFixupTested (before : List Fixup) (f : Fixup) : Type 0 where
     pub few : nat_lt (length before) 65535 ≡ true
     pub segment : Segment

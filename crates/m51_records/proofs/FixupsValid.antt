@@ -1,7 +1,7 @@
--- The fixups of a module are valid where each passes the tests of the reader behind those before it.
+-- The fixups of a module are valid where each passes the tests of the reader after those before it.
 use Rattle.std.proofs.Common.{◌≡◌, ◌≢◌, ℕ, zero, suc, ◌+◌, ◌-◌, ◌<◌, ◌≤◌, Bool, true, false, eqb, List, [], ◌∷◌, ◌++◌, length, Option, Some, None, refl, sym, ap, subst, ◌∙◌, arith, All, AllPairs, length-append}
 use Rattle.std.specs.Prelude.{not, ◌&&◌, ◌||◌, nat_le, nat_lt}
-use Rattle.std.proofs.lemmas.Bool.{eqb-true, eq-eqb, leb-true, le-leb, lt-ltb, ltb-true}
+use Rattle.std.proofs.lemmas.Bool.{eqb-true, eq-eqb, leb-true, le-leb, lt-ltb, ltb-true, and_from, and_parts}
 use Rattle.std.proofs.lemmas.List.Folds.{Any-from_list_any, list_any_at}
 use Rattle.m51_module.specs.declared.content.Fixup.{Fixup}
 use Rattle.m51_module.specs.declared.content.Form.{Form}
@@ -12,9 +12,8 @@ use Rattle.m51_module.specs.declared.symbol.External.{External}
 use Rattle.m51_module.specs.Validity.{numbered, field_len, IsBitNumber, IsHeld, IsPieceValid, IsFixupValid, FieldBefore, EarlierSegmentOf, BeforeIn}
 use Rattle.m51_records.specs.Contents.{latest}
 use Rattle.m51_records.specs.Fixups.{field_segment_follows, field_follows, holds, is_held, is_inside, is_bit}
-use Rattle.m51_records.proofs.Tools.{both, all_push, all_front, all_last, pairs_push, pairs_front, pairs_last}
+use Rattle.m51_records.proofs.Tools.{all_push, all_front, all_last, pairs_push, pairs_front, pairs_last}
 use Rattle.m51_records.proofs.NameLaws.{false_of}
-use Rattle.m51_records.proofs.SegmentsValid.{both_of}
 use Rattle.m51_records.proofs.PieceLaws.{test_split, eqb_no}
 use Rattle.m51_records.proofs.Latest.{Follows, last_follows, all_follow}
 use Rattle.m51_records.proofs.FixupLaws.{IsFixupTested}
@@ -79,8 +78,8 @@ module _ (pieces : List Piece) (segment : ℕ) where
   held_of offset h =
       let a = Any-from_list_any (holds segment offset) pieces h in
       let p : Piece = a.1 in
-      let t = both (eqb p.segment segment) (nat_le p.offset offset && nat_lt (offset - p.offset) (length p.bytes)) a.4 in
-      let u = both (nat_le p.offset offset) (nat_lt (offset - p.offset) (length p.bytes)) t.1 in
+      let t = and_parts (eqb p.segment segment) (nat_le p.offset offset && nat_lt (offset - p.offset) (length p.bytes)) a.4 in
+      let u = and_parts (nat_le p.offset offset) (nat_lt (offset - p.offset) (length p.bytes)) t.1 in
       let from : p.offset ≤ offset = leb-true p.offset offset u.0 in
       let room : offset - p.offset < length p.bytes = ltb-true (offset - p.offset) (length p.bytes) u.1 in
       record { piece = p; is = (a.0, a.2, a.3); same = eqb-true p.segment segment t.0; from = from; below = omega (arith, from, room) }
@@ -90,21 +89,21 @@ module _ (pieces : List Piece) (segment : ℕ) where
       let p : Piece = h.piece in
       let room : offset - p.offset < length p.bytes = omega (arith, h.from, h.below) in
       let passes : holds segment offset p ≡ true =
-      both_of (eqb p.segment segment) (nat_le p.offset offset && nat_lt (offset - p.offset) (length p.bytes)) (eq-eqb p.segment segment h.same)
-      (both_of (nat_le p.offset offset) (nat_lt (offset - p.offset) (length p.bytes)) (le-leb p.offset offset h.from) (lt-ltb (offset - p.offset) (length p.bytes) room)) in
+      and_from (eqb p.segment segment) (nat_le p.offset offset && nat_lt (offset - p.offset) (length p.bytes)) (eq-eqb p.segment segment h.same)
+      (and_from (nat_le p.offset offset) (nat_lt (offset - p.offset) (length p.bytes)) (le-leb p.offset offset h.from) (lt-ltb (offset - p.offset) (length p.bytes) room)) in
       list_any_at (holds segment offset) pieces h.is.0 p h.is.1 (subst (λ q. holds segment offset q ≡ true) (sym h.is.2) passes)
 
   inside_of : (offset : ℕ) (form : Form) → is_inside pieces segment offset form ≡ true → (k : ℕ) → k < field_len form → IsHeld pieces segment (offset + k)
-  inside_of offset form h zero less = subst (IsHeld pieces segment) (omega arith) (held_of offset (both (is_held pieces segment offset) (eqb (field_len form) 1 || is_held pieces segment (offset + 1)) h).0)
+  inside_of offset form h zero less = subst (IsHeld pieces segment) (omega arith) (held_of offset (and_parts (is_held pieces segment offset) (eqb (field_len form) 1 || is_held pieces segment (offset + 1)) h).0)
   inside_of offset form h (suc zero) less =
       let two : eqb (field_len form) 1 ≡ false = false_of (eqb (field_len form) 1) (λ e. omega (arith, less, eqb-true (field_len form) 1 e)) in
-      let second : (eqb (field_len form) 1 || is_held pieces segment (offset + 1)) ≡ true = (both (is_held pieces segment offset) (eqb (field_len form) 1 || is_held pieces segment (offset + 1)) h).1 in
+      let second : (eqb (field_len form) 1 || is_held pieces segment (offset + 1)) ≡ true = (and_parts (is_held pieces segment offset) (eqb (field_len form) 1 || is_held pieces segment (offset + 1)) h).1 in
       held_of (offset + 1) (subst (λ b. (b || is_held pieces segment (offset + 1)) ≡ true) two second)
   inside_of offset form h (suc (suc k)) less = absurd (omega (arith, less, short_field form))
 
   inside_from : (offset : ℕ) (form : Form) → ((k : ℕ) → k < field_len form → IsHeld pieces segment (offset + k)) → is_inside pieces segment offset form ≡ true
   inside_from offset form h =
-      both_of (is_held pieces segment offset) (eqb (field_len form) 1 || is_held pieces segment (offset + 1))
+      and_from (is_held pieces segment offset) (eqb (field_len form) 1 || is_held pieces segment (offset + 1))
       (held_from offset (subst (IsHeld pieces segment) (omega arith) (h 0 (some_field form))))
       (test_split (eqb (field_len form) 1) ((eqb (field_len form) 1 || is_held pieces segment (offset + 1)) ≡ true)
       (λ one. ap (λ b. b || is_held pieces segment (offset + 1)) one)

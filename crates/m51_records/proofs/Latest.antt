@@ -1,8 +1,16 @@
 -- What holds between the last element and a new one holds between each element and the new one, and back.
-use Rattle.std.proofs.Common.{◌≡◌, inl, inr, ℕ, ◌-◌, ◌<◌, List, length, get_or, Option, Some, None, refl, sym, subst, arith, All, AllPairs}
+use Rattle.std.proofs.Common.{◌≡◌, inl, inr, ℕ, ◌-◌, ◌<◌, List, [], ◌∷◌, ◌++◌, length, get_or, Option, Some, None, refl, sym, ap, subst, ◌∙◌, arith, All, AllPairs, length-append}
 use Rattle.std.proofs.lemmas.Bool.{cases_lt}
 use Rattle.std.proofs.lemmas.Option.{slice_get_within, get_or_from_slice_get, slice_get-get_or}
+use Rattle.std.proofs.Math.Seq.{get_or-append_seam}
 use Rattle.m51_records.specs.Contents.{latest}
+
+-- the last of a list that grew by one
+pub latest_push : {X : Type 0} (xs : List X) (x : X) → latest (xs ++ x ∷ []) ≡ Some x
+latest_push xs x =
+    let n : length (xs ++ x ∷ []) - 1 ≡ length xs = omega (arith, length-append xs (x ∷ [])) in
+    slice_get-get_or (xs ++ x ∷ []) (length (xs ++ x ∷ []) - 1) x (omega (arith, length-append xs (x ∷ [])))
+    ∙ ap Some (ap (λ k. get_or (xs ++ x ∷ []) k x) n ∙ get_or-append_seam xs x [] x)
 
 module _ {X : Type 0} (R : X → X → Type 0) (x : X) where
   -- the last, if there is one, stands so to the new one

@@ -1,5 +1,4 @@
 pub mod Placing
-pub mod Putting
 pub mod Standing
 pub mod Tools
 pub mod FieldLaws
@@ -16,3 +15,6 @@ pub mod EndLaws
 pub mod SectionLaws
 pub mod ModuleLaws
 pub mod ModuleAgain
+mod SeenLaws
+mod Passing
+mod Gathering

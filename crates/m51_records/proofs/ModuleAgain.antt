@@ -45,9 +45,9 @@ module _ (m : ModuleParts) (rest : List ℕ) where
   after_header : List ℕ
   after_header = flat_map segment_record m.segments ++ after_segments
 
-  spelled : bytes_of m ++ rest ≡ header_record m.name ++ after_header
+  spelled : bytes_of m ++ rest ≡ header_record m.name m.version ++ after_header
   unfolding bytes_of after_header after_segments after_externals after_publics after_pieces after_fixups
-  spelled = regroup (header_record m.name) (flat_map segment_record m.segments) (flat_map external_record m.externals) (flat_map public_record m.publics) (flat_map piece_record m.pieces) (flat_map fixup_record m.fixups) (end_record m.name m.banks) rest
+  spelled = regroup (header_record m.name m.version) (flat_map segment_record m.segments) (flat_map external_record m.externals) (flat_map public_record m.publics) (flat_map piece_record m.pieces) (flat_map fixup_record m.fixups) (end_record m.name m.banks) rest
 
   -- no record of the type comes later
   no_fixups : begins 0x08 after_fixups ≡ false
@@ -71,13 +71,13 @@ module _ (m : ModuleParts) (rest : List ℕ) where
   no_segments = other_comes 0x0E 0x18 external_contents m.externals after_externals refl (other_comes 0x0E 0x16 public_contents m.publics after_publics refl (other_comes 0x0E 0x06 piece_contents m.pieces after_pieces refl (other_comes 0x0E 0x08 fixup_contents m.fixups after_fixups refl refl)))
 
   module _ (v : IsValid m) (total : ℕ) where
-    header_read : (number : ℕ) → header_at total number (header_record m.name ++ after_header) ≡ Ok (m.name, after_header)
-    header_read number = one_again 0x02 header_in (header_contents m.name) m.name total number after_header (header_again (checksum_place total after_header) m.name v.name)
+    header_read : (number : ℕ) → header_at total number (header_record m.name m.version ++ after_header) ≡ Ok ((m.name, m.version), after_header)
+    header_read number = one_again 0x02 header_in (header_contents m.name m.version) (m.name, m.version) total number after_header (header_again (checksum_place total after_header) m.name m.version v.name v.version)
 
-    segments_read : (number : ℕ) → segments_at total number after_header ≡ Ok (m.segments, after_segments)
+    segments_read : (number : ℕ) → segments_at m.version total number after_header ≡ Ok (m.segments, after_segments)
     unfolding after_header
-    segments_read number = all_again 0x0E segment_in segment_contents AreSegments IsTested total segments_front segments_last segment_again number m.segments after_segments
-        (record { few = v.few_segments; each = v.segments; names = v.segment_names }) no_segments
+    segments_read number = all_again 0x0E (segment_in m.version) segment_contents (AreSegments m.version) (IsTested m.version) total (segments_front m.version) (segments_last m.version) (segment_again m.version) number m.segments after_segments
+        (record { few = v.few_segments; each = v.segments; names = v.segment_names; marks = v.marks }) no_segments
 
     externals_read : (number : ℕ) → externals_at total number after_segments ≡ Ok (m.externals, after_externals)
     unfolding after_segments
@@ -104,7 +104,7 @@ module _ (m : ModuleParts) (rest : List ℕ) where
     unfolding after_fixups
     end_read number = one_again 0x04 (end_in m.name) (end_contents m.name m.banks) m.banks total number rest (end_again m.name (checksum_place total rest) m.banks (record { first = v.banks; few = v.few_banks }))
 
-    read_whole : (number : ℕ) → module_at total number (header_record m.name ++ after_header) ≡ Ok (m, rest)
+    read_whole : (number : ℕ) → module_at total number (header_record m.name m.version ++ after_header) ≡ Ok (m, rest)
     unfolding module_at
     read_whole number =
         rw (

@@ -1,28 +1,27 @@
--- The record of a piece: what is read is written so, what is written is read, and both are valid together.
+-- The record of a piece: what is read is written so, what is written is read, and and_parts are valid together.
 use Rattle.std.proofs.Common.{◌≡◌, ◌≢◌, ℕ, ◌+◌, ◌-◌, ◌<◌, ◌≤◌, Bool, true, false, cond, eqb, min, List, [], ◌∷◌, ◌++◌, length, drop, Option, Some, None, Ok, refl, sym, ap, subst, ◌∙◌, arith, All, AllPairs}
 use Rattle.std.specs.Prelude.{◌&&◌, nat_le, nat_lt}
-use Rattle.std.proofs.lemmas.Bool.{eqb-true, eq-eqb, leb-true, le-leb, lt-ltb, ltb-true}
+use Rattle.std.proofs.lemmas.Bool.{eqb-true, eq-eqb, leb-true, le-leb, lt-ltb, ltb-true, and_from, and_parts}
 use Rattle.std.proofs.Math.Nat.{min-eq_left}
-use Rattle.m51_cells.specs.declared.kind.Kind.TheVariants.{Code}
 use Rattle.m51_module.specs.declared.content.Piece.{Piece}
 use Rattle.m51_module.specs.declared.segment.Segment.{Segment}
 use Rattle.m51_module.specs.Validity.{numbered, IsPieceValid, LiesBefore, EarlierSegment, Apart, Touching}
-use Rattle.m51_records.specs.Codes.{same_kind}
+use Rattle.m51_cells.specs.Kinds.{is_code}
+use Rattle.m51_cells.proofs.KindLaws.{code_is}
 use Rattle.m51_records.specs.Fields.{checked, or_absent, pair}
 use Rattle.m51_records.specs.Contents.{piece_contents, latest, segment_follows, code_segment_at, ends_before, piece_follows, piece_offset_at, content_at, piece_in}
-use Rattle.m51_records.proofs.Tools.{on_ok, ok_is, checked_ok, absent_ok, both, all_push, all_front, all_last, pairs_push, pairs_front, pairs_last}
-use Rattle.m51_records.proofs.FieldLaws.{IsBytes, same_kind_is, same_kind_of}
+use Rattle.m51_records.proofs.Tools.{on_ok, ok_is, checked_ok, absent_ok, all_push, all_front, all_last, pairs_push, pairs_front, pairs_last}
+use Rattle.m51_records.proofs.FieldLaws.{IsBytes}
 use Rattle.m51_records.proofs.NameLaws.{false_of}
 use Rattle.m51_records.proofs.SegmentLaws.{pair_field, pair_tested}
-use Rattle.m51_records.proofs.SegmentsValid.{both_of}
 use Rattle.m51_records.proofs.Latest.{Follows, last_follows, all_follow}
 
 module _ (segments : List Segment) where
-  -- what the tests of the reader say of a piece, behind those before it
+  -- what the tests of the reader say of a piece, after those before it
   pub record IsPieceTested (before : List Piece) (p : Piece) : Type 0 where
     pub segment : Segment
     pub is : numbered segments p.segment ≡ Some segment
-    pub ascends : (same_kind segment.kind Code && segment_follows (latest before) p.segment) ≡ true
+    pub ascends : (is_code segment.kind && segment_follows (latest before) p.segment) ≡ true
     pub follows : piece_follows (latest before) p.segment p.offset ≡ true
     pub inside : (nat_lt 0 (length p.bytes) && nat_le (p.offset + min (length p.bytes) 1024) segment.size) ≡ true
     pub most : nat_le (length p.bytes) 1024 ≡ true
@@ -31,7 +30,7 @@ module _ (segments : List Segment) where
   pub record IsCodeSegment (previous : Option Piece) (bytes : List ℕ) (y : ℕ × ℕ × List ℕ) : Type 0 where
     pub segment : Segment
     pub is : numbered segments y.0 ≡ Some segment
-    pub ascends : (same_kind segment.kind Code && segment_follows previous y.0) ≡ true
+    pub ascends : (is_code segment.kind && segment_follows previous y.0) ≡ true
     pub size : segment.size ≡ y.1
     pub bytes_are : bytes ≡ y.0 ∷ y.2
 
@@ -40,10 +39,10 @@ module _ (segments : List Segment) where
   code_segment_field previous end [] y e = absurd cc
   code_segment_field previous end (n ∷ rest) y e =
       on_ok (or_absent (numbered segments n) end (n ∷ rest)) _ y (IsCodeSegment previous (n ∷ rest) y) (λ s e1 h1.
-      let c = checked_ok (same_kind s.kind Code && segment_follows previous n) end (n ∷ rest) (n, s.size, rest) y h1 in
+      let c = checked_ok (is_code s.kind && segment_follows previous n) end (n ∷ rest) (n, s.size, rest) y h1 in
       subst (IsCodeSegment previous (n ∷ rest)) c.1 (record { segment = s; is = absent_ok (numbered segments n) end (n ∷ rest) s e1; ascends = c.0; size = refl; bytes_are = refl })) e
 
-  code_segment_again : (previous : Option Piece) (end n : ℕ) (s : Segment) (rest : List ℕ) → numbered segments n ≡ Some s → (same_kind s.kind Code && segment_follows previous n) ≡ true → code_segment_at segments previous end (n ∷ rest) ≡ Ok (n, s.size, rest)
+  code_segment_again : (previous : Option Piece) (end n : ℕ) (s : Segment) (rest : List ℕ) → numbered segments n ≡ Some s → (is_code s.kind && segment_follows previous n) ≡ true → code_segment_at segments previous end (n ∷ rest) ≡ Ok (n, s.size, rest)
   unfolding code_segment_at
   code_segment_again previous end n s rest h k = rw (h, k) refl
 
@@ -172,7 +171,7 @@ module _ (segments : List Segment) where
 
   piece_valid : (before : List Piece) (p : Piece) → IsPieceTested segments before p → IsPieceValid segments p
   piece_valid before p t =
-      let inside = both (nat_lt 0 (length p.bytes)) (nat_le (p.offset + min (length p.bytes) 1024) t.segment.size) t.inside in
+      let inside = and_parts (nat_lt 0 (length p.bytes)) (nat_le (p.offset + min (length p.bytes) 1024) t.segment.size) t.inside in
       let most : length p.bytes ≤ 1024 = leb-true (length p.bytes) 1024 t.most in
       let all : p.offset + min (length p.bytes) 1024 ≤ t.segment.size = leb-true (p.offset + min (length p.bytes) 1024) t.segment.size inside.1 in
       record {
@@ -180,13 +179,13 @@ module _ (segments : List Segment) where
         most = most;
         segment = t.segment;
         is = t.is;
-        code = same_kind_is t.segment.kind Code (both (same_kind t.segment.kind Code) (segment_follows (latest before) p.segment) t.ascends).0;
+        code = code_is t.segment.kind (and_parts (is_code t.segment.kind) (segment_follows (latest before) p.segment) t.ascends).0;
         inside = subst (λ n. p.offset + n ≤ t.segment.size) (min-eq_left most) all;
       }
 
   pub pieces_push : (before : List Piece) (p : Piece) → ArePieces before → IsPieceTested segments before p → ArePieces (before ++ p ∷ [])
   pieces_push before p v t =
-      let passes : Passes p (latest before) = ((both (same_kind t.segment.kind Code) (segment_follows (latest before) p.segment) t.ascends).1, t.follows) in
+      let passes : Passes p (latest before) = ((and_parts (is_code t.segment.kind) (segment_follows (latest before) p.segment) t.ascends).1, t.follows) in
       record {
         each = all_push (IsPieceValid segments) before p v.each (piece_valid before p t);
         order = pairs_push LiesBefore before p v.order
@@ -201,9 +200,9 @@ module _ (segments : List Segment) where
       record {
         segment = valid.segment;
         is = valid.is;
-        ascends = both_of (same_kind valid.segment.kind Code) (segment_follows (latest before) p.segment) (same_kind_of valid.segment.kind Code valid.code) passes.0;
+        ascends = and_from (is_code valid.segment.kind) (segment_follows (latest before) p.segment) (ap is_code valid.code) passes.0;
         follows = passes.1;
-        inside = both_of (nat_lt 0 (length p.bytes)) (nat_le (p.offset + min (length p.bytes) 1024) valid.segment.size) (lt-ltb 0 (length p.bytes) valid.some) (le-leb (p.offset + min (length p.bytes) 1024) valid.segment.size inside);
+        inside = and_from (nat_lt 0 (length p.bytes)) (nat_le (p.offset + min (length p.bytes) 1024) valid.segment.size) (lt-ltb 0 (length p.bytes) valid.some) (le-leb (p.offset + min (length p.bytes) 1024) valid.segment.size inside);
         most = le-leb (length p.bytes) 1024 valid.most;
       }
 

@@ -6,24 +6,24 @@ use Rattle.m51_cells.specs.declared.kind.Kind.{Kind}
 use Rattle.m51_cells.specs.declared.kind.Kind.TheVariants.{Number}
 use Rattle.m51_cells.specs.declared.kind.Reloc.{Reloc}
 use Rattle.m51_cells.specs.declared.kind.Reloc.TheVariants.{Abs, Unit as UnitType, Bitaddressable, Inpage, Inblock as InblockType, Page}
-use Rattle.m51_cells.specs.Fits.{allows}
+use Rattle.m51_cells.specs.Kinds.{same_kind, is_absolute, allows}
 use Rattle.m51_module.specs.declared.segment.Segment.{Segment}
-use Rattle.m51_records.specs.Codes.{kind_number, kind_of, reloc_number, reloc_of, same_kind, is_absolute}
+use Rattle.m51_records.specs.Codes.{kind_number, kind_of, reloc_number, reloc_of}
 use Rattle.m51_records.specs.Fields.{◌>>=◌, checked, or_broken, pair, pair_at, text_field, text_at, ended}
-use Rattle.m51_records.specs.Segments.{flags_of, flag_of, segment_contents, segment_kind_at, reloc_at, may_overlay, overlay_at, base_at, is_size, size_at, no_text, segment_name, is_new, segment_name_at, segment_in}
+use Rattle.m51_records.specs.Segments.{flags_of, marks_of, are_marks, segment_contents, segment_kind_at, reloc_at, marks_at, base_at, is_size, size_at, no_text, segment_name, may_have, segment_name_at, segment_in}
 use Rattle.m51_records.proofs.Tools.{bind_ok, on_ok, ok_is, some_is, checked_ok, broken_ok, ended_ok}
 use Rattle.m51_records.proofs.FieldLaws.{IsBytes, pair_read, pair_takes, text_read, text_takes, upper_takes, kind_takes, kind_read, reloc_takes, reloc_read}
 
--- what the tests of the reader say of a segment, behind those before it
-pub record IsTested (before : List Segment) (s : Segment) : Type 0 where
+-- what the tests of the reader say of a segment of a module of that version, after those before it
+pub record IsTested (version : ℕ) (before : List Segment) (s : Segment) : Type 0 where
   pub few : nat_lt (length before) 254 ≡ true
   pub kind : not (same_kind s.kind Number) ≡ true
   pub reloc : allows s.kind s.reloc ≡ true
-  pub overlay : (not s.overlay || may_overlay s.kind s.reloc) ≡ true
+  pub marks : are_marks version s.kind s.reloc s.overlay s.argument ≡ true
   pub base : (is_absolute s.reloc || eqb s.base 0) ≡ true
   pub size : is_size s.kind s.reloc s.base s.size ≡ true
   pub name : segment_name s.reloc s.name ≡ Some s.name
-  pub new : is_new before s.reloc s.name ≡ true
+  pub new : may_have before s.reloc s.argument s.name ≡ true
 
 -- ---- fields
 
@@ -53,27 +53,35 @@ reloc_again : (kind : Kind) (end : ℕ) (r : Reloc) (rest : List ℕ) → allows
 unfolding reloc_at
 reloc_again kind end r rest h = rw (reloc_read r, h) refl
 
-flag_takes : (n : ℕ) (o : Bool) → flag_of n ≡ Some o → n ≡ flags_of o
-flag_takes zero o e = ap flags_of (some_is false o e)
-flag_takes (suc zero) o e = ap flags_of (some_is true o e)
-flag_takes (suc (suc n)) o e = absurd cc
+marks_take : (n : ℕ) (m : Bool × Bool) → marks_of n ≡ Some m → n ≡ flags_of m.0 m.1
+marks_take zero m e = ap (λ (m : Bool × Bool). flags_of m.0 m.1) (some_is (false, false) m e)
+marks_take (suc zero) m e = ap (λ (m : Bool × Bool). flags_of m.0 m.1) (some_is (true, false) m e)
+marks_take (suc (suc zero)) m e = ap (λ (m : Bool × Bool). flags_of m.0 m.1) (some_is (false, true) m e)
+marks_take (suc (suc (suc zero))) m e = ap (λ (m : Bool × Bool). flags_of m.0 m.1) (some_is (true, true) m e)
+marks_take (suc (suc (suc (suc n)))) m e = absurd cc
 
-flag_read : (o : Bool) → flag_of (flags_of o) ≡ Some o
-flag_read true = refl
-flag_read false = refl
+marks_read : (o a : Bool) → marks_of (flags_of o a) ≡ Some (o, a)
+marks_read false false = refl
+marks_read true false = refl
+marks_read false true = refl
+marks_read true true = refl
 
-overlay_field : (kind : Kind) (reloc : Reloc) (end : ℕ) (bytes : List ℕ) (y : Bool × List ℕ) → overlay_at kind reloc end bytes ≡ Ok y → (bytes ≡ flags_of y.0 ∷ y.1) × ((not y.0 || may_overlay kind reloc) ≡ true)
-unfolding overlay_at
-overlay_field kind reloc end [] y e = absurd cc
-overlay_field kind reloc end (n ∷ rest) y e =
-    let a = bind_ok (or_broken (flag_of n) end (n ∷ rest)) (λ o. checked (not o || may_overlay kind reloc) end (n ∷ rest) (o, rest)) y e in
-    let b = checked_ok (not a.0 || may_overlay kind reloc) end (n ∷ rest) (a.0, rest) y a.2 in
-    subst (λ (y : Bool × List ℕ). (n ∷ rest ≡ flags_of y.0 ∷ y.1) × ((not y.0 || may_overlay kind reloc) ≡ true)) b.1
-    (ap (λ m. m ∷ rest) (flag_takes n a.0 (broken_ok (flag_of n) end (n ∷ rest) a.0 a.1)), b.0)
+-- what is shown of the flags
+abbrev MarksTaken : ℕ → Kind → Reloc → List ℕ → Bool × Bool × List ℕ → Type 0
+MarksTaken version kind reloc bytes y = (bytes ≡ flags_of y.0 y.1 ∷ y.2) × (are_marks version kind reloc y.0 y.1 ≡ true)
 
-overlay_again : (kind : Kind) (reloc : Reloc) (end : ℕ) (o : Bool) (rest : List ℕ) → (not o || may_overlay kind reloc) ≡ true → overlay_at kind reloc end (flags_of o ∷ rest) ≡ Ok (o, rest)
-unfolding overlay_at
-overlay_again kind reloc end o rest h = rw (flag_read o, h) refl
+marks_field : (version : ℕ) (kind : Kind) (reloc : Reloc) (end : ℕ) (bytes : List ℕ) (y : Bool × Bool × List ℕ) → marks_at version kind reloc end bytes ≡ Ok y → MarksTaken version kind reloc bytes y
+unfolding marks_at
+marks_field version kind reloc end [] y e = absurd cc
+marks_field version kind reloc end (n ∷ rest) y e =
+    on_ok (or_broken (marks_of n) end (n ∷ rest)) _ y (MarksTaken version kind reloc (n ∷ rest) y) (λ m e1 h1.
+    let b = checked_ok (are_marks version kind reloc m.0 m.1) end (n ∷ rest) (m.0, m.1, rest) y h1 in
+    subst (MarksTaken version kind reloc (n ∷ rest)) b.1
+    (ap (λ k. k ∷ rest) (marks_take n m (broken_ok (marks_of n) end (n ∷ rest) m e1)), b.0)) e
+
+marks_again : (version : ℕ) (kind : Kind) (reloc : Reloc) (end : ℕ) (o a : Bool) (rest : List ℕ) → are_marks version kind reloc o a ≡ true → marks_at version kind reloc end (flags_of o a ∷ rest) ≡ Ok (o, a, rest)
+unfolding marks_at
+marks_again version kind reloc end o a rest h = rw (marks_read o a, h) refl
 
 -- a number of two bytes that is tested
 pub pair_field : (test : ℕ → Bool) (end : ℕ) (bytes : List ℕ) (y : ℕ × List ℕ) → IsBytes bytes → (pair_at end bytes >>= λ n. checked (test n.0) end bytes n) ≡ Ok y → (bytes ≡ pair y.0 ++ y.1) × IsBytes y.1 × (test y.0 ≡ true)
@@ -135,69 +143,69 @@ segment_name_takes Inpage text name e = (upper_takes text name e).0
 segment_name_takes InblockType text name e = (upper_takes text name e).0
 segment_name_takes Page text name e = (upper_takes text name e).0
 
-segment_name_field : (before : List Segment) (reloc : Reloc) (end : ℕ) (bytes name : List ℕ) → segment_name_at before reloc end bytes ≡ Ok name → (bytes ≡ text_field name) × (segment_name reloc name ≡ Some name) × (is_new before reloc name ≡ true)
+segment_name_field : (before : List Segment) (reloc : Reloc) (argument : Bool) (end : ℕ) (bytes name : List ℕ) → segment_name_at before reloc argument end bytes ≡ Ok name → (bytes ≡ text_field name) × (segment_name reloc name ≡ Some name) × (may_have before reloc argument name ≡ true)
 unfolding segment_name_at
-segment_name_field before reloc end bytes name e = name_field (segment_name reloc) (is_new before reloc) end bytes name (segment_name_takes reloc) e
+segment_name_field before reloc argument end bytes name e = name_field (segment_name reloc) (may_have before reloc argument) end bytes name (segment_name_takes reloc) e
 
-segment_name_again : (before : List Segment) (reloc : Reloc) (end : ℕ) (name : List ℕ) → segment_name reloc name ≡ Some name → is_new before reloc name ≡ true → segment_name_at before reloc end (text_field name) ≡ Ok name
+segment_name_again : (before : List Segment) (reloc : Reloc) (argument : Bool) (end : ℕ) (name : List ℕ) → segment_name reloc name ≡ Some name → may_have before reloc argument name ≡ true → segment_name_at before reloc argument end (text_field name) ≡ Ok name
 unfolding segment_name_at
-segment_name_again before reloc end name h k = name_tested (segment_name reloc) (is_new before reloc) end name h k
+segment_name_again before reloc argument end name h k = name_tested (segment_name reloc) (may_have before reloc argument) end name h k
 
 -- ---- the record
 
 -- what is shown of what was read
-abbrev Taken : List Segment → List ℕ → Segment → Type 0
-Taken before bytes s = (bytes ≡ segment_contents s) × IsTested before s
+abbrev Taken : ℕ → List Segment → List ℕ → Segment → Type 0
+Taken version before bytes s = (bytes ≡ segment_contents s) × IsTested version before s
 
-segment_built : (before : List Segment) (end : ℕ) (bytes : List ℕ) (kind : Kind) (r1 : List ℕ) (reloc : Reloc) (r2 : List ℕ) (overlay : Bool) (r3 : List ℕ) (base : ℕ) (r4 : List ℕ) (size : ℕ) (r5 : List ℕ) (name : List ℕ)
-    → IsBytes bytes → nat_lt (length before) 254 ≡ true → segment_kind_at end bytes ≡ Ok (kind, r1) → reloc_at kind end r1 ≡ Ok (reloc, r2) → overlay_at kind reloc end r2 ≡ Ok (overlay, r3)
-    → base_at reloc end r3 ≡ Ok (base, r4) → size_at kind reloc base end r4 ≡ Ok (size, r5) → segment_name_at before reloc end r5 ≡ Ok name
-    → Taken before bytes (record { name = name; kind = kind; reloc = reloc; overlay = overlay; base = base; size = size })
-segment_built before end bytes kind r1 reloc r2 overlay r3 base r4 size r5 name fits few e1 e2 e3 e4 e5 e6 =
+segment_built : (version : ℕ) (before : List Segment) (end : ℕ) (bytes : List ℕ) (kind : Kind) (r1 : List ℕ) (reloc : Reloc) (r2 : List ℕ) (overlay argument : Bool) (r3 : List ℕ) (base : ℕ) (r4 : List ℕ) (size : ℕ) (r5 name : List ℕ)
+    → IsBytes bytes → nat_lt (length before) 254 ≡ true → segment_kind_at end bytes ≡ Ok (kind, r1) → reloc_at kind end r1 ≡ Ok (reloc, r2) → marks_at version kind reloc end r2 ≡ Ok (overlay, argument, r3)
+    → base_at reloc end r3 ≡ Ok (base, r4) → size_at kind reloc base end r4 ≡ Ok (size, r5) → segment_name_at before reloc argument end r5 ≡ Ok name
+    → Taken version before bytes (record { name = name; kind = kind; reloc = reloc; overlay = overlay; argument = argument; base = base; size = size })
+segment_built version before end bytes kind r1 reloc r2 overlay argument r3 base r4 size r5 name fits few e1 e2 e3 e4 e5 e6 =
     let kf = kind_field end bytes (kind, r1) e1 in
     let fits1 : (kind_number kind < 256) × IsBytes r1 = subst IsBytes kf.0 fits in
     let rf = reloc_field kind end r1 (reloc, r2) e2 in
     let fits2 : (reloc_number reloc < 256) × IsBytes r2 = subst IsBytes rf.0 fits1.1 in
-    let vf = overlay_field kind reloc end r2 (overlay, r3) e3 in
-    let fits3 : (flags_of overlay < 256) × IsBytes r3 = subst IsBytes vf.0 fits2.1 in
+    let vf = marks_field version kind reloc end r2 (overlay, argument, r3) e3 in
+    let fits3 : (flags_of overlay argument < 256) × IsBytes r3 = subst IsBytes vf.0 fits2.1 in
     let bf = base_field reloc end r3 (base, r4) fits3.1 e4 in
     let zf = size_field kind reloc base end r4 (size, r5) bf.1 e5 in
-    let nf = segment_name_field before reloc end r5 name e6 in
+    let nf = segment_name_field before reloc argument end r5 name e6 in
     let t5 : r4 ≡ pair size ++ text_field name = zf.0 ∙ ap (λ (t : List ℕ). pair size ++ t) nf.0 in
     let t4 : r3 ≡ pair base ++ (pair size ++ text_field name) = bf.0 ∙ ap (λ (t : List ℕ). pair base ++ t) t5 in
-    let t3 : r2 ≡ flags_of overlay ∷ (pair base ++ (pair size ++ text_field name)) = vf.0 ∙ ap (λ (t : List ℕ). flags_of overlay ∷ t) t4 in
-    let t2 : r1 ≡ reloc_number reloc ∷ flags_of overlay ∷ (pair base ++ (pair size ++ text_field name)) = rf.0 ∙ ap (λ (t : List ℕ). reloc_number reloc ∷ t) t3 in
-    let whole : bytes ≡ kind_number kind ∷ reloc_number reloc ∷ flags_of overlay ∷ (pair base ++ (pair size ++ text_field name)) = kf.0 ∙ ap (λ (t : List ℕ). kind_number kind ∷ t) t2 in
-    (whole, record { few = few; kind = kf.1; reloc = rf.1; overlay = vf.1; base = bf.2; size = zf.2; name = nf.1; new = nf.2 })
+    let t3 : r2 ≡ flags_of overlay argument ∷ (pair base ++ (pair size ++ text_field name)) = vf.0 ∙ ap (λ (t : List ℕ). flags_of overlay argument ∷ t) t4 in
+    let t2 : r1 ≡ reloc_number reloc ∷ flags_of overlay argument ∷ (pair base ++ (pair size ++ text_field name)) = rf.0 ∙ ap (λ (t : List ℕ). reloc_number reloc ∷ t) t3 in
+    let whole : bytes ≡ kind_number kind ∷ reloc_number reloc ∷ flags_of overlay argument ∷ (pair base ++ (pair size ++ text_field name)) = kf.0 ∙ ap (λ (t : List ℕ). kind_number kind ∷ t) t2 in
+    (whole, record { few = few; kind = kf.1; reloc = rf.1; marks = vf.1; base = bf.2; size = zf.2; name = nf.1; new = nf.2 })
 
-pub segment_takes : (before : List Segment) (end : ℕ) (bytes : List ℕ) (s : Segment) → IsBytes bytes → segment_in before end bytes ≡ Ok s → (bytes ≡ segment_contents s) × IsTested before s
+pub segment_takes : (version : ℕ) (before : List Segment) (end : ℕ) (bytes : List ℕ) (s : Segment) → IsBytes bytes → segment_in version before end bytes ≡ Ok s → (bytes ≡ segment_contents s) × IsTested version before s
 unfolding segment_in
-segment_takes before end bytes s fits e =
-    on_ok (checked (nat_lt (length before) 254) end bytes bytes) _ s (Taken before bytes s) (λ all e0 h0.
+segment_takes version before end bytes s fits e =
+    on_ok (checked (nat_lt (length before) 254) end bytes bytes) _ s (Taken version before bytes s) (λ all e0 h0.
     let few = checked_ok (nat_lt (length before) 254) end bytes bytes all e0 in
-    on_ok (segment_kind_at end all) _ s (Taken before bytes s) (λ kind e1 h1.
-    on_ok (reloc_at kind.0 end kind.1) _ s (Taken before bytes s) (λ reloc e2 h2.
-    on_ok (overlay_at kind.0 reloc.0 end reloc.1) _ s (Taken before bytes s) (λ overlay e3 h3.
-    on_ok (base_at reloc.0 end overlay.1) _ s (Taken before bytes s) (λ base e4 h4.
-    on_ok (size_at kind.0 reloc.0 base.0 end base.1) _ s (Taken before bytes s) (λ size e5 h5.
-    on_ok (segment_name_at before reloc.0 end size.1) _ s (Taken before bytes s) (λ name e6 h6.
-    let made : Segment = record { name = name; kind = kind.0; reloc = reloc.0; overlay = overlay.0; base = base.0; size = size.0 } in
-    subst (Taken before bytes) (ok_is made s h6)
-    (segment_built before end bytes kind.0 kind.1 reloc.0 reloc.1 overlay.0 overlay.1 base.0 base.1 size.0 size.1 name fits few.0
+    on_ok (segment_kind_at end all) _ s (Taken version before bytes s) (λ kind e1 h1.
+    on_ok (reloc_at kind.0 end kind.1) _ s (Taken version before bytes s) (λ reloc e2 h2.
+    on_ok (marks_at version kind.0 reloc.0 end reloc.1) _ s (Taken version before bytes s) (λ marks e3 h3.
+    on_ok (base_at reloc.0 end marks.2) _ s (Taken version before bytes s) (λ base e4 h4.
+    on_ok (size_at kind.0 reloc.0 base.0 end base.1) _ s (Taken version before bytes s) (λ size e5 h5.
+    on_ok (segment_name_at before reloc.0 marks.1 end size.1) _ s (Taken version before bytes s) (λ name e6 h6.
+    let made : Segment = record { name = name; kind = kind.0; reloc = reloc.0; overlay = marks.0; argument = marks.1; base = base.0; size = size.0 } in
+    subst (Taken version before bytes) (ok_is made s h6)
+    (segment_built version before end bytes kind.0 kind.1 reloc.0 reloc.1 marks.0 marks.1 marks.2 base.0 base.1 size.0 size.1 name fits few.0
     (ap (segment_kind_at end) few.1 ∙ e1) e2 e3 e4 e5 e6)) h5) h4) h3) h2) h1) h0) e
 
-pub segment_again : (before : List Segment) (end : ℕ) (s : Segment) → IsTested before s → segment_in before end (segment_contents s) ≡ Ok s
+pub segment_again : (version : ℕ) (before : List Segment) (end : ℕ) (s : Segment) → IsTested version before s → segment_in version before end (segment_contents s) ≡ Ok s
 unfolding segment_in
-segment_again before end s t =
+segment_again version before end s t =
     let names = text_field s.name in
     let sizes = pair s.size ++ names in
     let bases = pair s.base ++ sizes in
     rw (
       t.few,
-      kind_again end s.kind (reloc_number s.reloc ∷ flags_of s.overlay ∷ bases) t.kind,
-      reloc_again s.kind end s.reloc (flags_of s.overlay ∷ bases) t.reloc,
-      overlay_again s.kind s.reloc end s.overlay bases t.overlay,
+      kind_again end s.kind (reloc_number s.reloc ∷ flags_of s.overlay s.argument ∷ bases) t.kind,
+      reloc_again s.kind end s.reloc (flags_of s.overlay s.argument ∷ bases) t.reloc,
+      marks_again version s.kind s.reloc end s.overlay s.argument bases t.marks,
       base_again s.reloc end s.base sizes t.base,
       size_again s.kind s.reloc s.base end s.size names t.size,
-      segment_name_again before s.reloc end s.name t.name t.new,
+      segment_name_again before s.reloc s.argument end s.name t.name t.new,
     ) refl

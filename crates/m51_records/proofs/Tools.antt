@@ -45,12 +45,6 @@ pub ended_ok : {A : Type 0} (end : ℕ) (rest : List ℕ) (x y : A) → ended en
 ended_ok end [] x y e = (refl, ok_is x y e)
 ended_ok end (b ∷ rest) x y e = absurd cc
 
--- both tests hold
-pub both : (a b : Bool) → (a && b) ≡ true → (a ≡ true) × (b ≡ true)
-both true true e = (refl, refl)
-both true false e = absurd cc
-both false b e = absurd cc
-
 -- a list grows by one, or is a front
 module _ {X : Type 0} where
   single : (P : X → Type 0) (x : X) → P x → All P (x ∷ [])

@@ -1,9 +1,10 @@
--- The numbers that stand for kinds, types and forms in records (OMF-51, with this project's numbers).
-use Rattle.std.specs.Prelude.{ℕ, List, [], ◌∷◌, Option, slice_get, Bool, ◌==◌}
+-- The numbers that stand for kinds, types and forms in records (this project's own).
+use Rattle.std.specs.Prelude.{ℕ, List, [], ◌∷◌, Option, slice_get}
 use Rattle.m51_cells.specs.declared.kind.Kind.{Kind}
 use Rattle.m51_cells.specs.declared.kind.Kind.TheVariants.{Code, Xdata, Direct, Idata, Bits, Number}
 use Rattle.m51_cells.specs.declared.kind.Reloc.{Reloc}
-use Rattle.m51_cells.specs.declared.kind.Reloc.TheVariants.{Abs, Unit as UnitType, Bitaddressable, Inpage, Inblock as InblockType, Page}
+use Rattle.m51_cells.specs.declared.kind.Reloc.TheVariants.{Abs, Unit as UnitType, Bitaddressable, Inpage}
+use Rattle.m51_cells.specs.declared.kind.Reloc.TheVariants.{Inblock as InblockType, Page}
 use Rattle.m51_module.specs.declared.content.Form.{Form}
 use Rattle.m51_module.specs.declared.content.Form.TheVariants.{Low, Byte, Relative, High, Word, Inblock, Bit, Conv}
 
@@ -54,11 +55,3 @@ form_number Conv = 7
 
 abbrev pub form_of : ℕ → Option Form
 form_of number = slice_get forms number
-
--- two kinds are one
-abbrev pub same_kind : Kind → Kind → Bool
-same_kind one two = kind_number one == kind_number two
-
--- the segment is absolute
-abbrev pub is_absolute : Reloc → Bool
-is_absolute reloc = reloc_number reloc == 0

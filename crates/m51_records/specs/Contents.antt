@@ -1,11 +1,11 @@
 -- The record of a piece of content.
-use Rattle.std.specs.Prelude.{ℕ, ◌+◌, ◌-◌, Bool, true, ◌&&◌, ◌==◌, nat_le, nat_lt, min, if◌then◌else◌, List, ◌∷◌, ◌++◌, length, drop, slice_get, Option, Some, None, Result, Ok}
-use Rattle.m51_cells.specs.declared.kind.Kind.TheVariants.{Code}
+use Rattle.std.specs.Prelude.{ℕ, ◌+◌, ◌-◌, Bool, true, ◌&&◌, ◌==◌, nat_le, nat_lt, min, if◌then◌else◌, List, ◌∷◌}
+use Rattle.std.specs.Prelude.{◌++◌, length, drop, slice_get, Option, Some, None, Result, Ok}
 use Rattle.m51_module.specs.declared.content.Piece.{Piece}
 use Rattle.m51_module.specs.declared.segment.Segment.{Segment}
 use Rattle.m51_module.specs.Validity.{numbered}
 use Rattle.m51_module.specs.declared.object_error.ObjError.{ObjError}
-use Rattle.m51_records.specs.Codes.{same_kind}
+use Rattle.m51_cells.specs.Kinds.{is_code}
 use Rattle.m51_records.specs.Fields.{◌>>=◌, checked, or_absent, byte_at, pair, pair_at}
 
 -- segment, offset, bytes
@@ -26,11 +26,13 @@ unfoldable pub code_segment_at : List Segment → Option Piece → ℕ → List 
 code_segment_at segments previous end bytes = do
   number ← byte_at end bytes
   segment ← or_absent (numbered segments number.0) end bytes
-  checked (same_kind segment.kind Code && segment_follows previous number.0) end bytes (number.0, segment.size, number.1)
+  checked (is_code segment.kind && segment_follows previous number.0) end bytes (number.0, segment.size, number.1)
 
 -- the piece ends below the offset, or at it with 1,024 bytes: so many lie between its offset and this one
 abbrev pub ends_before : Piece → ℕ → Bool
-ends_before p offset = if length p.bytes == offset - p.offset then length p.bytes == 1024 else nat_lt (length p.bytes) (offset - p.offset)
+ends_before p offset =
+    if length p.bytes == offset - p.offset then length p.bytes == 1024
+    else nat_lt (length p.bytes) (offset - p.offset)
 
 -- the piece before ends so, where it is in the same segment
 abbrev pub piece_follows : Option Piece → ℕ → ℕ → Bool

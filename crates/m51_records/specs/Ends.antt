@@ -1,24 +1,28 @@
 -- The first record of a module, and its last one.
-use Rattle.std.specs.Prelude.{ℕ, ◌%◌, Bool, ◌&&◌, ◌==◌, nat_lt, List, [], ◌∷◌, ◌++◌, Result}
+use Rattle.std.specs.Prelude.{ℕ, ◌%◌, Bool, ◌&&◌, ◌||◌, ◌==◌, nat_lt, List, [], ◌∷◌, ◌++◌, Result}
 use Rattle.m51_module.specs.declared.object_error.ObjError.{ObjError}
 use Rattle.m51_records.specs.Fields.{◌>>=◌, checked, or_broken, byte_at, text_field, text_at, upper_name, same, ended}
 
--- the name of the module, and version 1
-abbrev pub header_contents : List ℕ → List ℕ
-header_contents name = text_field name ++ 1 ∷ []
+-- the name of the module, and the version of the object
+abbrev pub header_contents : List ℕ → ℕ → List ℕ
+header_contents name version = text_field name ++ version ∷ []
 
--- the version
+-- version 1 or 2
+abbrev pub is_version : ℕ → Bool
+is_version version = (version == 1) || (version == 2)
+
 abbrev pub version_at : ℕ → List ℕ → Result (ℕ × List ℕ) ObjError
 version_at end bytes = do
   version ← byte_at end bytes
-  checked (version.0 == 1) end bytes version
+  checked (is_version version.0) end bytes version
 
-unfoldable pub header_in : ℕ → List ℕ → Result (List ℕ) ObjError
+-- the name and the version
+unfoldable pub header_in : ℕ → List ℕ → Result (List ℕ × ℕ) ObjError
 header_in end bytes = do
   text ← text_at end bytes
   name ← or_broken (upper_name text.0) end bytes
   version ← version_at end text.1
-  ended end version.1 name
+  ended end version.1 (name, version.0)
 
 -- the name once more, and the banks in use
 abbrev pub end_contents : List ℕ → ℕ → List ℕ

@@ -1,11 +1,10 @@
 -- The record of an external.
-use Rattle.std.specs.Prelude.{ℕ, Bool, not, nat_lt, List, ◌∷◌, length, Result, Ok}
-use Rattle.std.specs.List.{list_any}
+use Rattle.std.specs.Prelude.{ℕ, nat_lt, List, ◌∷◌, length, map, Result, Ok}
 use Rattle.m51_cells.specs.declared.kind.Kind.{Kind}
 use Rattle.m51_module.specs.declared.symbol.External.{External}
 use Rattle.m51_module.specs.declared.object_error.ObjError.{ObjError}
 use Rattle.m51_records.specs.Codes.{kind_number, kind_of}
-use Rattle.m51_records.specs.Fields.{◌>>=◌, checked, or_broken, byte_at, text_field, text_at, upper_name, same, ended}
+use Rattle.m51_records.specs.Fields.{◌>>=◌, checked, or_broken, byte_at, text_field, new_name_at}
 
 -- kind, name
 abbrev pub external_contents : External → List ℕ
@@ -18,22 +17,10 @@ kind_at end bytes = do
   kind ← or_broken (kind_of number.0) end bytes
   Ok (kind, number.1)
 
--- one of the externals has the name
-abbrev pub names_external : List External → List ℕ → Bool
-names_external before name = list_any (λ (e : External). same e.name name) before
-
--- the name, the last field: no external before has it
-unfoldable pub external_name_at : List External → ℕ → List ℕ → Result (List ℕ) ObjError
-external_name_at before end bytes = do
-  text ← text_at end bytes
-  name ← or_broken (upper_name text.0) end bytes
-  new ← checked (not (names_external before name)) end bytes name
-  ended end text.1 new
-
 -- at most 255 externals, whose names differ
 unfoldable pub external_in : List External → ℕ → List ℕ → Result External ObjError
 external_in before end bytes = do
   all ← checked (nat_lt (length before) 255) end bytes bytes
   kind ← kind_at end all
-  name ← external_name_at before end kind.1
+  name ← new_name_at (map (λ (e : External). e.name) before) end kind.1
   Ok (record { name = name; kind = kind.0 })

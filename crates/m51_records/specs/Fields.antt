@@ -1,7 +1,9 @@
 -- The fields of a record, from left to right, and the first refusal. What is read ends at a place of the file, so the
 -- place of a field is that end less the bytes from the field on.
-use Rattle.std.specs.Prelude.{ℕ, ◌+◌, ◌*◌, ◌-◌, ◌/◌, ◌%◌, Bool, nat_eq, nat_le, if◌then◌else◌, List, [], ◌∷◌, length, take, drop, Option, Some, None, Result, Ok, Err}
+use Rattle.std.specs.Prelude.{ℕ, ◌+◌, ◌*◌, ◌-◌, ◌/◌, ◌%◌, Bool, not, nat_eq, nat_le, if◌then◌else◌, List, [], ◌∷◌}
+use Rattle.std.specs.Prelude.{length, take, drop, Option, Some, None, Result, Ok, Err}
 use Rattle.std.specs.Cmp.Lexicographic.{pointwise}
+use Rattle.std.specs.List.{list_any}
 use Rattle.m51_cells.specs.Name.{name_of}
 use Rattle.m51_cells.specs.Outcome.{Gives}
 use Rattle.m51_module.specs.declared.object_error.ObjError.{ObjError}
@@ -59,11 +61,16 @@ text_field text = length text ∷ text
 
 abbrev pub text_at : ℕ → List ℕ → Result (List ℕ × List ℕ) ObjError
 text_at end [] = Err (O4 (place end []))
-text_at end (len ∷ rest) = if nat_le len (length rest) then Ok (take len rest, drop len rest) else Err (O4 (place end (len ∷ rest)))
+text_at end (len ∷ rest) =
+    if nat_le len (length rest) then Ok (take len rest, drop len rest) else Err (O4 (place end (len ∷ rest)))
 
 -- two texts are one
 abbrev pub same : List ℕ → List ℕ → Bool
 same one two = pointwise nat_eq one two
+
+-- the name is one of these
+abbrev pub is_among : List (List ℕ) → List ℕ → Bool
+is_among names name = list_any (same name) names
 
 -- the name that a text writes, where it is the text itself, in upper case
 abbrev pub if_same : List ℕ → Option (List ℕ) → Option (List ℕ)
@@ -77,3 +84,11 @@ upper_name text = if_same text (name_of text)
 abbrev pub ended : {A : Type 0} → ℕ → List ℕ → A → Result A ObjError
 ended end [] value = Ok value
 ended end (byte ∷ rest) value = Err (O4 (place end (byte ∷ rest)))
+
+-- the name, the last field of a record: it is in upper case, and none of these
+unfoldable pub new_name_at : List (List ℕ) → ℕ → List ℕ → Result (List ℕ) ObjError
+new_name_at names end bytes = do
+  text ← text_at end bytes
+  name ← or_broken (upper_name text.0) end bytes
+  new ← checked (not (is_among names name)) end bytes name
+  ended end text.1 new

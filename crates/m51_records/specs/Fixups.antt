@@ -1,5 +1,6 @@
 -- The record of a fixup.
-use Rattle.std.specs.Prelude.{ℕ, zero, suc, ◌+◌, ◌-◌, Bool, true, not, ◌&&◌, ◌||◌, ◌==◌, nat_le, nat_lt, List, [], ◌∷◌, ◌++◌, length, Option, Some, None, Result, Ok}
+use Rattle.std.specs.Prelude.{ℕ, zero, suc, ◌+◌, ◌-◌, Bool, true, not, ◌&&◌, ◌||◌, ◌==◌, nat_le, nat_lt, List, []}
+use Rattle.std.specs.Prelude.{◌∷◌, ◌++◌, length, Option, Some, None, Result, Ok}
 use Rattle.std.specs.List.{list_any}
 use Rattle.m51_cells.specs.declared.kind.Base.{Base}
 use Rattle.m51_cells.specs.declared.kind.Base.TheVariants.{None as NoBase, Segment as InSegment, External as OfExternal}
@@ -49,7 +50,8 @@ fixup_offset_at previous segment end bytes = do
 
 -- the piece holds the byte at that place of the segment
 abbrev pub holds : ℕ → ℕ → Piece → Bool
-holds segment offset p = (p.segment == segment) && (nat_le p.offset offset && nat_lt (offset - p.offset) (length p.bytes))
+holds segment offset p =
+    (p.segment == segment) && (nat_le p.offset offset && nat_lt (offset - p.offset) (length p.bytes))
 
 -- some piece holds it
 abbrev pub is_held : List Piece → ℕ → ℕ → Bool
@@ -57,7 +59,8 @@ is_held pieces segment offset = list_any (holds segment offset) pieces
 
 -- pieces hold each byte of the field
 abbrev pub is_inside : List Piece → ℕ → ℕ → Form → Bool
-is_inside pieces segment offset form = is_held pieces segment offset && ((field_len form == 1) || is_held pieces segment (offset + 1))
+is_inside pieces segment offset form =
+    is_held pieces segment offset && ((field_len form == 1) || is_held pieces segment (offset + 1))
 
 -- a form, whose field lies inside the content
 unfoldable pub form_at : List Piece → ℕ → ℕ → ℕ → List ℕ → Result (Form × List ℕ) ObjError

@@ -1,5 +1,6 @@
 -- What is round the contents of a record: type, length and checksum.
-use Rattle.std.specs.Prelude.{ℕ, ◌+◌, ◌*◌, ◌-◌, ◌%◌, Bool, false, ◌==◌, nat_lt, if◌then◌else◌, List, [], ◌∷◌, ◌++◌, length, take, drop, sum, Result, Ok, Err}
+use Rattle.std.specs.Prelude.{ℕ, ◌+◌, ◌*◌, ◌-◌, ◌%◌, Bool, false, ◌==◌, nat_lt, if◌then◌else◌, List, [], ◌∷◌, ◌++◌}
+use Rattle.std.specs.Prelude.{length, take, drop, sum, Result, Ok, Err}
 use Rattle.m51_module.specs.declared.object_error.ObjError.{ObjError}
 use Rattle.m51_module.specs.declared.object_error.ObjError.TheVariants.{O1, O2, O3, O4}
 use Rattle.m51_records.specs.Fields.{place, pair}
@@ -27,7 +28,9 @@ Framed = List ℕ × List ℕ
 -- the front of a record, and what follows it: the checksum, and the bytes after the record
 abbrev pub summed : ℕ → ℕ → List ℕ → List ℕ → Result Framed ObjError
 summed total number front [] = Err (O1 total)
-summed total number front (found ∷ after) = if found == checksum_of front then Ok (drop 3 front, after) else Err (O2 number found (checksum_of front))
+summed total number front (found ∷ after) =
+    if found == checksum_of front then Ok (drop 3 front, after)
+    else Err (O2 number found (checksum_of front))
 
 -- a record of that length of contents and checksum
 unfoldable pub closed : ℕ → ℕ → ℕ → List ℕ → Result Framed ObjError
@@ -46,7 +49,9 @@ lengthed total number short = Err (O1 total)
 -- tests stand in their order.
 unfoldable pub record_at : ℕ → ℕ → ℕ → List ℕ → Result Framed ObjError
 record_at type total number [] = Err (O1 total)
-record_at type total number (first ∷ more) = if first == type then lengthed total number (first ∷ more) else Err (O3 (place total (first ∷ more)))
+record_at type total number (first ∷ more) =
+    if first == type then lengthed total number (first ∷ more)
+    else Err (O3 (place total (first ∷ more)))
 
 -- where the contents of a record end: at its checksum, which stands before the bytes after the record
 abbrev pub checksum_place : ℕ → List ℕ → ℕ

@@ -9,3 +9,5 @@ pub mod Contents
 pub mod Fixups
 pub mod Spelling
 pub mod Reading
+pub mod WorkNames
+pub mod WorkPieces

@@ -1,6 +1,5 @@
 -- The record of a public.
-use Rattle.std.specs.Prelude.{ℕ, zero, suc, Bool, not, List, ◌∷◌, ◌++◌, Result, Ok}
-use Rattle.std.specs.List.{list_any}
+use Rattle.std.specs.Prelude.{ℕ, zero, suc, List, ◌∷◌, ◌++◌, map, Result, Ok}
 use Rattle.m51_cells.specs.declared.kind.Base.{Base}
 use Rattle.m51_cells.specs.declared.kind.Base.TheVariants.{None as NoBase, Segment as InSegment, External as OfExternal}
 use Rattle.m51_cells.specs.declared.kind.Kind.{Kind}
@@ -8,9 +7,10 @@ use Rattle.m51_module.specs.declared.segment.Segment.{Segment}
 use Rattle.m51_module.specs.declared.symbol.Public.{Public}
 use Rattle.m51_module.specs.Validity.{numbered}
 use Rattle.m51_module.specs.declared.object_error.ObjError.{ObjError}
-use Rattle.m51_records.specs.Codes.{kind_number, same_kind}
+use Rattle.m51_cells.specs.Kinds.{same_kind}
+use Rattle.m51_records.specs.Codes.{kind_number}
 use Rattle.m51_records.specs.Externals.{kind_at}
-use Rattle.m51_records.specs.Fields.{◌>>=◌, checked, or_absent, or_broken, byte_at, pair, pair_at, text_field, text_at, upper_name, same, ended}
+use Rattle.m51_records.specs.Fields.{◌>>=◌, checked, or_absent, byte_at, pair, pair_at, text_field, new_name_at}
 
 -- the segment's number, or 0
 abbrev pub base_number : Base → ℕ
@@ -35,22 +35,11 @@ public_base_at segments kind end bytes = do
   base ← base_of segments kind number.0 end bytes
   Ok (base, number.1)
 
--- one of the publics has the name
-abbrev pub names_public : List Public → List ℕ → Bool
-names_public before name = list_any (λ (p : Public). same p.name name) before
-
--- the name, the last field: no public before has it
-unfoldable pub public_name_at : List Public → ℕ → List ℕ → Result (List ℕ) ObjError
-public_name_at before end bytes = do
-  text ← text_at end bytes
-  name ← or_broken (upper_name text.0) end bytes
-  new ← checked (not (names_public before name)) end bytes name
-  ended end text.1 new
-
+-- no public before has the name
 unfoldable pub public_in : List Segment → List Public → ℕ → List ℕ → Result Public ObjError
 public_in segments before end bytes = do
   kind ← kind_at end bytes
   base ← public_base_at segments kind.0 end kind.1
   number ← pair_at end base.1
-  name ← public_name_at before end number.1
+  name ← new_name_at (map (λ (p : Public). p.name) before) end number.1
   Ok (record { name = name; kind = kind.0; base = base.0; number = number.0 })

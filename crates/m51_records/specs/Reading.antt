@@ -27,13 +27,15 @@ one_at type read total number bytes = do
   value ← read (checksum_place total framed.1) framed.0
   Ok (value, framed.1)
 
--- Records of one type as long as they come, at most so many; each is read by what stands before it. The number is that of
--- the first record.
-unfoldable pub many_at : {X : Type 0} → ℕ → (List X → Reader X) → ℕ → ℕ → ℕ → List X → List ℕ → Result (List X × List ℕ) ObjError
+-- Records of one type as long as they come, at most so many; each is read by what stands before it. The number is that
+-- of the first record.
+unfoldable pub many_at : {X : Type 0} → ℕ → (List X → Reader X) → ℕ → ℕ → ℕ → List X → List ℕ
+    → Result (List X × List ℕ) ObjError
 many_at type read total number zero before bytes = Ok (before, bytes)
 many_at type read total number (suc most) before bytes =
     if begins type bytes
-    then (one_at type (read before) total number bytes >>= λ one. many_at type read total (number + 1) most (before ++ one.0 ∷ []) one.1)
+    then (one_at type (read before) total number bytes >>= λ one.
+    many_at type read total (number + 1) most (before ++ one.0 ∷ []) one.1)
     else Ok (before, bytes)
 
 -- all of them: a record takes bytes, so there are no more records than bytes
@@ -41,8 +43,8 @@ abbrev pub all_at : {X : Type 0} → ℕ → (List X → Reader X) → ℕ → �
 all_at type read total number bytes = many_at type read total number (length bytes) [] bytes
 
 -- the records of each type
-abbrev pub segments_at : ℕ → ℕ → List ℕ → Result (List Segment × List ℕ) ObjError
-segments_at total number bytes = all_at 0x0E segment_in total number bytes
+abbrev pub segments_at : ℕ → ℕ → ℕ → List ℕ → Result (List Segment × List ℕ) ObjError
+segments_at version total number bytes = all_at 0x0E (segment_in version) total number bytes
 
 abbrev pub externals_at : ℕ → ℕ → List ℕ → Result (List External × List ℕ) ObjError
 externals_at total number bytes = all_at 0x18 external_in total number bytes
@@ -53,10 +55,12 @@ publics_at segments total number bytes = all_at 0x16 (public_in segments) total 
 abbrev pub pieces_at : List Segment → ℕ → ℕ → List ℕ → Result (List Piece × List ℕ) ObjError
 pieces_at segments total number bytes = all_at 0x06 (piece_in segments) total number bytes
 
-abbrev pub fixups_at : List Segment → List External → List Piece → ℕ → ℕ → List ℕ → Result (List Fixup × List ℕ) ObjError
-fixups_at segments externals pieces total number bytes = all_at 0x08 (fixup_in segments externals pieces) total number bytes
+abbrev pub fixups_at : List Segment → List External → List Piece → ℕ → ℕ → List ℕ
+    → Result (List Fixup × List ℕ) ObjError
+fixups_at segments externals pieces total number bytes =
+    all_at 0x08 (fixup_in segments externals pieces) total number bytes
 
-abbrev pub header_at : ℕ → ℕ → List ℕ → Result (List ℕ × List ℕ) ObjError
+abbrev pub header_at : ℕ → ℕ → List ℕ → Result ((List ℕ × ℕ) × List ℕ) ObjError
 header_at total number bytes = one_at 0x02 header_in total number bytes
 
 abbrev pub end_at : List ℕ → ℕ → ℕ → List ℕ → Result (ℕ × List ℕ) ObjError
@@ -66,14 +70,29 @@ end_at name total number bytes = one_at 0x04 (end_in name) total number bytes
 -- first record has that number.
 unfoldable pub module_at : ℕ → ℕ → List ℕ → Result (ModuleParts × List ℕ) ObjError
 module_at total number bytes = do
-  name ← header_at total number bytes
-  segments ← segments_at total (number + 1) name.1
+  header ← header_at total number bytes
+  segments ← segments_at header.0.1 total (number + 1) header.1
   externals ← externals_at total (number + 1 + length segments.0) segments.1
   publics ← publics_at segments.0 total (number + 1 + length segments.0 + length externals.0) externals.1
   pieces ← pieces_at segments.0 total (number + 1 + length segments.0 + length externals.0 + length publics.0) publics.1
-  fixups ← fixups_at segments.0 externals.0 pieces.0 total (number + 1 + length segments.0 + length externals.0 + length publics.0 + length pieces.0) pieces.1
-  banks ← end_at name.0 total (number + 1 + length segments.0 + length externals.0 + length publics.0 + length pieces.0 + length fixups.0) fixups.1
-  Ok (record { name = name.0; segments = segments.0; publics = publics.0; externals = externals.0; pieces = pieces.0; fixups = fixups.0; banks = banks.0 }, banks.1)
+  fixups ← fixups_at segments.0 externals.0 pieces.0 total
+      (number + 1 + length segments.0 + length externals.0 + length publics.0 + length pieces.0) pieces.1
+  banks ← end_at header.0.0 total
+      (number + 1 + length segments.0 + length externals.0 + length publics.0
+      + length pieces.0 + length fixups.0) fixups.1
+  Ok (
+    record {
+      name = header.0.0;
+      version = header.0.1;
+      segments = segments.0;
+      publics = publics.0;
+      externals = externals.0;
+      pieces = pieces.0;
+      fixups = fixups.0;
+      banks = banks.0;
+    },
+    banks.1,
+  )
 
 -- the module at the front of a file, and the length of its spelling
 abbrev pub read_of : List ℕ → Result (ModuleParts × ℕ) ObjError

@@ -1,24 +1,30 @@
 -- The record of a segment.
-use Rattle.std.specs.Prelude.{ℕ, zero, suc, ◌+◌, Bool, true, false, not, ◌&&◌, ◌||◌, ◌==◌, nat_le, nat_lt, if◌then◌else◌, List, [], ◌∷◌, ◌++◌, length, Option, Some, None, Result, Ok}
+use Rattle.std.specs.Prelude.{ℕ, zero, suc, ◌+◌, Bool, true, false, not, ◌&&◌, ◌||◌, ◌==◌, nat_le, nat_lt}
+use Rattle.std.specs.Prelude.{if◌then◌else◌, List, [], ◌∷◌, ◌++◌, length, Option, Some, None, Result, Ok}
 use Rattle.std.specs.List.{list_any}
 use Rattle.m51_cells.specs.declared.kind.Kind.{Kind}
-use Rattle.m51_cells.specs.declared.kind.Kind.TheVariants.{Code, Direct, Idata, Bits, Number}
+use Rattle.m51_cells.specs.declared.kind.Kind.TheVariants.{Direct, Idata, Bits, Number}
 use Rattle.m51_cells.specs.declared.kind.Reloc.{Reloc}
-use Rattle.m51_cells.specs.Fits.{allows}
+use Rattle.m51_cells.specs.Kinds.{same_kind, is_absolute, allows, may_overlay, largest}
+use Rattle.m51_module.specs.Arguments.{is_argument_name}
 use Rattle.m51_module.specs.declared.segment.Segment.{Segment}
-use Rattle.m51_module.specs.Validity.{largest}
 use Rattle.m51_module.specs.declared.object_error.ObjError.{ObjError}
-use Rattle.m51_records.specs.Codes.{kind_number, kind_of, reloc_number, reloc_of, same_kind, is_absolute}
-use Rattle.m51_records.specs.Fields.{◌>>=◌, checked, or_broken, byte_at, pair, pair_at, text_field, text_at, same, upper_name, ended}
+use Rattle.m51_records.specs.Codes.{kind_number, kind_of, reloc_number, reloc_of}
+use Rattle.m51_records.specs.Fields.{◌>>=◌, checked, or_broken, byte_at, pair, pair_at, text_field, text_at, same}
+use Rattle.m51_records.specs.Fields.{upper_name, ended}
 
--- bit 0 of the flags: OVERLAYABLE
-abbrev pub flags_of : Bool → ℕ
-flags_of true = 1
-flags_of false = 0
+-- bit 0 of the flags is OVERLAYABLE, bit 1 ARGUMENT
+abbrev pub flags_of : Bool → Bool → ℕ
+flags_of false false = 0
+flags_of true false = 1
+flags_of false true = 2
+flags_of true true = 3
 
 -- kind, type, flags, base, size, name
 abbrev pub segment_contents : Segment → List ℕ
-segment_contents s = kind_number s.kind ∷ reloc_number s.reloc ∷ flags_of s.overlay ∷ (pair s.base ++ (pair s.size ++ text_field s.name))
+segment_contents s =
+    kind_number s.kind ∷ reloc_number s.reloc ∷ flags_of s.overlay s.argument
+    ∷ (pair s.base ++ (pair s.size ++ text_field s.name))
 
 -- a kind of memory
 unfoldable pub segment_kind_at : ℕ → List ℕ → Result (Kind × List ℕ) ObjError
@@ -34,21 +40,28 @@ reloc_at kind end bytes = do
   reloc ← or_broken (reloc_of number.0) end bytes
   checked (allows kind reloc) end bytes (reloc, number.1)
 
--- only a relocatable segment that is not of program memory may be OVERLAYABLE
-abbrev pub may_overlay : Kind → Reloc → Bool
-may_overlay kind reloc = not (is_absolute reloc) && not (same_kind kind Code)
+-- what the flags say of OVERLAYABLE and of ARGUMENT, where no other bit is set
+abbrev pub marks_of : ℕ → Option (Bool × Bool)
+marks_of zero = Some (false, false)
+marks_of (suc zero) = Some (true, false)
+marks_of (suc (suc zero)) = Some (false, true)
+marks_of (suc (suc (suc zero))) = Some (true, true)
+marks_of (suc (suc (suc (suc more)))) = None
 
--- no flag, or OVERLAYABLE
-abbrev pub flag_of : ℕ → Option Bool
-flag_of zero = Some false
-flag_of (suc zero) = Some true
-flag_of (suc (suc more)) = None
+-- ARGUMENT stands in version 2, on OVERLAYABLE segments of DATA
+abbrev pub may_mark : ℕ → Kind → Bool → Bool
+may_mark version kind overlay = (version == 2) && (overlay && same_kind kind Direct)
 
-unfoldable pub overlay_at : Kind → Reloc → ℕ → List ℕ → Result (Bool × List ℕ) ObjError
-overlay_at kind reloc end bytes = do
+-- a segment of the kind and type may be OVERLAYABLE and ARGUMENT so
+abbrev pub are_marks : ℕ → Kind → Reloc → Bool → Bool → Bool
+are_marks version kind reloc overlay argument =
+    (not overlay || may_overlay kind reloc) && (not argument || may_mark version kind overlay)
+
+unfoldable pub marks_at : ℕ → Kind → Reloc → ℕ → List ℕ → Result (Bool × Bool × List ℕ) ObjError
+marks_at version kind reloc end bytes = do
   flags ← byte_at end bytes
-  overlay ← or_broken (flag_of flags.0) end bytes
-  checked (not overlay || may_overlay kind reloc) end bytes (overlay, flags.1)
+  marks ← or_broken (marks_of flags.0) end bytes
+  checked (are_marks version kind reloc marks.0 marks.1) end bytes (marks.0, marks.1, flags.1)
 
 -- the base of a relocatable segment is 0
 unfoldable pub base_at : Reloc → ℕ → List ℕ → Result (ℕ × List ℕ) ObjError
@@ -77,7 +90,7 @@ size_at kind reloc base end bytes = do
 
 -- one of the segments has the name
 abbrev pub names_segment : List Segment → List ℕ → Bool
-names_segment before name = list_any (λ (s : Segment). same s.name name) before
+names_segment before name = list_any (λ (s : Segment). same name s.name) before
 
 -- an absolute segment has no name; another has one that none before it has
 abbrev pub no_text : List ℕ → Option (List ℕ)
@@ -90,22 +103,34 @@ segment_name reloc text = if is_absolute reloc then no_text text else upper_name
 abbrev pub is_new : List Segment → Reloc → List ℕ → Bool
 is_new before reloc name = is_absolute reloc || not (names_segment before name)
 
+-- the name is new, and that of an argument segment begins with ?AG?
+unfoldable pub may_have : List Segment → Reloc → Bool → List ℕ → Bool
+may_have before reloc argument name = is_new before reloc name && (not argument || is_argument_name name)
+
 -- the name, the last field
-unfoldable pub segment_name_at : List Segment → Reloc → ℕ → List ℕ → Result (List ℕ) ObjError
-segment_name_at before reloc end bytes = do
+unfoldable pub segment_name_at : List Segment → Reloc → Bool → ℕ → List ℕ → Result (List ℕ) ObjError
+segment_name_at before reloc argument end bytes = do
   text ← text_at end bytes
   name ← or_broken (segment_name reloc text.0) end bytes
-  new ← checked (is_new before reloc name) end bytes name
+  new ← checked (may_have before reloc argument name) end bytes name
   ended end text.1 new
 
--- at most 254 segments
-unfoldable pub segment_in : List Segment → ℕ → List ℕ → Result Segment ObjError
-segment_in before end bytes = do
+-- at most 254 segments, of a module of that version
+unfoldable pub segment_in : ℕ → List Segment → ℕ → List ℕ → Result Segment ObjError
+segment_in version before end bytes = do
   all ← checked (nat_lt (length before) 254) end bytes bytes
   kind ← segment_kind_at end all
   reloc ← reloc_at kind.0 end kind.1
-  overlay ← overlay_at kind.0 reloc.0 end reloc.1
-  base ← base_at reloc.0 end overlay.1
+  marks ← marks_at version kind.0 reloc.0 end reloc.1
+  base ← base_at reloc.0 end marks.2
   size ← size_at kind.0 reloc.0 base.0 end base.1
-  name ← segment_name_at before reloc.0 end size.1
-  Ok (record { name = name; kind = kind.0; reloc = reloc.0; overlay = overlay.0; base = base.0; size = size.0 })
+  name ← segment_name_at before reloc.0 marks.1 end size.1
+  Ok (record {
+    name = name;
+    kind = kind.0;
+    reloc = reloc.0;
+    overlay = marks.0;
+    argument = marks.1;
+    base = base.0;
+    size = size.0;
+  })

@@ -31,8 +31,8 @@ piece_record p = record_of 0x06 (piece_contents p)
 abbrev pub fixup_record : Fixup → List ℕ
 fixup_record f = record_of 0x08 (fixup_contents f)
 
-abbrev pub header_record : List ℕ → List ℕ
-header_record name = record_of 0x02 (header_contents name)
+abbrev pub header_record : List ℕ → ℕ → List ℕ
+header_record name version = record_of 0x02 (header_contents name version)
 
 abbrev pub end_record : List ℕ → ℕ → List ℕ
 end_record name banks = record_of 0x04 (end_contents name banks)
@@ -40,8 +40,9 @@ end_record name banks = record_of 0x04 (end_contents name banks)
 -- the records in their order
 unfoldable pub bytes_of : ModuleParts → List ℕ
 bytes_of m =
-    header_record m.name ++ (flat_map segment_record m.segments ++ (flat_map external_record m.externals ++ (flat_map public_record m.publics
-    ++ (flat_map piece_record m.pieces ++ (flat_map fixup_record m.fixups ++ end_record m.name m.banks)))))
+    header_record m.name m.version ++ (flat_map segment_record m.segments ++ (flat_map external_record m.externals
+    ++ (flat_map public_record m.publics ++ (flat_map piece_record m.pieces
+    ++ (flat_map fixup_record m.fixups ++ end_record m.name m.banks)))))
 
 -- how many records there are
 abbrev pub records_in : ModuleParts → ℕ

@@ -1,6 +1,6 @@
 //! The numbers that stand for kinds, types and forms in records.
 ghost use Rattle.std.specs.Prelude.{◌≡◌, ◌<◌};
-ghost use Rattle.m51_records.specs.Codes.{kind_number, kind_of, reloc_number, reloc_of, form_number, form_of, same_kind, is_absolute};
+ghost use Rattle.m51_records.specs.Codes.{kind_number, kind_of, reloc_number, reloc_of, form_number, form_of};
 
 use m51_cells::{Kind, Reloc};
 use m51_module::Form;
@@ -39,8 +39,8 @@ const FORMS: [Form; 8] = [
 
 /// The kind of a number, if one has it.
 ///
-/// Source: OMF-51.
-pub fn kind_of(number: u8) -> Option<Kind>
+/// Source: own choice ("Object records").
+pub(crate) fn kind_of(number: u8) -> Option<Kind>
     ensures { result ≡ kind_of number }
 {
     KINDS.get(usize::from(number)).copied()
@@ -48,8 +48,8 @@ pub fn kind_of(number: u8) -> Option<Kind>
 
 /// The number of a kind.
 ///
-/// Source: OMF-51.
-pub fn kind_number(kind: Kind) -> u8
+/// Source: own choice ("Object records").
+pub(crate) fn kind_number(kind: Kind) -> u8
     ensures { result ≡ kind_number kind }
 {
     match kind {
@@ -64,8 +64,8 @@ pub fn kind_number(kind: Kind) -> u8
 
 /// The type of a number, if one has it.
 ///
-/// Source: OMF-51.
-pub fn reloc_of(number: u8) -> Option<Reloc>
+/// Source: own choice ("Object records").
+pub(crate) fn reloc_of(number: u8) -> Option<Reloc>
     ensures { result ≡ reloc_of number }
 {
     RELOCS.get(usize::from(number)).copied()
@@ -73,8 +73,8 @@ pub fn reloc_of(number: u8) -> Option<Reloc>
 
 /// The number of a type.
 ///
-/// Source: OMF-51.
-pub fn reloc_number(reloc: Reloc) -> u8
+/// Source: own choice ("Object records").
+pub(crate) fn reloc_number(reloc: Reloc) -> u8
     ensures { result ≡ reloc_number reloc }
 {
     match reloc {
@@ -89,8 +89,8 @@ pub fn reloc_number(reloc: Reloc) -> u8
 
 /// The form of a number, if one has it.
 ///
-/// Source: OMF-51.
-pub fn form_of(number: u8) -> Option<Form>
+/// Source: own choice ("Object records").
+pub(crate) fn form_of(number: u8) -> Option<Form>
     ensures { result ≡ form_of number }
 {
     FORMS.get(usize::from(number)).copied()
@@ -98,8 +98,8 @@ pub fn form_of(number: u8) -> Option<Form>
 
 /// The number of a form.
 ///
-/// Source: OMF-51.
-pub fn form_number(form: Form) -> u8
+/// Source: own choice ("Object records").
+pub(crate) fn form_number(form: Form) -> u8
     ensures { result ≡ form_number form }
 {
     match form {
@@ -112,22 +112,4 @@ pub fn form_number(form: Form) -> u8
         Form::Bit => 6,
         Form::Conv => 7,
     }
-}
-
-/// Whether two kinds are one.
-///
-/// Source: OMF-51.
-pub fn same_kind(one: Kind, two: Kind) -> bool
-    ensures { result ≡ same_kind one two }
-{
-    kind_number(one) == kind_number(two)
-}
-
-/// Whether a segment of the type is absolute.
-///
-/// Source: OMF-51.
-pub fn is_absolute(reloc: Reloc) -> bool
-    ensures { result ≡ is_absolute reloc }
-{
-    reloc_number(reloc) == 0
 }

@@ -12,7 +12,7 @@ use std::alloc::Global;
 /// The type of the last record.
 ///
 /// Source: OMF-51.
-pub const END: u8 = 0x04;
+pub(crate) const END: u8 = 0x04;
 
 // The name once more, and the bytes after it. O4 where it is another.
 fn again_at<'a>(name: &Name, end: u32, bytes: &'a [u8]) -> Result<(&'a [u8], &'a [u8]), ObjError>
@@ -47,9 +47,9 @@ fn banks_at(end: u32, bytes: &[u8]) -> Result<(u8, &[u8]), ObjError>
 ///
 /// Errors: O4 for a field that breaks a rule, or for bytes left over.
 ///
-/// Source: OMF-51.
+/// Source: own choice ("Object records").
 #[tactic(auto, unfolding(crate::specs::Ends::end_in))]
-pub fn read_end(name: &Name, end: u32, contents: &[u8]) -> Result<u8, ObjError>
+pub(crate) fn read_end(name: &Name, end: u32, contents: &[u8]) -> Result<u8, ObjError>
     ensures { Reads (λ x. x) result (end_in name.now end contents.now) }
 {
     let (_, rest) = again_at(name, end, contents)?;
@@ -62,8 +62,8 @@ pub fn read_end(name: &Name, end: u32, contents: &[u8]) -> Result<u8, ObjError>
 
 /// The contents of the last record of a module of this name that uses these banks.
 ///
-/// Source: OMF-51.
-pub fn end_contents(alloc: Global, name: &Name, banks: u8) -> Result<Vec<u8>, NoMemory>
+/// Source: own choice ("Object records").
+pub(crate) fn end_contents(alloc: Global, name: &Name, banks: u8) -> Result<Vec<u8>, NoMemory>
     ensures value { IfOk result (λ contents. contents.items ≡ end_contents name.now banks) }
     ensures short { IfOk result (λ contents. length contents.items < 65535) }
 {

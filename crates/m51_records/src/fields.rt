@@ -17,7 +17,7 @@ pub fn place(end: u32, bytes: &[u8]) -> u32
 
 /// The refusal of a field that breaks a rule: the bytes from the field on, and their end.
 ///
-/// Source: OMF-51.
+/// Source: own choice ("Object records").
 pub fn broken(end: u32, field: &[u8]) -> ObjError
     ensures { result ≡ ObjError.O4 (place end field.now) }
 {
@@ -28,8 +28,8 @@ pub fn broken(end: u32, field: &[u8]) -> ObjError
 
 /// The refusal of a field that numbers what is not there: the bytes from the field on, and their end.
 ///
-/// Source: OMF-51.
-pub fn absent(end: u32, field: &[u8]) -> ObjError
+/// Source: own choice ("Object records").
+pub(crate) fn absent(end: u32, field: &[u8]) -> ObjError
     ensures { result ≡ ObjError.O5 (place end field.now) }
 {
     ObjError::O5 {
@@ -39,8 +39,8 @@ pub fn absent(end: u32, field: &[u8]) -> ObjError
 
 /// A byte, and the bytes after it. O4 where there is none.
 ///
-/// Source: OMF-51.
-pub fn byte_at(end: u32, bytes: &[u8]) -> Result<(u8, &[u8]), ObjError>
+/// Source: own choice ("Object records").
+pub(crate) fn byte_at(end: u32, bytes: &[u8]) -> Result<(u8, &[u8]), ObjError>
     ensures { Reads (λ x. (x.0, x.1.now)) result (byte_at end bytes.now) }
 {
     match bytes {
@@ -51,7 +51,7 @@ pub fn byte_at(end: u32, bytes: &[u8]) -> Result<(u8, &[u8]), ObjError>
 
 /// A number of two bytes, the low one first, and the bytes after it. O4 where there are fewer.
 ///
-/// Source: OMF-51.
+/// Source: own choice ("Object records").
 pub fn pair_at(end: u32, bytes: &[u8]) -> Result<(u16, &[u8]), ObjError>
     ensures { Reads (λ x. (x.0, x.1.now)) result (pair_at end bytes.now) }
 {
@@ -63,8 +63,8 @@ pub fn pair_at(end: u32, bytes: &[u8]) -> Result<(u16, &[u8]), ObjError>
 
 /// A text, which follows its length, and the bytes after it. O4 where the bytes end before.
 ///
-/// Source: OMF-51.
-pub fn text_at(end: u32, bytes: &[u8]) -> Result<(&[u8], &[u8]), ObjError>
+/// Source: own choice ("Object records").
+pub(crate) fn text_at(end: u32, bytes: &[u8]) -> Result<(&[u8], &[u8]), ObjError>
     ensures { Reads (λ x. (x.0.now, x.1.now)) result (text_at end bytes.now) }
 {
     match bytes {
@@ -80,22 +80,31 @@ pub fn text_at(end: u32, bytes: &[u8]) -> Result<(&[u8], &[u8]), ObjError>
     }
 }
 
-/// Appends a number as two bytes, the low one first.
+/// The two bytes of a number, the low one first.
 ///
-/// Source: OMF-51.
-pub fn put_pair(out: &mut Vec<u8>, number: u16) -> Result<(), NoMemory>
-    ensures { OnOk result (out.new.items ≡ out.old.items ++ pair number) }
+/// Source: own choice ("Object records").
+pub fn pair(number: u16) -> [u8; 2]
+    ensures { result ≡ pair number }
 {
     let mut bytes = [0; 2];
     LittleEndian::write_u16(&mut bytes, number);
-    out.extend_from_slice(&bytes)?;
+    bytes
+}
+
+/// Appends a number as two bytes, the low one first.
+///
+/// Source: own choice ("Object records").
+pub(crate) fn put_pair(out: &mut Vec<u8>, number: u16) -> Result<(), NoMemory>
+    ensures { OnOk result (out.new.items ≡ out.old.items ++ pair number) }
+{
+    out.extend_from_slice(&pair(number))?;
     Ok(())
 }
 
 /// Appends a text after its length.
 ///
-/// Source: OMF-51.
-pub fn put_text(out: &mut Vec<u8>, text: &[u8]) -> Result<(), NoMemory>
+/// Source: own choice ("Object records").
+pub(crate) fn put_text(out: &mut Vec<u8>, text: &[u8]) -> Result<(), NoMemory>
     requires { length text.now < 256 }
     ensures { OnOk result (out.new.items ≡ out.old.items ++ text_field text.now) }
 {

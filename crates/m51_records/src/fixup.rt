@@ -1,37 +1,22 @@
 //! The record of a fixup.
-ghost use Rattle.std.specs.Prelude.{◌≡◌, ◌<◌, ◌++◌, IfOk, OnOk, length};
+ghost use Rattle.std.specs.Prelude.{◌≡◌, ◌<◌, ◌≤◌, ◌++◌, ◌∷◌, [], IfOk, IsTrue, OnOk, ◌-◌, ◌&&◌, nat_le, length, take};
+ghost use Rattle.std.specs.Prelude.{drop};
+ghost use Rattle.std.specs.List.{All};
 ghost use Rattle.m51_module.specs.Validity.{field_len};
 ghost use Rattle.m51_records.specs.Contents.{latest};
 ghost use Rattle.m51_records.specs.Fields.{Reads};
-ghost use Rattle.m51_records.specs.Fixups.{target_fields, fixup_contents, field_segment_follows, fixup_segment_at, field_follows, fixup_offset_at, holds, is_held, is_inside, form_at, is_bit, bit_at, target_of, tag_at, target_at, addend_at, fixup_in};
+ghost use Rattle.m51_records.specs.Fixups.{target_fields, fixup_contents, field_segment_follows, fixup_segment_at};
+ghost use Rattle.m51_records.specs.Fixups.{field_follows, fixup_offset_at, holds, is_held, is_inside, form_at, is_bit};
+ghost use Rattle.m51_records.specs.Fixups.{bit_at, target_of, tag_at, target_at, addend_at, fixup_in};
+ghost use Rattle.m51_records.specs.WorkPieces.{ends_by, EndBy, ArePassed};
 
 use crate::codes::{form_number, form_of};
 use crate::fields::{absent, broken, byte_at, pair_at, put_pair};
 use crate::numbered::{external_numbered, segment_numbered};
-use m51_cells::{Base, NoMemory};
+use crate::record::{Reader, Record};
+use m51_cells::{Base, MOST_FIXUPS, NoMemory};
 use m51_module::{External, Fixup, Form, ObjError, Piece, Segment};
 use std::alloc::Global;
-
-/// The type of a fixup's record.
-///
-/// Source: OMF-51.
-pub const FIXUP: u8 = 0x08;
-
-// The most fixups of a module.
-const MOST_FIXUPS: usize = 65535;
-
-/// What a fixup may name: the segments and the externals of the module, and the content in which fields lie.
-///
-/// Source: OMF-51.
-#[derive(Clone, Copy)]
-pub struct Surroundings<'a> {
-    /// The segments of the module, counted from 1.
-    pub segments: &'a [Segment],
-    /// Its externals, counted from 1.
-    pub externals: &'a [External],
-    /// Its content.
-    pub pieces: &'a [Piece],
-}
 
 // Whether no field before stands in a later segment.
 fn field_segment_follows(before: &[Fixup], segment: u8) -> bool
@@ -52,7 +37,9 @@ fn fixup_segment_at<'a>(
     end: u32,
     bytes: &'a [u8],
 ) -> Result<(u8, &'a [u8]), ObjError>
-    ensures { Reads (λ x. (x.0, x.1.now)) result (fixup_segment_at segments.now (latest before.now) end bytes.now) }
+    ensures value { Reads (λ x. (x.0, x.1.now)) result
+        (fixup_segment_at segments.now (latest before.now) end bytes.now) }
+    ensures follows { IfOk result (λ x. IsTrue (field_segment_follows (latest before.now) x.0)) }
 {
     let (number, rest) = byte_at(end, bytes)?;
     if segment_numbered(segments, number).is_none() {
@@ -87,7 +74,7 @@ fn field_follows(before: &[Fixup], segment: u8, offset: u16) -> bool
     }
 }
 
-// The offset, and the bytes after it. O4 where the field before ends behind it.
+// The offset, and the bytes after it. O4 where the field before ends after it.
 #[tactic(auto, unfolding(crate::specs::Fixups::fixup_offset_at))]
 fn fixup_offset_at<'a>(
     before: &[Fixup],
@@ -95,13 +82,42 @@ fn fixup_offset_at<'a>(
     end: u32,
     bytes: &'a [u8],
 ) -> Result<(u16, &'a [u8]), ObjError>
-    ensures { Reads (λ x. (x.0, x.1.now)) result (fixup_offset_at (latest before.now) segment end bytes.now) }
+    ensures value { Reads (λ x. (x.0, x.1.now)) result (fixup_offset_at (latest before.now) segment end bytes.now) }
+    ensures follows { IfOk result (λ x. IsTrue (field_follows (latest before.now) segment x.0)) }
 {
     let (offset, rest) = pair_at(end, bytes)?;
     if !field_follows(before, segment, offset) {
         return Err(broken(end, bytes));
     }
     Ok((offset, rest))
+}
+
+// Whether the piece ends at the offset or below it.
+fn ends_before(piece: &Piece, offset: u16) -> bool
+    ensures { result ≡ (nat_le piece.now.offset offset && nat_le (length piece.now.bytes) (offset - piece.now.offset)) }
+{
+    piece.offset <= offset && piece.bytes.len() <= usize::from(offset - piece.offset)
+}
+
+// Whether the piece ends at that place of the segment, or stands before it.
+fn ends_by(piece: &Piece, segment: u8, offset: u16) -> bool
+    ensures { result ≡ ends_by segment offset piece.now }
+{
+    piece.segment < segment || (piece.segment == segment && ends_before(piece, offset))
+}
+
+// How many pieces of the front end by that place of the segment; so many are known to.
+fn passed_by(pieces: &[Piece], known: usize, segment: u8, offset: u16) -> usize
+    requires few { known ≤ length pieces.now }
+    requires known { EndBy segment offset (take known pieces.now) }
+    ensures few { result ≤ length pieces.now }
+    ensures passed { EndBy segment offset (take result pieces.now) }
+{
+    let mut passed = known;
+    while passed < pieces.len() && ends_by(&pieces[passed], segment, offset) {
+        passed += 1;
+    }
+    passed
 }
 
 // Whether the piece holds the byte at that place of the segment.
@@ -128,22 +144,36 @@ fn is_inside(pieces: &[Piece], segment: u8, offset: u16, form: Form) -> bool
         && (field_len(form) == 1 || is_held(pieces, segment, offset + 1))
 }
 
-// A form, and the bytes after it. O4 where it is none, or content does not hold its field.
+// The same, where so many pieces of the front end by the field.
+#[tactic(auto, using(crate::proofs::Passing::inside_after))]
+fn is_inside_after(pieces: &[Piece], passed: usize, segment: u8, offset: u16, form: Form) -> bool
+    requires few { passed ≤ length pieces.now }
+    requires passed { EndBy segment offset (take passed pieces.now) }
+    ensures { result ≡ is_inside pieces.now segment offset form }
+{
+    is_inside(&pieces[passed..], segment, offset, form)
+}
+
+// A form, and the bytes after it. O4 where it is none, or content does not hold its field. So many pieces of the front
+// end by the field.
 #[tactic(auto, unfolding(crate::specs::Fixups::form_at))]
 fn form_at<'a>(
     pieces: &[Piece],
+    passed: usize,
     segment: u8,
     offset: u16,
     end: u32,
     bytes: &'a [u8],
 ) -> Result<(Form, &'a [u8]), ObjError>
+    requires few { passed ≤ length pieces.now }
+    requires passed { EndBy segment offset (take passed pieces.now) }
     ensures { Reads (λ x. (x.0, x.1.now)) result (form_at pieces.now segment offset end bytes.now) }
 {
     let (number, rest) = byte_at(end, bytes)?;
     let Some(form) = form_of(number) else {
         return Err(broken(end, bytes));
     };
-    if !is_inside(pieces, segment, offset, form) {
+    if !is_inside_after(pieces, passed, segment, offset, form) {
         return Err(broken(end, bytes));
     }
     Ok((form, rest))
@@ -233,39 +263,55 @@ fn addend_at(end: u32, bytes: &[u8]) -> Result<u16, ObjError>
     }
 }
 
-/// The fixup whose record has these contents: they end at that place; the module has these segments, externals and pieces,
-/// and these fixups stand before it.
+/// Reads the fixups of a module, and goes along its pieces with their fields.
 ///
-/// Errors: O4 for a field that breaks a rule, for a 65,536th fixup, or for bytes left over; O5 for a segment or external
-/// that is not there.
-///
-/// Source: OMF-51.
-#[tactic(auto, unfolding(crate::specs::Fixups::fixup_in))]
-pub fn read_fixup(
-    around: &Surroundings,
-    before: &[Fixup],
-    end: u32,
-    contents: &[u8],
-) -> Result<Fixup, ObjError>
-    ensures { Reads (λ x. x) result (fixup_in around.now.segments.now around.now.externals.now around.now.pieces.now before.now end contents.now) }
-{
-    if before.len() >= MOST_FIXUPS {
-        return Err(broken(end, contents));
+/// Source: own choice ("Object records").
+#[derive(Drop)]
+pub(crate) struct FixupReader<'a> {
+    /// The segments of the module, counted from 1.
+    pub(crate) segments: &'a [Segment],
+    /// Its externals, counted from 1.
+    pub(crate) externals: &'a [External],
+    /// Its content.
+    pub(crate) pieces: &'a [Piece],
+    /// How many pieces of the front end by the field of the fixup before.
+    pub(crate) passed: usize,
+}
+
+impl<'a> Reader for FixupReader<'a> {
+    type Item = Fixup;
+
+    ghost reads = { λ r. fixup_in r.segments.now r.externals.now r.pieces.now };
+
+    ghost knows = { λ r before. ArePassed r.pieces.now r.passed (latest before) };
+
+    #[tactic(auto, unfolding(crate::specs::Fixups::fixup_in))]
+    fn read(
+        &mut self,
+        _alloc: Global,
+        before: &[Fixup],
+        end: u32,
+        contents: &[u8],
+    ) -> Result<Fixup, ObjError> {
+        if before.len() >= MOST_FIXUPS {
+            return Err(broken(end, contents));
+        }
+        let (segment, rest) = fixup_segment_at(self.segments, before, end, contents)?;
+        let (offset, rest) = fixup_offset_at(before, segment, end, rest)?;
+        self.passed = passed_by(self.pieces, self.passed, segment, offset);
+        let (form, rest) = form_at(self.pieces, self.passed, segment, offset, end, rest)?;
+        let (bit, rest) = bit_at(form, end, rest)?;
+        let (target, rest) = target_at(self.segments, self.externals, end, rest)?;
+        let addend = addend_at(end, rest)?;
+        Ok(Fixup {
+            segment,
+            offset,
+            form,
+            bit,
+            target,
+            addend,
+        })
     }
-    let (segment, rest) = fixup_segment_at(around.segments, before, end, contents)?;
-    let (offset, rest) = fixup_offset_at(before, segment, end, rest)?;
-    let (form, rest) = form_at(around.pieces, segment, offset, end, rest)?;
-    let (bit, rest) = bit_at(form, end, rest)?;
-    let (target, rest) = target_at(around.segments, around.externals, end, rest)?;
-    let addend = addend_at(end, rest)?;
-    Ok(Fixup {
-        segment,
-        offset,
-        form,
-        bit,
-        target,
-        addend,
-    })
 }
 
 // Appends the tag and the number of a target.
@@ -282,19 +328,23 @@ fn put_target(out: &mut Vec<u8>, target: Base) -> Result<(), NoMemory>
     Ok(())
 }
 
-/// The contents of the record of a fixup.
-///
-/// Source: OMF-51.
-pub fn fixup_contents(alloc: Global, fixup: &Fixup) -> Result<Vec<u8>, NoMemory>
-    ensures value { IfOk result (λ contents. contents.items ≡ fixup_contents fixup.now) }
-    ensures short { IfOk result (λ contents. length contents.items < 65535) }
-{
-    let mut contents = Vec::new(alloc);
-    contents.push(fixup.segment)?;
-    put_pair(&mut contents, fixup.offset)?;
-    contents.push(form_number(fixup.form))?;
-    contents.push(fixup.bit)?;
-    put_target(&mut contents, fixup.target)?;
-    put_pair(&mut contents, fixup.addend)?;
-    Ok(contents)
+impl Record for Fixup {
+    ghost TYPE = { 0x08 };
+
+    ghost spelled = { fixup_contents };
+
+    ghost is_short = { λ _. Unit {0} };
+
+    const TYPE: u8 = 0x08;
+
+    fn contents(&self, alloc: Global) -> Result<Vec<u8>, NoMemory> {
+        let mut contents = Vec::new(alloc);
+        contents.push(self.segment)?;
+        put_pair(&mut contents, self.offset)?;
+        contents.push(form_number(self.form))?;
+        contents.push(self.bit)?;
+        put_target(&mut contents, self.target)?;
+        put_pair(&mut contents, self.addend)?;
+        Ok(contents)
+    }
 }

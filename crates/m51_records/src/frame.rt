@@ -1,12 +1,14 @@
 //! What is round the contents of a record: type, length and checksum.
 ghost use Rattle.std.specs.Prelude.{◌≡◌, ◌<◌, ◌++◌, ◌∷◌, ◌+◌, ◌*◌, [], length, OnOk, IfOk};
 ghost use Rattle.m51_records.specs.Fields.{Reads};
-ghost use Rattle.m51_records.specs.Frame.{checksum_of, record_of, begins, summed, closed, lengthed, record_at, checksum_place};
+ghost use Rattle.m51_records.specs.Frame.{checksum_of, record_of, begins, summed, closed, lengthed, record_at};
+ghost use Rattle.m51_records.specs.Frame.{checksum_place};
 
 use crate::fields::{broken, place, put_pair};
 use byteorder::{ByteOrder, LittleEndian};
 use m51_cells::NoMemory;
 use m51_module::ObjError;
+use std::alloc::Global;
 
 // The byte that makes the sum of all bytes 0 modulo 256.
 fn checksum(bytes: &[u8]) -> u8
@@ -20,7 +22,7 @@ fn checksum(bytes: &[u8]) -> u8
 /// Whether the bytes begin with a record of the type.
 ///
 /// Source: OMF-51.
-pub fn begins(record_type: u8, bytes: &[u8]) -> bool
+pub(crate) fn begins(record_type: u8, bytes: &[u8]) -> bool
     ensures { result ≡ begins record_type bytes.now }
 {
     match bytes {
@@ -91,8 +93,8 @@ fn lengthed(total: u32, number: u32, bytes: &[u8]) -> Result<(&[u8], &[u8]), Obj
     }
 }
 
-/// The contents of the record of that type at the front of the bytes, and the bytes after it. They end with the file, at
-/// its total length; the record has that number.
+/// The contents of the record of that type at the front of the bytes, and the bytes after it. They end with the file,
+/// at its total length; the record has that number.
 ///
 /// Errors, in this order: O1 where there is no byte, O3 where the type is another, O1 where the length is cut off, O4
 /// where it is 0, O1 where a later byte is missing, O2 where the checksum is wrong.
@@ -134,7 +136,11 @@ pub fn checksum_place(total: u32, after: &[u8]) -> u32
 /// Appends a record of the type with these contents.
 ///
 /// Source: OMF-51.
-pub fn put_record(out: &mut Vec<u8>, record_type: u8, contents: &[u8]) -> Result<(), NoMemory>
+pub(crate) fn put_record(
+    out: &mut Vec<u8>,
+    record_type: u8,
+    contents: &[u8],
+) -> Result<(), NoMemory>
     requires { length contents.now < 65535 }
     ensures { OnOk result (out.new.items ≡ out.old.items ++ record_of record_type contents.now) }
 {
@@ -145,4 +151,16 @@ pub fn put_record(out: &mut Vec<u8>, record_type: u8, contents: &[u8]) -> Result
     let sum = checksum(&out[from..]);
     out.push(sum)?;
     Ok(())
+}
+
+/// The bytes of a record of the type with these contents. Want of memory is the one refusal.
+///
+/// Source: OMF-51.
+pub fn record_bytes(alloc: Global, record_type: u8, contents: &[u8]) -> Result<Vec<u8>, NoMemory>
+    requires { length contents.now < 65535 }
+    ensures { IfOk result (λ bytes. bytes.items ≡ record_of record_type contents.now) }
+{
+    let mut out = Vec::new(alloc);
+    put_record(&mut out, record_type, contents)?;
+    Ok(out)
 }

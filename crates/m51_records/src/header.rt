@@ -1,7 +1,7 @@
-//! The first record of a module: its name, and the version of the form.
+//! The first record of a module: its name, and the version of the object.
 ghost use Rattle.std.specs.Prelude.{◌≡◌, IfOk, ◌<◌, length};
 ghost use Rattle.m51_records.specs.Fields.{Reads};
-ghost use Rattle.m51_records.specs.Ends.{header_contents, version_at, header_in};
+ghost use Rattle.m51_records.specs.Ends.{header_contents, is_version, version_at, header_in};
 
 use crate::fields::{broken, byte_at, put_text, text_at};
 use crate::names::upper_name;
@@ -12,51 +12,55 @@ use std::alloc::Global;
 /// The type of the first record.
 ///
 /// Source: OMF-51.
-pub const HEADER: u8 = 0x02;
+pub(crate) const HEADER: u8 = 0x02;
 
-// The version of the form.
-const VERSION: u8 = 1;
+// Whether it is a version of objects.
+fn is_version(version: u8) -> bool
+    ensures { result ≡ is_version version }
+{
+    version == 1 || version == 2
+}
 
-// The version, and the bytes after it. O4 where it is another.
+// The version, and the bytes after it. O4 where it is neither 1 nor 2.
 fn version_at(end: u32, bytes: &[u8]) -> Result<(u8, &[u8]), ObjError>
     ensures { Reads (λ x. (x.0, x.1.now)) result (version_at end bytes.now) }
 {
     let (version, rest) = byte_at(end, bytes)?;
-    if version != VERSION {
+    if !is_version(version) {
         return Err(broken(end, bytes));
     }
     Ok((version, rest))
 }
 
-/// The name of the module whose first record has these contents: they end at that place.
+/// The name and the version of the module whose first record has these contents: they end at that place.
 ///
 /// Errors: O4 for a field that breaks a rule, or for bytes left over.
 ///
-/// Source: OMF-51.
+/// Source: own choice ("Object records").
 #[tactic(auto, unfolding(crate::specs::Ends::header_in))]
-pub fn read_header(end: u32, contents: &[u8]) -> Result<Name, ObjError>
+pub(crate) fn read_header(end: u32, contents: &[u8]) -> Result<(Name, u8), ObjError>
     ensures { Reads (λ x. x) result (header_in end contents.now) }
 {
     let (text, rest) = text_at(end, contents)?;
     let Some(name) = upper_name(text) else {
         return Err(broken(end, contents));
     };
-    let (_, rest) = version_at(end, rest)?;
+    let (version, rest) = version_at(end, rest)?;
     match rest {
-        [] => Ok(name),
+        [] => Ok((name, version)),
         _ => Err(broken(end, rest)),
     }
 }
 
-/// The contents of the first record of a module of this name.
+/// The contents of the first record of a module of this name and version.
 ///
-/// Source: OMF-51.
-pub fn header_contents(alloc: Global, name: &Name) -> Result<Vec<u8>, NoMemory>
-    ensures value { IfOk result (λ contents. contents.items ≡ header_contents name.now) }
+/// Source: own choice ("Object records").
+pub(crate) fn header_contents(alloc: Global, name: &Name, version: u8) -> Result<Vec<u8>, NoMemory>
+    ensures value { IfOk result (λ contents. contents.items ≡ header_contents name.now version) }
     ensures short { IfOk result (λ contents. length contents.items < 65535) }
 {
     let mut contents = Vec::new(alloc);
     put_text(&mut contents, name.bytes())?;
-    contents.push(VERSION)?;
+    contents.push(version)?;
     Ok(contents)
 }

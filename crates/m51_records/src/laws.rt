@@ -7,14 +7,15 @@ ghost use Rattle.m51_records.specs.Spelling.{bytes_of};
 
 /// No spelling of a module is the front of another, so what follows a spelling does not change what is read.
 ///
-/// Source: OMF-51.
+/// Source: own choice ("Object records").
 pub fn one_spelling()
-    ensures { (m n : ModuleParts) (x y : List ℕ) → IsValid m → IsValid n → bytes_of m ++ x ≡ bytes_of n ++ y → (m ≡ n) × (x ≡ y) }
+    ensures { (m n : ModuleParts) (x y : List ℕ) → IsValid m → IsValid n
+        → bytes_of m ++ x ≡ bytes_of n ++ y → (m ≡ n) × (x ≡ y) }
 {}
 
 /// Two bytes are the spelling of the number as which they are read, the low one first.
 ///
-/// Source: OMF-51.
+/// Source: own choice ("Object records").
 pub fn one_number()
     ensures { (low high : ℕ) → low < 256 → high < 256 → little_bytes 2 (low + 256 * high) ≡ low ∷ high ∷ [] }
 {}

@@ -14,12 +14,13 @@ mod numbered;
 mod piece;
 mod public;
 mod reading;
-mod sections;
+mod record;
+mod seen;
 mod segment;
 mod writing;
 
-pub use fields::{broken, pair_at, place, put_pair};
-pub use frame::{checksum_place, put_record, record_at};
+pub use fields::{broken, pair, pair_at, place};
+pub use frame::{checksum_place, record_at, record_bytes};
 pub use laws::{one_number, one_spelling};
 pub use m51_module::ObjError;
 pub use reading::{module_at, read_module};

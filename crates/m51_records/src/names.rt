@@ -6,8 +6,8 @@ use m51_cells::Name;
 
 /// Whether the name has these bytes.
 ///
-/// Source: OMF-51.
-pub fn same(name: &Name, text: &[u8]) -> bool
+/// Source: own choice ("Object records").
+pub(crate) fn same(name: &Name, text: &[u8]) -> bool
     ensures { result ≡ same name.now text.now }
 {
     name.bytes() == text
@@ -15,8 +15,8 @@ pub fn same(name: &Name, text: &[u8]) -> bool
 
 /// The name that the text is, in upper case already; `None` where it is none, or has a small letter.
 ///
-/// Source: OMF-51.
-pub fn upper_name(text: &[u8]) -> Option<Name>
+/// Source: own choice ("Object records").
+pub(crate) fn upper_name(text: &[u8]) -> Option<Name>
     ensures { result ≡ upper_name text.now }
 {
     match Name::of(text) {

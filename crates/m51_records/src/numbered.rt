@@ -6,8 +6,8 @@ use m51_module::{External, Segment};
 
 /// The segment of that number, if it is there.
 ///
-/// Source: OMF-51.
-pub fn segment_numbered(segments: &[Segment], number: u8) -> Option<Segment>
+/// Source: own choice ("Object records").
+pub(crate) fn segment_numbered(segments: &[Segment], number: u8) -> Option<Segment>
     ensures { result ≡ numbered segments.now number }
 {
     if number == 0 {
@@ -18,8 +18,8 @@ pub fn segment_numbered(segments: &[Segment], number: u8) -> Option<Segment>
 
 /// The external of that number, if it is there.
 ///
-/// Source: OMF-51.
-pub fn external_numbered(externals: &[External], number: u8) -> Option<External>
+/// Source: own choice ("Object records").
+pub(crate) fn external_numbered(externals: &[External], number: u8) -> Option<External>
     ensures { result ≡ numbered externals.now number }
 {
     if number == 0 {

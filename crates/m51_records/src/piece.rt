@@ -1,19 +1,16 @@
 //! The record of a piece of content.
 ghost use Rattle.std.specs.Prelude.{◌≡◌, ◌<◌, IfOk, length, ◌≤◌};
+ghost use Rattle.m51_module.specs.declared.content.Piece.{Piece};
 ghost use Rattle.m51_records.specs.Fields.{Reads};
-ghost use Rattle.m51_records.specs.Contents.{piece_contents, segment_follows, latest, code_segment_at, ends_before, piece_follows, piece_offset_at, limited, content_at, piece_in};
+ghost use Rattle.m51_records.specs.Contents.{piece_contents, segment_follows, latest, code_segment_at, ends_before};
+ghost use Rattle.m51_records.specs.Contents.{piece_follows, piece_offset_at, limited, content_at, piece_in};
 
-use crate::codes::same_kind;
 use crate::fields::{absent, broken, byte_at, pair_at, put_pair};
 use crate::numbered::segment_numbered;
-use m51_cells::{Bytes, Kind, NoMemory};
+use crate::record::{Reader, Record};
+use m51_cells::{Bytes, NoMemory, is_code};
 use m51_module::{ObjError, Piece, Segment};
 use std::alloc::Global;
-
-/// The type of a piece's record.
-///
-/// Source: OMF-51.
-pub const PIECE: u8 = 0x06;
 
 // The most bytes of a piece.
 const MOST_BYTES: usize = 1024;
@@ -43,7 +40,7 @@ fn code_segment_at<'a>(
     let Some(segment) = segment_numbered(segments, number) else {
         return Err(absent(end, bytes));
     };
-    if !same_kind(segment.kind, Kind::Code) || !segment_follows(before, number) {
+    if !is_code(segment.kind) || !segment_follows(before, number) {
         return Err(broken(end, bytes));
     }
     Ok((number, segment.size, rest))
@@ -78,7 +75,7 @@ fn piece_follows(before: &[Piece], segment: u8, offset: u16) -> bool
     }
 }
 
-// The offset, and the bytes after it. O4 where the piece before ends behind it or touches it.
+// The offset, and the bytes after it. O4 where the piece before ends after it or touches it.
 #[tactic(auto, unfolding(crate::specs::Contents::piece_offset_at))]
 fn piece_offset_at<'a>(
     before: &[Piece],
@@ -105,8 +102,8 @@ fn limited(most: usize, end: u32, bytes: &[u8]) -> Result<&[u8], ObjError>
     Ok(bytes)
 }
 
-// The content, the rest of the record. O4 where there is none, or it passes the size of the segment, or at the first byte
-// past 1,024.
+// The content, the rest of the record. O4 where there is none, or it passes the size of the segment, or at the first
+// byte past 1,024.
 #[tactic(auto, unfolding(crate::specs::Contents::content_at))]
 fn content_at(size: u16, offset: u16, end: u32, bytes: &[u8]) -> Result<&[u8], ObjError>
     ensures { Reads (λ x. x.now) result (content_at size offset end bytes.now) }
@@ -125,44 +122,56 @@ fn copied(alloc: Global, bytes: &[u8]) -> Result<Bytes, NoMemory>
     Ok(Bytes::of(Vec::from_slice(alloc, bytes)?))
 }
 
-/// The piece whose record has these contents: they end at that place; the module has these segments, and these pieces
-/// stand before it.
+/// Reads the pieces of a module.
 ///
-/// Errors: O4 for a field that breaks a rule, or for bytes past 1,024; O5 for a segment that is not there; want of memory.
-///
-/// Source: OMF-51.
-#[tactic(auto, unfolding(crate::specs::Contents::piece_in))]
-pub fn read_piece(
-    alloc: Global,
-    segments: &[Segment],
-    before: &[Piece],
-    end: u32,
-    contents: &[u8],
-) -> Result<Piece, ObjError>
-    ensures { Reads (λ x. x) result (piece_in segments.now before.now end contents.now) }
-{
-    let (segment, size, rest) = code_segment_at(segments, before, end, contents)?;
-    let (offset, rest) = piece_offset_at(before, segment, end, rest)?;
-    let content = content_at(size, offset, end, rest)?;
-    let bytes = copied(alloc, content)?;
-    Ok(Piece {
-        segment,
-        offset,
-        bytes,
-    })
+/// Source: own choice ("Object records").
+#[derive(Drop)]
+pub(crate) struct PieceReader<'a> {
+    /// The segments of the module.
+    pub(crate) segments: &'a [Segment],
 }
 
-/// The contents of the record of a piece.
-///
-/// Source: OMF-51.
-pub fn piece_contents(alloc: Global, piece: &Piece) -> Result<Vec<u8>, NoMemory>
-    requires { length piece.now.bytes ≤ 1024 }
-    ensures value { IfOk result (λ contents. contents.items ≡ piece_contents piece.now) }
-    ensures short { IfOk result (λ contents. length contents.items < 65535) }
-{
-    let mut contents = Vec::new(alloc);
-    contents.push(piece.segment)?;
-    put_pair(&mut contents, piece.offset)?;
-    contents.extend_from_slice(piece.bytes.as_slice())?;
-    Ok(contents)
+impl<'a> Reader for PieceReader<'a> {
+    type Item = Piece;
+
+    ghost reads = { λ r. piece_in r.segments.now };
+
+    ghost knows = { λ _ _. Unit {0} };
+
+    #[tactic(auto, unfolding(crate::specs::Contents::piece_in))]
+    fn read(
+        &mut self,
+        alloc: Global,
+        before: &[Piece],
+        end: u32,
+        contents: &[u8],
+    ) -> Result<Piece, ObjError> {
+        let (segment, size, rest) = code_segment_at(self.segments, before, end, contents)?;
+        let (offset, rest) = piece_offset_at(before, segment, end, rest)?;
+        let content = content_at(size, offset, end, rest)?;
+        let bytes = copied(alloc, content)?;
+        Ok(Piece {
+            segment,
+            offset,
+            bytes,
+        })
+    }
+}
+
+impl Record for Piece {
+    ghost TYPE = { 0x06 };
+
+    ghost spelled = { piece_contents };
+
+    ghost is_short = { λ (p : Piece). length p.bytes ≤ 1024 };
+
+    const TYPE: u8 = 0x06;
+
+    fn contents(&self, alloc: Global) -> Result<Vec<u8>, NoMemory> {
+        let mut contents = Vec::new(alloc);
+        contents.push(self.segment)?;
+        put_pair(&mut contents, self.offset)?;
+        contents.extend_from_slice(self.bytes.as_slice())?;
+        Ok(contents)
+    }
 }

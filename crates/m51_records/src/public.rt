@@ -1,22 +1,19 @@
 //! The record of a public.
-ghost use Rattle.std.specs.Prelude.{◌≡◌, IfOk, ◌<◌, length};
+ghost use Rattle.std.specs.Prelude.{◌≡◌, ◌<◌, ◌++◌, ◌∷◌, [], false, IfOk, length, map};
 ghost use Rattle.m51_module.specs.Validity.{numbered};
-ghost use Rattle.m51_records.specs.Fields.{Reads};
-ghost use Rattle.m51_records.specs.Publics.{base_number, public_contents, base_of, public_base_at, names_public, public_name_at, public_in};
+ghost use Rattle.m51_module.specs.declared.symbol.Public.{Public};
+ghost use Rattle.m51_records.specs.Fields.{Reads, is_among};
+ghost use Rattle.m51_records.specs.Publics.{base_number, public_contents, base_of, public_base_at, public_in};
 
-use crate::codes::{kind_number, same_kind};
+use crate::codes::kind_number;
 use crate::external::kind_at;
-use crate::fields::{absent, broken, byte_at, pair_at, put_pair, put_text, text_at};
-use crate::names::{same, upper_name};
+use crate::fields::{absent, broken, byte_at, pair_at, put_pair, put_text};
 use crate::numbered::segment_numbered;
-use m51_cells::{Base, Kind, Name, NoMemory};
+use crate::record::{Reader, Record};
+use crate::seen::{Seen, new_name_at};
+use m51_cells::{Base, Kind, NoMemory, same_kind};
 use m51_module::{ObjError, Public, Segment};
 use std::alloc::Global;
-
-/// The type of a public's record.
-///
-/// Source: OMF-51.
-pub const PUBLIC: u8 = 0x16;
 
 // What a public of the kind is counted from, by the number of its segment. O5 where there is none, O4 where it has
 // another kind.
@@ -58,50 +55,56 @@ fn public_base_at<'a>(
     Ok((base, rest))
 }
 
-// Whether one of the publics has the name.
-fn names_public(before: &[Public], name: &Name) -> bool
-    ensures { result ≡ names_public before.now name.now }
-{
-    before.iter().any(|public| same(&public.name, name.bytes()))
+/// Reads the publics of a module, and keeps the names of those before.
+///
+/// Source: own choice ("Object records").
+#[derive(Drop)]
+pub(crate) struct PublicReader<'a> {
+    /// The segments of the module.
+    pub(crate) segments: &'a [Segment],
+    /// The names of the publics before.
+    pub(crate) seen: Seen,
 }
 
-// The name, the last field. O4 where it is not of the form, or a public before has it, or where bytes are left over.
-#[tactic(auto, unfolding(crate::specs::Publics::public_name_at))]
-fn public_name_at(before: &[Public], end: u32, bytes: &[u8]) -> Result<Name, ObjError>
-    ensures { Reads (λ x. x) result (public_name_at before.now end bytes.now) }
-{
-    let (text, rest) = text_at(end, bytes)?;
-    let Some(name) = upper_name(text) else {
-        return Err(broken(end, bytes));
-    };
-    if names_public(before, &name) {
-        return Err(broken(end, bytes));
-    }
-    match rest {
-        [] => Ok(name),
-        _ => Err(broken(end, rest)),
+impl<'a> Reader for PublicReader<'a> {
+    type Item = Public;
+
+    ghost reads = { λ r. public_in r.segments.now };
+
+    ghost knows = { λ r before. r.seen ≡ map (λ (p : Public). p.name) before };
+
+    fn read(
+        &mut self,
+        alloc: Global,
+        before: &[Public],
+        end: u32,
+        contents: &[u8],
+    ) -> Result<Public, ObjError> {
+        let public = read_public(self.segments, &self.seen, before, end, contents)?;
+        self.seen.note(alloc, &public.name)?;
+        Ok(public)
     }
 }
 
-/// The public whose record has these contents: they end at that place; the module has these segments, and these publics
-/// stand before it.
-///
-/// Errors: O4 for a field that breaks a rule, or for bytes left over; O5 for a segment that is not there.
-///
-/// Source: OMF-51.
+// The public whose record has these contents: they end at that place; the module has these segments, and these publics,
+// with these names, stand before it. O4 for a field that breaks a rule, or for bytes left over; O5 for a segment that
+// is not there.
 #[tactic(auto, unfolding(crate::specs::Publics::public_in))]
-pub fn read_public(
+fn read_public(
     segments: &[Segment],
+    seen: &Seen,
     before: &[Public],
     end: u32,
     contents: &[u8],
 ) -> Result<Public, ObjError>
-    ensures { Reads (λ x. x) result (public_in segments.now before.now end contents.now) }
+    requires { seen.now ≡ map (λ (p : Public). p.name) before.now }
+    ensures value { Reads (λ x. x) result (public_in segments.now before.now end contents.now) }
+    ensures new { IfOk result (λ p. is_among seen.now p.name ≡ false) }
 {
     let (kind, rest) = kind_at(end, contents)?;
     let (base, rest) = public_base_at(segments, kind, end, rest)?;
     let (number, rest) = pair_at(end, rest)?;
-    let name = public_name_at(before, end, rest)?;
+    let name = new_name_at(seen, end, rest)?;
     Ok(Public {
         name,
         kind,
@@ -120,17 +123,21 @@ fn base_number(base: Base) -> u8
     }
 }
 
-/// The contents of the record of a public.
-///
-/// Source: OMF-51.
-pub fn public_contents(alloc: Global, public: &Public) -> Result<Vec<u8>, NoMemory>
-    ensures value { IfOk result (λ contents. contents.items ≡ public_contents public.now) }
-    ensures short { IfOk result (λ contents. length contents.items < 65535) }
-{
-    let mut contents = Vec::new(alloc);
-    contents.push(kind_number(public.kind))?;
-    contents.push(base_number(public.base))?;
-    put_pair(&mut contents, public.number)?;
-    put_text(&mut contents, public.name.bytes())?;
-    Ok(contents)
+impl Record for Public {
+    ghost TYPE = { 0x16 };
+
+    ghost spelled = { public_contents };
+
+    ghost is_short = { λ _. Unit {0} };
+
+    const TYPE: u8 = 0x16;
+
+    fn contents(&self, alloc: Global) -> Result<Vec<u8>, NoMemory> {
+        let mut contents = Vec::new(alloc);
+        contents.push(kind_number(self.kind))?;
+        contents.push(base_number(self.base))?;
+        put_pair(&mut contents, self.number)?;
+        put_text(&mut contents, self.name.bytes())?;
+        Ok(contents)
+    }
 }

@@ -3,17 +3,114 @@ ghost use Rattle.std.specs.Prelude.{◌≡◌, ◌<◌, ◌≤◌, ◌+◌, ◌-
 ghost use Rattle.m51_module.specs.declared.parts.ModuleParts.{ModuleParts};
 ghost use Rattle.m51_module.specs.Validity.{IsValid};
 ghost use Rattle.m51_records.specs.Fields.{Reads};
-ghost use Rattle.m51_records.specs.Reading.{module_at, read_of};
+ghost use Rattle.m51_records.specs.Reading.{segments_at, externals_at, publics_at, pieces_at, fixups_at, module_at};
+ghost use Rattle.m51_records.specs.Reading.{read_of};
 ghost use Rattle.m51_records.specs.Spelling.{bytes_of, records_in};
 
 use crate::end::{END, read_end};
-use crate::fixup::Surroundings;
+use crate::external::ExternalReader;
+use crate::fixup::FixupReader;
 use crate::frame::{checksum_place, record_at};
 use crate::header::{HEADER, read_header};
-use crate::sections::{externals_at, fixups_at, pieces_at, publics_at, segments_at};
-use m51_cells::{ListOf, Name};
-use m51_module::{Module, ModuleParts, ObjError};
+use crate::piece::PieceReader;
+use crate::public::PublicReader;
+use crate::record::read_records;
+use crate::seen::Seen;
+use crate::segment::SegmentReader;
+use m51_cells::ListOf;
+use m51_module::{External, Fixup, Module, ModuleParts, ObjError, Piece, Public, Segment};
 use std::alloc::Global;
+
+// The segments of a module of that version at the front of the bytes, and the bytes after them. Bytes end with the
+// file, at its total length, and the first record has that number.
+fn segments_at(
+    alloc: Global,
+    version: u8,
+    total: u32,
+    number: u32,
+    bytes: &[u8],
+) -> Result<(Vec<Segment>, &[u8]), ObjError>
+    requires { number + length bytes.now < 2 ^ 32 }
+    ensures value { Reads (λ x. (x.0.items, x.1.now)) result (segments_at version total number bytes.now) }
+    ensures few { IfOk result (λ x. length x.0.items + length x.1.now ≤ length bytes.now) }
+{
+    read_records(alloc, SegmentReader { version }, total, number, bytes)
+}
+
+// The externals, in the same way.
+fn externals_at(
+    alloc: Global,
+    total: u32,
+    number: u32,
+    bytes: &[u8],
+) -> Result<(Vec<External>, &[u8]), ObjError>
+    requires { number + length bytes.now < 2 ^ 32 }
+    ensures value { Reads (λ x. (x.0.items, x.1.now)) result (externals_at total number bytes.now) }
+    ensures few { IfOk result (λ x. length x.0.items + length x.1.now ≤ length bytes.now) }
+{
+    let reader = ExternalReader {
+        seen: Seen::new(alloc),
+    };
+    read_records(alloc, reader, total, number, bytes)
+}
+
+// The publics of a module with these segments.
+fn publics_at<'a>(
+    alloc: Global,
+    segments: &[Segment],
+    total: u32,
+    number: u32,
+    bytes: &'a [u8],
+) -> Result<(Vec<Public>, &'a [u8]), ObjError>
+    requires { number + length bytes.now < 2 ^ 32 }
+    ensures value { Reads (λ x. (x.0.items, x.1.now)) result (publics_at segments.now total number bytes.now) }
+    ensures few { IfOk result (λ x. length x.0.items + length x.1.now ≤ length bytes.now) }
+{
+    let reader = PublicReader {
+        segments,
+        seen: Seen::new(alloc),
+    };
+    read_records(alloc, reader, total, number, bytes)
+}
+
+// The pieces of a module with these segments.
+fn pieces_at<'a>(
+    alloc: Global,
+    segments: &[Segment],
+    total: u32,
+    number: u32,
+    bytes: &'a [u8],
+) -> Result<(Vec<Piece>, &'a [u8]), ObjError>
+    requires { number + length bytes.now < 2 ^ 32 }
+    ensures value { Reads (λ x. (x.0.items, x.1.now)) result (pieces_at segments.now total number bytes.now) }
+    ensures few { IfOk result (λ x. length x.0.items + length x.1.now ≤ length bytes.now) }
+{
+    read_records(alloc, PieceReader { segments }, total, number, bytes)
+}
+
+// The fixups of a module with these segments, externals and pieces.
+fn fixups_at<'a>(
+    alloc: Global,
+    segments: &[Segment],
+    externals: &[External],
+    pieces: &[Piece],
+    total: u32,
+    number: u32,
+    bytes: &'a [u8],
+) -> Result<(Vec<Fixup>, &'a [u8]), ObjError>
+    requires { number + length bytes.now < 2 ^ 32 }
+    ensures value { Reads (λ x. (x.0.items, x.1.now)) result
+        (fixups_at segments.now externals.now pieces.now total number bytes.now) }
+    ensures few { IfOk result (λ x. length x.0.items + length x.1.now ≤ length bytes.now) }
+{
+    let reader = FixupReader {
+        segments,
+        externals,
+        pieces,
+        passed: 0,
+    };
+    read_records(alloc, reader, total, number, bytes)
+}
 
 // The parts of the module at the front of the bytes, the number of the record after it, and the bytes after it.
 #[tactic(auto, unfolding(crate::specs::Reading::module_at, crate::specs::Reading::one_at))]
@@ -30,9 +127,9 @@ fn parts_at(
     ensures shorter { IfOk result (λ x. length x.2.now < length bytes.now) }
 {
     let (contents, rest) = record_at(HEADER, total, number, bytes)?;
-    let name = read_header(checksum_place(total, rest), contents)?;
+    let (name, version) = read_header(checksum_place(total, rest), contents)?;
     let number = number + 1;
-    let (segments, rest) = segments_at(alloc, total, number, rest)?;
+    let (segments, rest) = segments_at(alloc, version, total, number, rest)?;
     let number = number + segments.len() as u32;
     let (externals, rest) = externals_at(alloc, total, number, rest)?;
     let number = number + externals.len() as u32;
@@ -40,17 +137,13 @@ fn parts_at(
     let number = number + publics.len() as u32;
     let (pieces, rest) = pieces_at(alloc, &segments, total, number, rest)?;
     let number = number + pieces.len() as u32;
-    let around = Surroundings {
-        segments: &segments,
-        externals: &externals,
-        pieces: &pieces,
-    };
-    let (fixups, rest) = fixups_at(alloc, &around, total, number, rest)?;
+    let (fixups, rest) = fixups_at(alloc, &segments, &externals, &pieces, total, number, rest)?;
     let number = number + fixups.len() as u32;
     let (contents, rest) = record_at(END, total, number, rest)?;
     let banks = read_end(&name, checksum_place(total, rest), contents)?;
     let parts = ModuleParts {
         name,
+        version,
         segments: ListOf::of(segments),
         publics: ListOf::of(publics),
         externals: ListOf::of(externals),
@@ -61,13 +154,13 @@ fn parts_at(
     Ok((parts, number + 1, rest))
 }
 
-/// The module at the front of the bytes, the bytes after it, and the number of the record after it. The bytes end with the
-/// file, at its total length, and the first record of the module has that number.
+/// The module at the front of the bytes, the bytes after it, and the number of the record after it. The bytes end with
+/// the file, at its total length, and the first record of the module has that number.
 ///
 /// Errors: O1 to O5, the first test that fails, record by record and in a record field by field, with its place in the
 /// file; want of memory.
 ///
-/// Source: OMF-51.
+/// Source: own choice ("Object records").
 pub fn module_at(
     alloc: Global,
     total: u32,
@@ -102,7 +195,7 @@ fn front_of(alloc: Global, bytes: &[u8]) -> Result<(Module, usize), ObjError>
 ///
 /// Errors: O1 to O5, the first test that fails, record by record and in a record field by field; want of memory.
 ///
-/// Source: OMF-51.
+/// Source: own choice ("Object records").
 pub fn read_module(alloc: Global, bytes: &[u8]) -> Result<(Module, usize), ObjError>
     requires { length bytes.now < 2 ^ 32 }
     // The module and the length of its spelling, or the first refusal.
@@ -110,7 +203,9 @@ pub fn read_module(alloc: Global, bytes: &[u8]) -> Result<(Module, usize), ObjEr
     // What is read is spelled so.
     ensures found { IfOk result (λ x. IsValid x.0 × (take x.1 bytes.now ≡ bytes_of x.0)) }
     // What is spelled so is read.
-    ensures only { (m : ModuleParts) (rest : List ℕ) → IsValid m → bytes.now ≡ bytes_of m ++ rest → Reads (λ x. x) result (Ok (m, length (bytes_of m))) }
+    ensures only { (m : ModuleParts) (rest : List ℕ) → IsValid m → bytes.now ≡ bytes_of m ++ rest
+        → Reads (λ x. x) result
+        (Ok (m, length (bytes_of m))) }
 {
     front_of(alloc, bytes)
 }

@@ -1,24 +1,21 @@
 //! The record of a segment.
-ghost use Rattle.std.specs.Prelude.{◌≡◌, ◌≢◌, IfOk, ◌<◌, length};
+ghost use Rattle.std.specs.Prelude.{◌≡◌, ◌≢◌, ◌<◌, ◌++◌, ◌∷◌, [], IfOk, length};
 ghost use Rattle.m51_records.specs.Fields.{Reads};
-ghost use Rattle.m51_records.specs.Segments.{flags_of, flag_of, segment_contents, segment_kind_at, reloc_at, may_overlay, overlay_at, base_at, limit, is_placed, is_size, size_at, names_segment, no_text, segment_name, is_new, segment_name_at, segment_in};
-ghost use Rattle.m51_cells.specs.Fits.{allows};
-ghost use Rattle.m51_module.specs.Validity.{largest};
+ghost use Rattle.m51_records.specs.Segments.{flags_of, marks_of, may_mark, are_marks, segment_contents};
+ghost use Rattle.m51_records.specs.Segments.{segment_kind_at, reloc_at, marks_at, base_at, limit, is_placed, is_size};
+ghost use Rattle.m51_records.specs.Segments.{size_at, names_segment, no_text, segment_name, is_new, may_have};
+ghost use Rattle.m51_records.specs.Segments.{segment_name_at, segment_in};
 
-use crate::codes::{is_absolute, kind_number, kind_of, reloc_number, reloc_of, same_kind};
+use crate::codes::{kind_number, kind_of, reloc_number, reloc_of};
 use crate::fields::{broken, byte_at, pair_at, put_pair, put_text, text_at};
 use crate::names::{same, upper_name};
-use m51_cells::{Kind, Name, NoMemory, Reloc, fits};
-use m51_module::{ObjError, Segment};
+use crate::record::{Reader, Record};
+use m51_cells::{
+    Kind, MOST_MODULE_SEGMENTS, Name, NoMemory, Reloc, allows, fits, is_absolute, largest,
+    may_overlay, same_kind,
+};
+use m51_module::{ObjError, Segment, is_argument_name};
 use std::alloc::Global;
-
-/// The type of a segment's record.
-///
-/// Source: OMF-51.
-pub const SEGMENT: u8 = 0x0E;
-
-// The most segments of a module.
-const MOST_SEGMENTS: usize = 254;
 
 // A kind of memory, and the bytes after it. O4 where it is no kind or NUMBER.
 #[tactic(auto, unfolding(crate::specs::Segments::segment_kind_at))]
@@ -35,20 +32,6 @@ fn segment_kind_at(end: u32, bytes: &[u8]) -> Result<(Kind, &[u8]), ObjError>
             Ok((kind, rest))
         }
         None => Err(broken(end, bytes)),
-    }
-}
-
-// Whether a segment of the kind may have the type.
-fn allows(kind: Kind, reloc: Reloc) -> bool
-    ensures { result ≡ allows kind reloc }
-{
-    match (kind, reloc) {
-        (Kind::Number, _) => false,
-        (_, Reloc::Abs | Reloc::Unit) => true,
-        (Kind::Direct, Reloc::Bitaddressable) => true,
-        (Kind::Code | Kind::Xdata, Reloc::Inpage | Reloc::Page) => true,
-        (Kind::Code, Reloc::Inblock) => true,
-        _ => false,
     }
 }
 
@@ -69,36 +52,52 @@ fn reloc_at(kind: Kind, end: u32, bytes: &[u8]) -> Result<(Reloc, &[u8]), ObjErr
     }
 }
 
-// Whether a segment of the kind and type may be OVERLAYABLE.
-fn may_overlay(kind: Kind, reloc: Reloc) -> bool
-    ensures { result ≡ may_overlay kind reloc }
-{
-    !is_absolute(reloc) && !same_kind(kind, Kind::Code)
-}
-
-// Whether the flags say OVERLAYABLE; `None` where they set another bit.
-fn flag_of(flags: u8) -> Option<bool>
-    ensures { result ≡ flag_of flags }
+// What the flags say of OVERLAYABLE and of ARGUMENT; `None` where they set another bit.
+fn marks_of(flags: u8) -> Option<(bool, bool)>
+    ensures { result ≡ marks_of flags }
 {
     match flags {
-        0 => Some(false),
-        1 => Some(true),
+        0 => Some((false, false)),
+        1 => Some((true, false)),
+        2 => Some((false, true)),
+        3 => Some((true, true)),
         _ => None,
     }
 }
 
-// Whether the segment is OVERLAYABLE, and the bytes after the flags. O4 where it may not be, or another bit is set.
-#[tactic(auto, unfolding(crate::specs::Segments::overlay_at))]
-fn overlay_at(kind: Kind, reloc: Reloc, end: u32, bytes: &[u8]) -> Result<(bool, &[u8]), ObjError>
-    ensures { Reads (λ x. (x.0, x.1.now)) result (overlay_at kind reloc end bytes.now) }
+// Whether a segment of the kind may be an argument segment in that version.
+fn may_mark(version: u8, kind: Kind, overlay: bool) -> bool
+    ensures { result ≡ may_mark version kind overlay }
+{
+    version == 2 && overlay && same_kind(kind, Kind::Direct)
+}
+
+// Whether a segment of the kind and type may be OVERLAYABLE and ARGUMENT so.
+fn are_marks(version: u8, kind: Kind, reloc: Reloc, overlay: bool, argument: bool) -> bool
+    ensures { result ≡ are_marks version kind reloc overlay argument }
+{
+    (!overlay || may_overlay(kind, reloc)) && (!argument || may_mark(version, kind, overlay))
+}
+
+// Whether the segment is OVERLAYABLE and ARGUMENT, and the bytes after the flags. O4 where it may not be, or another
+// bit is set.
+#[tactic(auto, unfolding(crate::specs::Segments::marks_at))]
+fn marks_at(
+    version: u8,
+    kind: Kind,
+    reloc: Reloc,
+    end: u32,
+    bytes: &[u8],
+) -> Result<(bool, bool, &[u8]), ObjError>
+    ensures { Reads (λ x. (x.0, x.1, x.2.now)) result (marks_at version kind reloc end bytes.now) }
 {
     let (flags, rest) = byte_at(end, bytes)?;
-    match flag_of(flags) {
-        Some(overlay) => {
-            if overlay && !may_overlay(kind, reloc) {
+    match marks_of(flags) {
+        Some((overlay, argument)) => {
+            if !are_marks(version, kind, reloc, overlay, argument) {
                 return Err(broken(end, bytes));
             }
-            Ok((overlay, rest))
+            Ok((overlay, argument, rest))
         }
         None => Err(broken(end, bytes)),
     }
@@ -114,17 +113,6 @@ fn base_at(reloc: Reloc, end: u32, bytes: &[u8]) -> Result<(u16, &[u8]), ObjErro
         return Ok((base, rest));
     }
     Err(broken(end, bytes))
-}
-
-// The most bytes, for BIT bits, that a segment of the kind has.
-fn largest(kind: Kind) -> u32
-    ensures { result ≡ largest kind }
-{
-    match kind {
-        Kind::Direct | Kind::Bits => 128,
-        Kind::Idata => 256,
-        Kind::Code | Kind::Xdata | Kind::Number => 65535,
-    }
 }
 
 // Whether an absolute segment has a byte or more, and fits.
@@ -163,15 +151,6 @@ fn size_at(
     Ok((size, rest))
 }
 
-// Whether one of the segments has the name.
-fn names_segment(before: &[Segment], name: &Name) -> bool
-    ensures { result ≡ names_segment before.now name.now }
-{
-    before
-        .iter()
-        .any(|segment| same(&segment.name, name.bytes()))
-}
-
 // The name that the text is: none for an absolute segment, a written one else; `None` where it is not so.
 fn segment_name(reloc: Reloc, text: &[u8]) -> Option<Name>
     ensures { result ≡ segment_name reloc text.now }
@@ -185,6 +164,15 @@ fn segment_name(reloc: Reloc, text: &[u8]) -> Option<Name>
     }
 }
 
+// Whether one of the segments has the name.
+fn names_segment(before: &[Segment], name: &Name) -> bool
+    ensures { result ≡ names_segment before.now name.now }
+{
+    before
+        .iter()
+        .any(|segment| same(name, segment.name.bytes()))
+}
+
 // Whether no segment before has the name, where it is one.
 fn is_new(before: &[Segment], reloc: Reloc, name: &Name) -> bool
     ensures { result ≡ is_new before.now reloc name.now }
@@ -192,21 +180,32 @@ fn is_new(before: &[Segment], reloc: Reloc, name: &Name) -> bool
     is_absolute(reloc) || !names_segment(before, name)
 }
 
-// The name, the last field. O4 where it is not of the form, or a segment before has it, or where bytes are left over.
+// Whether a segment may have the name after those before: it is new, and that of an argument segment begins with
+// `?AG?`.
+#[tactic(auto, unfolding(crate::specs::Segments::may_have))]
+fn may_have(before: &[Segment], reloc: Reloc, argument: bool, name: &Name) -> bool
+    ensures { result ≡ may_have before.now reloc argument name.now }
+{
+    is_new(before, reloc, name) && (!argument || is_argument_name(name))
+}
+
+// The name, the last field. O4 where it is not of the form, or the segment may not have it, or where bytes are left
+// over.
 #[tactic(auto, unfolding(crate::specs::Segments::segment_name_at))]
 fn segment_name_at(
     before: &[Segment],
     reloc: Reloc,
+    argument: bool,
     end: u32,
     bytes: &[u8],
 ) -> Result<Name, ObjError>
-    ensures { Reads (λ x. x) result (segment_name_at before.now reloc end bytes.now) }
+    ensures { Reads (λ x. x) result (segment_name_at before.now reloc argument end bytes.now) }
 {
     let (text, rest) = text_at(end, bytes)?;
     let Some(name) = segment_name(reloc, text) else {
         return Err(broken(end, bytes));
     };
-    if !is_new(before, reloc, &name) {
+    if !may_have(before, reloc, argument, &name) {
         return Err(broken(end, bytes));
     }
     match rest {
@@ -215,54 +214,80 @@ fn segment_name_at(
     }
 }
 
-/// The segment whose record has these contents: they end at that place, and these segments stand before it.
+/// Reads the segments of a module.
 ///
-/// Errors: O4 for a field that breaks a rule, for a 255th segment, or for bytes left over.
-///
-/// Source: OMF-51.
-#[tactic(auto, unfolding(crate::specs::Segments::segment_in))]
-pub fn read_segment(before: &[Segment], end: u32, contents: &[u8]) -> Result<Segment, ObjError>
-    ensures { Reads (λ x. x) result (segment_in before.now end contents.now) }
-{
-    if before.len() >= MOST_SEGMENTS {
-        return Err(broken(end, contents));
+/// Source: own choice ("Object records").
+#[derive(Drop)]
+pub(crate) struct SegmentReader {
+    /// The version of the module.
+    pub(crate) version: u8,
+}
+
+impl Reader for SegmentReader {
+    type Item = Segment;
+
+    ghost reads = { λ r. segment_in r.version };
+
+    ghost knows = { λ _ _. Unit {0} };
+
+    #[tactic(auto, unfolding(crate::specs::Segments::segment_in))]
+    fn read(
+        &mut self,
+        _alloc: Global,
+        before: &[Segment],
+        end: u32,
+        contents: &[u8],
+    ) -> Result<Segment, ObjError> {
+        if before.len() >= MOST_MODULE_SEGMENTS {
+            return Err(broken(end, contents));
+        }
+        let (kind, rest) = segment_kind_at(end, contents)?;
+        let (reloc, rest) = reloc_at(kind, end, rest)?;
+        let (overlay, argument, rest) = marks_at(self.version, kind, reloc, end, rest)?;
+        let (base, rest) = base_at(reloc, end, rest)?;
+        let (size, rest) = size_at(kind, reloc, base, end, rest)?;
+        let name = segment_name_at(before, reloc, argument, end, rest)?;
+        Ok(Segment {
+            name,
+            kind,
+            reloc,
+            overlay,
+            argument,
+            base,
+            size,
+        })
     }
-    let (kind, rest) = segment_kind_at(end, contents)?;
-    let (reloc, rest) = reloc_at(kind, end, rest)?;
-    let (overlay, rest) = overlay_at(kind, reloc, end, rest)?;
-    let (base, rest) = base_at(reloc, end, rest)?;
-    let (size, rest) = size_at(kind, reloc, base, end, rest)?;
-    let name = segment_name_at(before, reloc, end, rest)?;
-    Ok(Segment {
-        name,
-        kind,
-        reloc,
-        overlay,
-        base,
-        size,
-    })
 }
 
 // The flags of a segment.
-fn flags_of(overlay: bool) -> u8
-    ensures { result ≡ flags_of overlay }
+fn flags_of(overlay: bool, argument: bool) -> u8
+    ensures { result ≡ flags_of overlay argument }
 {
-    if overlay { 1 } else { 0 }
+    match (overlay, argument) {
+        (false, false) => 0,
+        (true, false) => 1,
+        (false, true) => 2,
+        (true, true) => 3,
+    }
 }
 
-/// The contents of the record of a segment.
-///
-/// Source: OMF-51.
-pub fn segment_contents(alloc: Global, segment: &Segment) -> Result<Vec<u8>, NoMemory>
-    ensures value { IfOk result (λ contents. contents.items ≡ segment_contents segment.now) }
-    ensures short { IfOk result (λ contents. length contents.items < 65535) }
-{
-    let mut contents = Vec::new(alloc);
-    contents.push(kind_number(segment.kind))?;
-    contents.push(reloc_number(segment.reloc))?;
-    contents.push(flags_of(segment.overlay))?;
-    put_pair(&mut contents, segment.base)?;
-    put_pair(&mut contents, segment.size)?;
-    put_text(&mut contents, segment.name.bytes())?;
-    Ok(contents)
+impl Record for Segment {
+    ghost TYPE = { 0x0E };
+
+    ghost spelled = { segment_contents };
+
+    ghost is_short = { λ _. Unit {0} };
+
+    const TYPE: u8 = 0x0E;
+
+    fn contents(&self, alloc: Global) -> Result<Vec<u8>, NoMemory> {
+        let mut contents = Vec::new(alloc);
+        contents.push(kind_number(self.kind))?;
+        contents.push(reloc_number(self.reloc))?;
+        contents.push(flags_of(self.overlay, self.argument))?;
+        put_pair(&mut contents, self.base)?;
+        put_pair(&mut contents, self.size)?;
+        put_text(&mut contents, self.name.bytes())?;
+        Ok(contents)
+    }
 }

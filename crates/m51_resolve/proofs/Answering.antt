@@ -1,24 +1,29 @@
 -- From the steps of the work to the answer.
-use Rattle.std.proofs.Common.{◌≡◌, ℕ, suc, ◌≤◌, Bool, true, false, cond, List, [], ◌∷◌, length, map, get_or, refl, sym, ap, ◌∙◌, Option, Some, None}
+use Rattle.std.proofs.Common.{◌≡◌, ℕ, suc, ◌≤◌, Bool, true, false, cond, List, [], ◌∷◌, length, map, get_or, refl, sym, ap, ◌∙◌, subst, Option, Some, None}
 use Rattle.std.specs.Prelude.{All, find, IsErrAnd, nat_lt, option_map, Result, Ok, Err}
 use Rattle.std.specs.List.{filter}
 use Rattle.std.specs.Option.{option_or}
 use Rattle.std.proofs.lemmas.List.{length-map}
 use Rattle.std.proofs.lemmas.Option.{slice_get-get_or}
 use Rattle.m51_cells.specs.Outcome.{Gives, RefusesWith}
-use Rattle.m51_cells.specs.declared.kind.Kind.TheVariants.{Code}
+use Rattle.m51_cells.specs.Kinds.{is_code}
 use Rattle.m51_module.specs.declared.linked.Quantity.{Quantity}
 use Rattle.m51_module.specs.declared.linked.Quantity.TheVariants.{Modules, Segments, Units}
 use Rattle.m51_module.specs.declared.linked.Refusal.{Refusal}
 use Rattle.m51_module.specs.declared.linked.Refusal.TheVariants.{L1, L2, L3, L4, L5, Limit, Memory}
 use Rattle.m51_module.specs.declared.parts.ModuleParts.{ModuleParts}
 use Rattle.m51_module.specs.declared.segment.Segment.{Segment}
+use Rattle.m51_module.specs.declared.symbol.External.{External}
+use Rattle.m51_resolve.specs.declared.definitions.Defined.{Defined}
 use Rattle.m51_resolve.specs.declared.joining.Growing.{Growing}
 use Rattle.m51_resolve.specs.declared.segment.JoinedSegment.{JoinedSegment}
-use Rattle.m51_resolve.specs.Growth.{all_growing, growing_of, is_large, is_unit, joined_as, rules_of_externals, rules_of_growing, rules_of_publics}
+use Rattle.m51_resolve.specs.WorkJoining.{all_growing, growing_of, is_large, is_unit, joined_as}
+use Rattle.m51_resolve.specs.WorkNames.{AreDefinitions, definition_in}
+use Rattle.m51_resolve.specs.WorkRules.{rules_of_externals, rules_of_growing, rules_of_publics}
 use Rattle.m51_resolve.specs.Joining.{all_segments, firsts, joined_of, segments_of, title_of}
-use Rattle.m51_resolve.specs.Publics.{all_externals, same_kind}
-use Rattle.m51_resolve.specs.Rules.{AreResolved, but_memory, contrary_external, is_mixed, is_too_large, large_segment, mixed_segment, more_than, refusal_of, shared_public, undefined_external, units_of, unless_refused}
+use Rattle.m51_resolve.specs.Publics.{all_externals, definition_of}
+use Rattle.m51_resolve.specs.Rules.{AreResolved, but_memory, contrary_external, is_mixed, is_too_large, large_segment, mixed_segment, more_than, first_refusal, shared_public, undefined_external, units_of, unless_refused}
+use Rattle.m51_resolve.proofs.DefinedNames.{definitions_are}
 use Rattle.m51_resolve.proofs.JoinSteps.{none_at}
 use Rattle.m51_resolve.proofs.Within.{find_none, no_option, not_above}
 
@@ -86,8 +91,8 @@ mixed_is all fs = named (λ (g : Growing). g.mixed) (λ (g : Growing). g.first.n
 large_is : (all fs : List Segment) → option_map (λ (g : Growing). title_of g.first) (find is_large (map (growing_of all) fs)) ≡ option_map (λ (j : JoinedSegment). j.title) (find is_too_large (map (joined_of all) fs))
 large_is all fs = named is_large (λ (g : Growing). title_of g.first) (growing_of all) fs ∙ sym (named is_too_large (λ (j : JoinedSegment). j.title) (joined_of all) fs)
 
-units_is : (all fs : List Segment) → length (filter is_unit (map (growing_of all) fs)) ≡ length (filter (λ (j : JoinedSegment). same_kind j.kind Code) (map (joined_of all) fs))
-units_is all fs = counted is_unit (growing_of all) fs ∙ sym (counted (λ (j : JoinedSegment). same_kind j.kind Code) (joined_of all) fs)
+units_is : (all fs : List Segment) → length (filter is_unit (map (growing_of all) fs)) ≡ length (filter (λ (j : JoinedSegment). is_code j.kind) (map (joined_of all) fs))
+units_is all fs = counted is_unit (growing_of all) fs ∙ sym (counted (λ (j : JoinedSegment). is_code j.kind) (joined_of all) fs)
 
 count_is : (all fs : List Segment) → length (map (growing_of all) fs) ≡ length (map (joined_of all) fs)
 count_is all fs = length-map fs (growing_of all) ∙ sym (length-map fs (joined_of all))
@@ -117,29 +122,29 @@ growing_is modules =
 later_rules : List ModuleParts → Option Refusal
 later_rules modules = option_or (option_map L2 (undefined_external modules)) (option_or (option_map L3 (contrary_external modules)) (last_rules modules))
 
-all_rules : (modules : List ModuleParts) → refusal_of modules ≡ option_or (more_than 255 Modules (length modules)) (option_or (option_map L1 (shared_public modules)) (later_rules modules))
+all_rules : (modules : List ModuleParts) → first_refusal modules ≡ option_or (more_than 255 Modules (length modules)) (option_or (option_map L1 (shared_public modules)) (later_rules modules))
 unfolding later_rules last_rules
 all_rules modules = refl
 
-pub publics_refused : (modules : List ModuleParts) (error : Refusal) → rules_of_publics modules ≡ Some error → refusal_of modules ≡ Some error
+pub publics_refused : (modules : List ModuleParts) (error : Refusal) → rules_of_publics modules ≡ Some error → first_refusal modules ≡ Some error
 publics_refused modules error h =
     all_rules modules ∙ two_some (more_than 255 Modules (length modules)) (option_map L1 (shared_public modules)) (later_rules modules) error h
 
-after_publics : (modules : List ModuleParts) → rules_of_publics modules ≡ None → refusal_of modules ≡ later_rules modules
+after_publics : (modules : List ModuleParts) → rules_of_publics modules ≡ None → first_refusal modules ≡ later_rules modules
 after_publics modules h = all_rules modules ∙ skip (more_than 255 Modules (length modules)) (option_map L1 (shared_public modules)) (later_rules modules) h
 
-pub externals_refused : (modules : List ModuleParts) (error : Refusal) → rules_of_publics modules ≡ None → rules_of_externals modules (all_externals modules) ≡ Some error
-    → refusal_of modules ≡ Some error
+pub externals_refused : (modules : List ModuleParts) (error : Refusal) → rules_of_publics modules ≡ None → rules_of_externals (definition_of modules) (all_externals modules) ≡ Some error
+    → first_refusal modules ≡ Some error
 unfolding later_rules
 externals_refused modules error p h =
     after_publics modules p ∙ two_some (option_map L2 (undefined_external modules)) (option_map L3 (contrary_external modules)) (last_rules modules) error h
 
-after_externals : (modules : List ModuleParts) → rules_of_publics modules ≡ None → rules_of_externals modules (all_externals modules) ≡ None → refusal_of modules ≡ last_rules modules
+after_externals : (modules : List ModuleParts) → rules_of_publics modules ≡ None → rules_of_externals (definition_of modules) (all_externals modules) ≡ None → first_refusal modules ≡ last_rules modules
 unfolding later_rules
 after_externals modules p h = after_publics modules p ∙ skip (option_map L2 (undefined_external modules)) (option_map L3 (contrary_external modules)) (last_rules modules) h
 
-pub growing_refused : (modules : List ModuleParts) (rule : Option Refusal) → rules_of_publics modules ≡ None → rules_of_externals modules (all_externals modules) ≡ None
-    → rules_of_growing (all_growing (all_segments modules)) ≡ rule → refusal_of modules ≡ rule
+pub growing_refused : (modules : List ModuleParts) (rule : Option Refusal) → rules_of_publics modules ≡ None → rules_of_externals (definition_of modules) (all_externals modules) ≡ None
+    → rules_of_growing (all_growing (all_segments modules)) ≡ rule → first_refusal modules ≡ rule
 growing_refused modules rule p e h = after_externals modules p e ∙ sym (growing_is modules) ∙ h
 
 few_by : (b : Bool) (what : Quantity) → cond b (Some (Limit what)) None ≡ None → b ≡ false
@@ -150,7 +155,7 @@ few : (most : ℕ) (what : Quantity) (count : ℕ) → more_than most what count
 few most what count h = not_above most count (few_by (nat_lt most count) what h)
 
 -- no rule fails
-pub meets : (modules : List ModuleParts) → rules_of_publics modules ≡ None → rules_of_externals modules (all_externals modules) ≡ None
+pub meets : (modules : List ModuleParts) → rules_of_publics modules ≡ None → rules_of_externals (definition_of modules) (all_externals modules) ≡ None
     → rules_of_growing (all_growing (all_segments modules)) ≡ None → AreResolved modules
 unfolding last_rules
 meets modules p e g =
@@ -186,3 +191,12 @@ joined_all all (f ∷ fs) = ap (λ js. joined_of all f ∷ js) (joined_all all f
 -- the joined segments whose parts are all joined are those of the modules
 pub joined_is : (modules : List ModuleParts) (growing : List Growing) → growing ≡ all_growing (all_segments modules) → map joined_as growing ≡ segments_of modules
 joined_is modules growing h = ap (map joined_as) h ∙ joined_all (all_segments modules) (firsts (all_segments modules))
+
+-- publics and externals that were tested as the modules lend them
+pub publics_passed : (lent modules : List ModuleParts) → lent ≡ modules → rules_of_publics lent ≡ None → rules_of_publics modules ≡ None
+publics_passed lent modules is h = subst (λ ms. rules_of_publics ms ≡ None) is h
+
+pub externals_told : (modules : List ModuleParts) (table : List (List ℕ × Defined)) (externals : List External) (rule : Option Refusal) → AreDefinitions modules table
+    → externals ≡ all_externals modules → rules_of_externals (definition_in table) externals ≡ rule → rules_of_externals (definition_of modules) (all_externals modules) ≡ rule
+externals_told modules table externals rule are is h =
+    subst (λ es. rules_of_externals (definition_of modules) es ≡ rule) is (subst (λ f. rules_of_externals f externals ≡ rule) (definitions_are modules table are) h)

@@ -12,7 +12,7 @@ use Rattle.m51_module.specs.declared.symbol.Public.{Public}
 use Rattle.m51_resolve.specs.declared.joining.Part.{Part}
 use Rattle.m51_resolve.specs.declared.publics.Definition.{Definition}
 use Rattle.m51_resolve.specs.declared.segment.JoinedSegment.{JoinedSegment}
-use Rattle.m51_resolve.specs.Joining.{all_segments, firsts, joined_of, part_behind, part_of, segment_at, segments_before, segments_of}
+use Rattle.m51_resolve.specs.Joining.{all_segments, firsts, joined_of, part_after, part_of, segment_at, segments_before, segments_of}
 use Rattle.m51_resolve.specs.Kept.{AreKept, AreStarts}
 use Rattle.m51_resolve.specs.Publics.{all_externals, definition_among, definition_from, definition_of, external_at, nowhere, public_of, resolving}
 use Rattle.m51_resolve.proofs.Lookups.{around, found, get_flat, get_part, IsThere, take_flat, there}
@@ -23,17 +23,17 @@ pub record IsEntry {B : Type 0} (starts : List ℕ) (table : List B) (value : B)
   pub inside : m < length starts
   pub before : ℕ
   pub start : (d : ℕ) → get_or starts m d ≡ before
-  pub place : ℕ
-  pub number : s ≡ suc place
-  pub within : before + place < length table
-  pub at : (d : B) → get_or table (before + place) d ≡ value
+  pub index : ℕ
+  pub number : s ≡ suc index
+  pub within : before + index < length table
+  pub at : (d : B) → get_or table (before + index) d ≡ value
 
 -- where its module's items begin, and where it stands
 pub begin : {B : Type 0} (starts : List ℕ) (table : List B) (value : B) (m s start from : ℕ) (e : IsEntry starts table value m s) → start ≡ get_or starts from start → from ≡ m → start ≡ e.before
 begin starts table value m s start from e read is = read ∙ ap (λ n. get_or starts n start) is ∙ e.start start
 
 pub stands : {B : Type 0} (starts : List ℕ) (table : List B) (value : B) (m s start from number : ℕ) (e : IsEntry starts table value m s) → start ≡ get_or starts from start → from ≡ m
-    → number ≡ s → start + number - 1 ≡ e.before + e.place
+    → number ≡ s → start + number - 1 ≡ e.before + e.index
 stands starts table value m s start from number e read is number_is =
     let first = begin starts table value m s start from e read is in omega (arith, first, number_is, e.number)
 
@@ -44,7 +44,7 @@ reads starts table value item m s start from number e read is number_is item_is 
     item_is ∙ ap (λ n. get_or table n item) (stands starts table value m s start from number e read is number_is) ∙ e.at item
 
 entry : {A B : Type 0} (items : ModuleParts → List A) (modules : List ModuleParts) (starts : List ℕ) (table : List B) (value : B) (m s : ℕ) → AreStarts items modules starts
-    → (t : IsThere items modules m s) → slice_get table (length (flat_map items (take m modules)) + t.place) ≡ Some value → IsEntry starts table value m s
+    → (t : IsThere items modules m s) → slice_get table (length (flat_map items (take m modules)) + t.index) ≡ Some value → IsEntry starts table value m s
 entry items modules starts table value m s are t at =
     let before = length (flat_map items (take m modules)) in
     let below : m < length modules = slice_get_within modules m t.holder t.is in
@@ -53,10 +53,10 @@ entry items modules starts table value m s are t at =
       inside = inside;
       before = before;
       start = λ d. get_or_default starts m d 0 inside ∙ are.each m below;
-      place = t.place;
+      index = t.index;
       number = t.number;
-      within = slice_get_within table (before + t.place) value at;
-      at = λ d. get_or_from_slice_get table (before + t.place) value d at;
+      within = slice_get_within table (before + t.index) value at;
+      at = λ d. get_or_from_slice_get table (before + t.index) value d at;
     }
 
 -- the part that a segment is
@@ -67,14 +67,14 @@ pub record IsPartEntry (modules : List ModuleParts) (starts : List ℕ) (table :
   pub offset : part.offset < 65536
   pub value : (part.number, part.offset) ≡ part_of modules m s
 
-one_less : (s place : ℕ) → s ≡ suc place → s - 1 ≡ place
-one_less s place h = omega (arith, h)
+one_less : (s index : ℕ) → s ≡ suc index → s - 1 ≡ index
+one_less s index h = omega (arith, h)
 
 before_is : (modules : List ModuleParts) (m s : ℕ) (t : IsThere (λ m. m.segments) modules m s)
-    → segments_before modules m s ≡ all_segments (take m modules) ++ take t.place t.holder.segments
+    → segments_before modules m s ≡ all_segments (take m modules) ++ take t.index t.holder.segments
 before_is modules m s t =
     ap (λ o. all_segments (take m modules) ++ option_map_or (λ (chosen : ModuleParts). take (s - 1) chosen.segments) o []) t.is
-    ∙ ap (λ n. all_segments (take m modules) ++ take n t.holder.segments) (one_less s t.place t.number)
+    ∙ ap (λ n. all_segments (take m modules) ++ take n t.holder.segments) (one_less s t.index t.number)
 
 pub part_entry : (modules : List ModuleParts) (joined : List JoinedSegment) (starts : List ℕ) (table : List Part) (external_starts : List ℕ) (found : List Definition) (m s : ℕ)
     → AreKept modules joined starts table external_starts found → IsSome (segment_at modules m s) → IsPartEntry modules starts table m s
@@ -82,11 +82,11 @@ part_entry modules joined starts table external_starts defined m s kept h =
     let items : ModuleParts → List Segment = λ m. m.segments in
     let t = there items modules m s h in
     let all = all_segments modules in
-    let n = length (flat_map items (take m modules)) + t.place in
-    let is : slice_get all n ≡ Some t.item = get_flat items modules m t.place t.holder t.item t.is t.at in
-    let cut : take n all ≡ all_segments (take m modules) ++ take t.place t.holder.segments =
-    take_flat items modules m t.place t.holder t.is (omega (arith, slice_get_within t.holder.segments t.place t.item t.at)) in
-    let part = part_behind (take n all) t.item in
+    let n = length (flat_map items (take m modules)) + t.index in
+    let is : slice_get all n ≡ Some t.item = get_flat items modules m t.index t.holder t.item t.is t.at in
+    let cut : take n all ≡ all_segments (take m modules) ++ take t.index t.holder.segments =
+    take_flat items modules m t.index t.holder t.is (omega (arith, slice_get_within t.holder.segments t.index t.item t.at)) in
+    let part = part_after (take n all) t.item in
     let whole : all ≡ take n all ++ t.item ∷ drop (suc n) all = around all n t.item is in
     let at : slice_get table n ≡ Some part = ap (λ ps. slice_get ps n) kept.parts ∙ get_part [] all n t.item is in
     let most : length (segments_of modules) ≤ 2000 = kept.resolved.few_segments in
@@ -95,19 +95,19 @@ part_entry modules joined starts table external_starts defined m s kept h =
       entry = entry items modules starts table part m s kept.segment_starts t at;
       number = omega (arith, part_number (take n all) t.item (drop (suc n) all), ap (λ xs. length (firsts xs)) whole, length-map (firsts all) (joined_of all), most);
       offset = omega (arith, offset_fits modules (take n all) t.item (drop (suc n) all) whole kept.resolved.sizes);
-      value = ap (λ b. let p : Part = part_behind b t.item in (p.number, p.offset)) (cut ∙ sym (before_is modules m s t))
-          ∙ sym (ap (λ o. option_map_or (λ segment. let p : Part = part_behind (segments_before modules m s) segment in (p.number, p.offset)) o (0, 0)) (found items modules m s t));
+      value = ap (λ b. let p : Part = part_after b t.item in (p.number, p.offset)) (cut ∙ sym (before_is modules m s t))
+          ∙ sym (ap (λ o. option_map_or (λ segment. let p : Part = part_after (segments_before modules m s) segment in (p.number, p.offset)) o (0, 0)) (found items modules m s t));
     }
 
-among_by : (b : Bool) (number place : ℕ) (p : Public) (d : Definition) (later : Option Definition)
-    → cond b (Some (record { number = number; place = place; kind = p.kind })) later ≡ Some d → (later ≡ Some d → d.number ≡ number) → d.number ≡ number
-among_by true number place p d later h k = let same : record { number = number; place = place; kind = p.kind } ≡ d = cc in ap (λ (x : Definition). x.number) (sym same)
-among_by false number place p d later h k = k h
+among_by : (b : Bool) (number index : ℕ) (p : Public) (d : Definition) (later : Option Definition)
+    → cond b (Some (record { number = number; index = index; kind = p.kind })) later ≡ Some d → (later ≡ Some d → d.number ≡ number) → d.number ≡ number
+among_by true number index p d later h k = let same : record { number = number; index = index; kind = p.kind } ≡ d = cc in ap (λ (x : Definition). x.number) (sym same)
+among_by false number index p d later h k = k h
 
-among_number : (number place : ℕ) (name : List ℕ) (publics : List Public) (d : Definition) → definition_among number place name publics ≡ Some d → d.number ≡ number
-among_number number place name [] d h = cc
-among_number number place name (p ∷ more) d h =
-    among_by (bytes_eq p.name name) number place p d (definition_among number (place + 1) name more) h (among_number number (place + 1) name more d)
+among_number : (number index : ℕ) (name : List ℕ) (publics : List Public) (d : Definition) → definition_among number index name publics ≡ Some d → d.number ≡ number
+among_number number index name [] d h = cc
+among_number number index name (p ∷ more) d h =
+    among_by (bytes_eq p.name name) number index p d (definition_among number (index + 1) name more) h (among_number number (index + 1) name more d)
 
 or_else_by : (first later : Option Definition) (d : Definition) (number most : ℕ) → option_or first later ≡ Some d → (first ≡ Some d → d.number ≡ number)
     → (later ≡ Some d → d.number < number + 1 + most) → d.number < number + suc most
@@ -131,7 +131,7 @@ pub record IsPublicEntry (modules : List ModuleParts) (starts : List ℕ) (table
   pub definition : Definition
   pub entry : IsEntry starts table definition m e
   pub number : definition.number < 256
-  pub value : (definition.number, definition.place) ≡ public_of modules m e
+  pub value : (definition.number, definition.index) ≡ public_of modules m e
 
 pub public_entry : (modules : List ModuleParts) (joined : List JoinedSegment) (segment_starts : List ℕ) (parts : List Part) (starts : List ℕ) (table : List Definition) (m e : ℕ)
     → AreKept modules joined segment_starts parts starts table → IsSome (external_at modules m e) → IsPublicEntry modules starts table m e
@@ -139,13 +139,13 @@ public_entry modules joined segment_starts parts starts table m e kept h =
     let items : ModuleParts → List External = λ m. m.externals in
     let t = there items modules m e h in
     let all = all_externals modules in
-    let n = length (flat_map items (take m modules)) + t.place in
-    let is : slice_get all n ≡ Some t.item = get_flat items modules m t.place t.holder t.item t.is t.at in
+    let n = length (flat_map items (take m modules)) + t.index in
+    let is : slice_get all n ≡ Some t.item = get_flat items modules m t.index t.holder t.item t.is t.at in
     let at : slice_get table n ≡ Some (resolving modules t.item) =
     ap (λ ds. slice_get ds n) kept.publics ∙ slice_get-map (resolving modules) all n ∙ ap (option_map (resolving modules)) is in
     record {
       definition = resolving modules t.item;
       entry = entry items modules starts table (resolving modules t.item) m e kept.public_starts t at;
       number = few_by modules t.item.name (definition_of modules t.item.name) refl kept.resolved.few_modules;
-      value = sym (ap (λ o. let d : Definition = unwrap_or (option_and_then (λ (x : External). definition_of modules x.name) o) nowhere in (d.number, d.place)) (found items modules m e t));
+      value = sym (ap (λ o. let d : Definition = unwrap_or (option_and_then (λ (x : External). definition_of modules x.name) o) nowhere in (d.number, d.index)) (found items modules m e t));
     }

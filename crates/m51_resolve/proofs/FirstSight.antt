@@ -4,7 +4,7 @@ use Rattle.std.specs.List.{list_any}
 use Rattle.std.proofs.lemmas.List.{append-nil}
 use Rattle.std.proofs.lemmas.List.Folds.{list_any-append}
 use Rattle.m51_module.specs.declared.segment.Segment.{Segment}
-use Rattle.m51_resolve.specs.Joining.{are_parts, firsts_behind, is_relocatable}
+use Rattle.m51_resolve.specs.Joining.{are_parts, firsts_after, is_relocatable}
 use Rattle.m51_resolve.proofs.Alike.{any_last, any_more, any_same, absolute_none, not_true, part_self}
 
 -- no segment is a part of the same as a later one
@@ -17,42 +17,42 @@ pass_by : (b : Bool) (p : Segment → Bool) (x : Segment) (more : List Segment) 
 pass_by true p x more h k = h
 pass_by false p x more h k = ap (λ b. b || list_any p more) (k refl) ∙ h
 
--- none behind is a part of the same as one before
-pub none_behind : (before xs : List Segment) (f : Segment) → list_any (are_parts f) before ≡ true
-    → list_any (are_parts f) (firsts_behind before xs) ≡ false
-none_behind before [] f h = refl
-none_behind before (x ∷ xs) f h =
-    pass_by (list_any (are_parts x) before) (are_parts f) x (firsts_behind (before ++ x ∷ []) xs)
-    (none_behind (before ++ x ∷ []) xs f (any_more (are_parts f) before (x ∷ []) h))
+-- none after is a part of the same as one before
+pub none_after : (before xs : List Segment) (f : Segment) → list_any (are_parts f) before ≡ true
+    → list_any (are_parts f) (firsts_after before xs) ≡ false
+none_after before [] f h = refl
+none_after before (x ∷ xs) f h =
+    pass_by (list_any (are_parts x) before) (are_parts f) x (firsts_after (before ++ x ∷ []) xs)
+    (none_after (before ++ x ∷ []) xs f (any_more (are_parts f) before (x ∷ []) h))
     (λ unseen. not_true (are_parts f x) (λ e. let k = any_same f x e before in cc))
 
 apart_by : (b : Bool) (x : Segment) (more : List Segment) → AreApart more → list_any (are_parts x) more ≡ false → AreApart (cond b more (x ∷ more))
 apart_by true x more h k = h
 apart_by false x more h k = (k, h)
 
--- none behind is a part of the same as the segment just seen
-unseen_behind : (r : Bool) (before xs : List Segment) (x : Segment) → is_relocatable x.reloc ≡ r
-    → list_any (are_parts x) (firsts_behind (before ++ x ∷ []) xs) ≡ false
-unseen_behind true before xs x h = none_behind (before ++ x ∷ []) xs x (any_last (are_parts x) before x (part_self x h))
-unseen_behind false before xs x h = absolute_none x h (firsts_behind (before ++ x ∷ []) xs)
+-- none after is a part of the same as the segment just seen
+unseen_after : (r : Bool) (before xs : List Segment) (x : Segment) → is_relocatable x.reloc ≡ r
+    → list_any (are_parts x) (firsts_after (before ++ x ∷ []) xs) ≡ false
+unseen_after true before xs x h = none_after (before ++ x ∷ []) xs x (any_last (are_parts x) before x (part_self x h))
+unseen_after false before xs x h = absolute_none x h (firsts_after (before ++ x ∷ []) xs)
 
-pub firsts_apart : (before xs : List Segment) → AreApart (firsts_behind before xs)
+pub firsts_apart : (before xs : List Segment) → AreApart (firsts_after before xs)
 firsts_apart before [] = tt
 firsts_apart before (x ∷ xs) =
-    apart_by (list_any (are_parts x) before) x (firsts_behind (before ++ x ∷ []) xs) (firsts_apart (before ++ x ∷ []) xs)
-    (unseen_behind (is_relocatable x.reloc) before xs x refl)
+    apart_by (list_any (are_parts x) before) x (firsts_after (before ++ x ∷ []) xs) (firsts_apart (before ++ x ∷ []) xs)
+    (unseen_after (is_relocatable x.reloc) before xs x refl)
 
-push_by : (c : Bool) (x : Segment) (more last : List Segment) → cond c (more ++ last) (x ∷ (more ++ last)) ≡ cond c more (x ∷ more) ++ last
+pub push_by : (c : Bool) (x : Segment) (more last : List Segment) → cond c (more ++ last) (x ∷ (more ++ last)) ≡ cond c more (x ∷ more) ++ last
 push_by true x more last = refl
 push_by false x more last = refl
 
 -- one segment more is seen first where it is not a part with one before
 pub firsts_push : (before xs : List Segment) (s : Segment)
-    → firsts_behind before (xs ++ s ∷ []) ≡ firsts_behind before xs ++ cond (list_any (are_parts s) (before ++ xs)) [] (s ∷ [])
+    → firsts_after before (xs ++ s ∷ []) ≡ firsts_after before xs ++ cond (list_any (are_parts s) (before ++ xs)) [] (s ∷ [])
 firsts_push before [] s = ap (λ ys. cond (list_any (are_parts s) ys) [] (s ∷ [])) (sym (append-nil before))
 firsts_push before (x ∷ xs) s =
     let seen = list_any (are_parts x) before in
-    let more = firsts_behind (before ++ x ∷ []) xs in
+    let more = firsts_after (before ++ x ∷ []) xs in
     ap (λ ys. cond seen ys (x ∷ ys)) (firsts_push (before ++ x ∷ []) xs s)
     ∙ push_by seen x more (cond (list_any (are_parts s) ((before ++ x ∷ []) ++ xs)) [] (s ∷ []))
     ∙ ap (λ ys. cond seen more (x ∷ more) ++ cond (list_any (are_parts s) ys) [] (s ∷ [])) (append_assoc before (x ∷ []) xs)
@@ -71,12 +71,12 @@ any_by false p x more = refl
 
 -- a segment is a part with one of the segments where it is one with one of those seen first
 pub any_firsts : (before xs : List Segment) (s : Segment)
-    → (list_any (are_parts s) before || list_any (are_parts s) (firsts_behind before xs)) ≡ (list_any (are_parts s) before || list_any (are_parts s) xs)
+    → (list_any (are_parts s) before || list_any (are_parts s) (firsts_after before xs)) ≡ (list_any (are_parts s) before || list_any (are_parts s) xs)
 any_firsts before [] s = refl
 any_firsts before (x ∷ xs) s =
     let p : Segment → Bool = are_parts s in
     let a = list_any p before in
-    let more = firsts_behind (before ++ x ∷ []) xs in
+    let more = firsts_after (before ++ x ∷ []) xs in
     ap (λ b. a || b) (any_by (list_any (are_parts x) before) p x more)
     ∙ found_by (list_any (are_parts x) before) a (p x) (list_any p more) (list_any p xs)
     (ap (λ b. b || list_any p more) (sym (list_any-append p before (x ∷ []))) ∙ any_firsts (before ++ x ∷ []) xs s ∙ ap (λ b. b || list_any p xs) (list_any-append p before (x ∷ [])))

@@ -5,14 +5,14 @@ use Rattle.std.proofs.lemmas.List.{take_more}
 use Rattle.m51_module.specs.declared.segment.Segment.{Segment}
 use Rattle.m51_resolve.specs.declared.joining.Growing.{Growing}
 use Rattle.m51_resolve.specs.declared.joining.Part.{Part}
-use Rattle.m51_resolve.specs.Growth.{all_growing, Joins}
-use Rattle.m51_resolve.specs.Kept.{parts_behind}
+use Rattle.m51_resolve.specs.WorkJoining.{all_growing, Joins}
+use Rattle.m51_resolve.specs.Kept.{parts_after}
 use Rattle.m51_resolve.proofs.JoinSteps.{joins, parts_push}
 
 -- so many of the segments are joined
 pub record AreJoined (segments : List Segment) (count : ℕ) (growing : List Growing) (parts : List Part) : Type 0 where
   pub grown : growing ≡ all_growing (take count segments)
-  pub placed : parts ≡ parts_behind [] (take count segments)
+  pub placed : parts ≡ parts_after [] (take count segments)
   pub ends : All (λ g. g.end ≤ 65790 * count) growing
 
 pub joined_more : (segments : List Segment) (count : ℕ) (growing new : List Growing) (parts : List Part) (s : Segment) (part : Part)
@@ -24,7 +24,7 @@ joined_more segments count growing new parts s part h below is j ends =
     let more : take (count + 1) segments ≡ before ++ s ∷ [] = take_more segments count s below ∙ ap (λ x. before ++ x ∷ []) (sym is) in
     record {
       grown = step.1 ∙ ap all_growing (sym more);
-      placed = ap (λ ps. ps ++ part ∷ []) h.placed ∙ ap (λ p. parts_behind [] before ++ p ∷ []) step.0 ∙ sym (parts_push [] before s) ∙ ap (parts_behind []) (sym more);
+      placed = ap (λ ps. ps ++ part ∷ []) h.placed ∙ ap (λ p. parts_after [] before ++ p ∷ []) step.0 ∙ sym (parts_push [] before s) ∙ ap (parts_after []) (sym more);
       ends = subst (λ (n : ℕ). All (λ g. g.end ≤ n) new) (omega arith) ends;
     }
 

@@ -7,50 +7,33 @@ use Rattle.std.proofs.lemmas.List.Elements.{filter-append}
 use Rattle.std.proofs.lemmas.List.Folds.{list_all-append, list_any_at}
 use Rattle.std.proofs.lemmas.List.Quantifiers.{position-Some}
 use Rattle.std.proofs.lemmas.Option.{slice_get-get_or, slice_get-map}
-use Rattle.m51_cells.specs.declared.kind.Kind.{Kind}
-use Rattle.m51_cells.specs.declared.kind.Kind.TheVariants.{Code, Xdata, Direct, Idata, Bits, Number}
 use Rattle.m51_cells.specs.declared.kind.Reloc.{Reloc}
 use Rattle.m51_cells.specs.declared.kind.Reloc.TheVariants.{Abs, Unit as UnitType, Bitaddressable, Inpage, Inblock, Page}
+use Rattle.m51_cells.specs.Kinds.{same_reloc}
+use Rattle.m51_cells.proofs.KindLaws.{kind_again, reloc_again}
 use Rattle.m51_module.specs.declared.segment.Segment.{Segment}
 use Rattle.m51_resolve.specs.declared.joining.Growing.{Growing}
 use Rattle.m51_resolve.specs.declared.joining.Part.{Part}
-use Rattle.m51_resolve.specs.Growth.{all_growing, begun, growing_of, grown, joined_with, Joins, JoinsAt}
-use Rattle.m51_resolve.specs.Joining.{are_parts, end_behind, firsts, is_relocatable, part_behind, parts_with, start_behind}
-use Rattle.m51_resolve.specs.Kept.{parts_behind}
-use Rattle.m51_resolve.specs.Publics.{same_kind}
-use Rattle.m51_resolve.specs.Rules.{parts_agree, same_mark, same_reloc}
+use Rattle.m51_resolve.specs.WorkJoining.{all_growing, begun, growing_of, grown, joined_with, Joins, JoinsAt}
+use Rattle.m51_resolve.specs.Joining.{are_parts, end_after, firsts, is_relocatable, part_after, parts_with, start_after}
+use Rattle.m51_resolve.specs.Kept.{parts_after}
+use Rattle.m51_resolve.specs.Rules.{parts_agree, same_mark, same_marks}
 use Rattle.m51_resolve.proofs.Alike.{apart_back, filter_none, filter_same, none_of, part_self, parts_back, parts_have, same_parts, any_same, not_true}
 use Rattle.m51_resolve.proofs.Positions.{none_found}
 use Rattle.m51_resolve.proofs.FirstSight.{any_firsts, AreApart, firsts_apart, firsts_push}
 
 -- a joined segment of these parts
 abbrev growing_from : Segment → List Segment → Growing
-growing_from f parts = record { first = f; end = end_behind 0 parts; mixed = not (list_all (parts_agree f) parts) }
+growing_from f parts = record { first = f; end = end_after 0 parts; mixed = not (list_all (parts_agree f) parts) }
 
 -- the first part of a joined segment begins at 0
-pub start_zero : (reloc : Reloc) → start_behind reloc 0 ≡ 0
+pub start_zero : (reloc : Reloc) → start_after reloc 0 ≡ 0
 start_zero Page = refl
 start_zero Abs = refl
 start_zero UnitType = refl
 start_zero Bitaddressable = refl
 start_zero Inpage = refl
 start_zero Inblock = refl
-
-kind_self : (kind : Kind) → same_kind kind kind ≡ true
-kind_self Code = refl
-kind_self Xdata = refl
-kind_self Direct = refl
-kind_self Idata = refl
-kind_self Bits = refl
-kind_self Number = refl
-
-reloc_self : (reloc : Reloc) → same_reloc reloc reloc ≡ true
-reloc_self Abs = refl
-reloc_self UnitType = refl
-reloc_self Bitaddressable = refl
-reloc_self Inpage = refl
-reloc_self Inblock = refl
-reloc_self Page = refl
 
 mark_self : (mark : Bool) → same_mark mark mark ≡ true
 mark_self true = refl
@@ -59,12 +42,12 @@ mark_self false = refl
 -- a part agrees with itself
 agree_self : (s : Segment) → parts_agree s s ≡ true
 agree_self s =
-    ap (λ b. b && same_reloc s.reloc s.reloc && same_mark s.overlay s.overlay) (kind_self s.kind)
-    ∙ ap (λ b. b && same_mark s.overlay s.overlay) (reloc_self s.reloc) ∙ mark_self s.overlay
+    ap (λ b. b && same_reloc s.reloc s.reloc && same_marks s s) (kind_again s.kind)
+    ∙ ap (λ b. b && same_marks s s) (reloc_again s.reloc) ∙ ap (λ b. b && same_mark s.argument s.argument) (mark_self s.overlay) ∙ mark_self s.argument
 
-end_push : (end : ℕ) (xs : List Segment) (s : Segment) → end_behind end (xs ++ s ∷ []) ≡ start_behind s.reloc (end_behind end xs) + s.size
+end_push : (end : ℕ) (xs : List Segment) (s : Segment) → end_after end (xs ++ s ∷ []) ≡ start_after s.reloc (end_after end xs) + s.size
 end_push end [] s = refl
-end_push end (x ∷ xs) s = end_push (start_behind x.reloc end + x.size) xs s
+end_push end (x ∷ xs) s = end_push (start_after x.reloc end + x.size) xs s
 
 not_both : (a b : Bool) → not (a && (b && true)) ≡ (not a || not b)
 not_both true true = refl
@@ -78,7 +61,7 @@ mixed_push p xs s = ap not (list_all-append p xs (s ∷ [])) ∙ not_both (list_
 growing_push : (f : Segment) (xs : List Segment) (s : Segment) → growing_from f (xs ++ s ∷ []) ≡ grown (growing_from f xs) s
 growing_push f xs s =
     ap (λ e. record { first = f; end = e; mixed = not (list_all (parts_agree f) (xs ++ s ∷ [])) }) (end_push 0 xs s)
-    ∙ ap (λ m. record { first = f; end = start_behind s.reloc (end_behind 0 xs) + s.size; mixed = m }) (mixed_push (parts_agree f) xs s)
+    ∙ ap (λ m. record { first = f; end = start_after s.reloc (end_after 0 xs) + s.size; mixed = m }) (mixed_push (parts_agree f) xs s)
 
 growing_one : (s : Segment) → growing_from s (s ∷ []) ≡ begun s
 growing_one s =
@@ -156,7 +139,7 @@ joined_with-map before s =
     ∙ ap (λ l. cond (nat_lt n l) (Some n) None) (length-map fs (growing_of before))
 
 pub join_none : (before : List Segment) (s : Segment) (part : Part) (new : List Growing) → joined_with (all_growing before) s ≡ None
-    → JoinsAt (all_growing before) s None part new → (part ≡ part_behind before s) × (new ≡ all_growing (before ++ s ∷ []))
+    → JoinsAt (all_growing before) s None part new → (part ≡ part_after before s) × (new ≡ all_growing (before ++ s ∷ []))
 join_none before s part new none j =
     let fs = firsts before in
     let nowhere : position (are_parts s) fs ≡ None = sym (joined_with-map before s) ∙ none in
@@ -166,13 +149,13 @@ join_none before s part new none j =
       j.0 ∙ ap (λ n. record { number = n; offset = 0 }) (length-map fs (growing_of before))
           ∙ ap (λ o. record { number = unwrap_or o (length fs); offset = 0 }) (sym nowhere)
           ∙ ap (λ o. record { number = unwrap_or (position (are_parts s) fs) (length fs); offset = o }) (sym (start_zero s.reloc))
-          ∙ ap (λ ps. record { number = unwrap_or (position (are_parts s) fs) (length fs); offset = start_behind s.reloc (end_behind 0 ps) }) (sym (filter_none (are_parts s) before new_name)),
+          ∙ ap (λ ps. record { number = unwrap_or (position (are_parts s) fs) (length fs); offset = start_after s.reloc (end_after 0 ps) }) (sym (filter_none (are_parts s) before new_name)),
       j.1 ∙ ap (λ gs. gs ++ begun s ∷ []) (sym (kept_all before s fs unseen)) ∙ ap (λ g. map (growing_of (before ++ s ∷ [])) fs ++ g ∷ []) (sym (began before s new_name))
           ∙ sym (map-append (growing_of (before ++ s ∷ [])) fs (s ∷ [])) ∙ ap (map (growing_of (before ++ s ∷ []))) (sym pushed),
     )
 
 pub join_some : (before : List Segment) (s : Segment) (part : Part) (new : List Growing) (n : ℕ) → joined_with (all_growing before) s ≡ Some n
-    → JoinsAt (all_growing before) s (Some n) part new → (part ≡ part_behind before s) × (new ≡ all_growing (before ++ s ∷ []))
+    → JoinsAt (all_growing before) s (Some n) part new → (part ≡ part_after before s) × (new ≡ all_growing (before ++ s ∷ []))
 join_some before s part new n some j =
     let fs = firsts before in
     let found : position (are_parts s) fs ≡ Some n = sym (joined_with-map before s) ∙ some in
@@ -184,26 +167,26 @@ join_some before s part new n some j =
     let g : j.0 ≡ growing_of before f = cc (j.1, there) in
     let seen : list_any (are_parts s) before ≡ true = sym (any_firsts [] before s) ∙ list_any_at (are_parts s) fs n s at.0 part_with in
     let pushed : firsts (before ++ s ∷ []) ≡ fs = firsts_push [] before s ∙ ap (λ b. fs ++ cond b [] (s ∷ [])) seen ∙ append-nil fs in (
-      j.2 ∙ ap (λ g. record { number = n; offset = start_behind s.reloc g.end }) g
-          ∙ ap (λ r. record { number = n; offset = start_behind s.reloc (end_behind 0 (cond r (filter (are_parts f) before) (f ∷ []))) }) (parts_have s f part_with).second
-          ∙ ap (λ ps. record { number = n; offset = start_behind s.reloc (end_behind 0 ps) }) (sym (filter_same s f part_with before))
-          ∙ ap (λ o. record { number = unwrap_or o (length fs); offset = start_behind s.reloc (end_behind 0 (filter (are_parts s) before)) }) (sym found),
+      j.2 ∙ ap (λ g. record { number = n; offset = start_after s.reloc g.end }) g
+          ∙ ap (λ r. record { number = n; offset = start_after s.reloc (end_after 0 (cond r (filter (are_parts f) before) (f ∷ []))) }) (parts_have s f part_with).second
+          ∙ ap (λ ps. record { number = n; offset = start_after s.reloc (end_after 0 ps) }) (sym (filter_same s f part_with before))
+          ∙ ap (λ o. record { number = unwrap_or o (length fs); offset = start_after s.reloc (end_after 0 (filter (are_parts s) before)) }) (sym found),
       j.3 ∙ ap (λ g. slice_set (all_growing before) n (grown g s)) g ∙ sym (set_grown before s fs n f (firsts_apart [] before) is part_with)
           ∙ ap (map (growing_of (before ++ s ∷ []))) (sym pushed),
     )
 
 join_by : (before : List Segment) (s : Segment) (part : Part) (new : List Growing) (o : Option ℕ) → joined_with (all_growing before) s ≡ o
-    → JoinsAt (all_growing before) s o part new → (part ≡ part_behind before s) × (new ≡ all_growing (before ++ s ∷ []))
+    → JoinsAt (all_growing before) s o part new → (part ≡ part_after before s) × (new ≡ all_growing (before ++ s ∷ []))
 join_by before s part new None is j = join_none before s part new is j
 join_by before s part new (Some n) is j = join_some before s part new n is j
 
 -- One segment more is joined, and its part is the one that the definition gives.
 pub joins : (before : List Segment) (s : Segment) (part : Part) (new : List Growing) → Joins (all_growing before) s part new
-    → (part ≡ part_behind before s) × (new ≡ all_growing (before ++ s ∷ []))
+    → (part ≡ part_after before s) × (new ≡ all_growing (before ++ s ∷ []))
 joins before s part new j = join_by before s part new (joined_with (all_growing before) s) refl j
 
-pub parts_push : (before xs : List Segment) (s : Segment) → parts_behind before (xs ++ s ∷ []) ≡ parts_behind before xs ++ part_behind (before ++ xs) s ∷ []
-parts_push before [] s = ap (λ b. part_behind b s ∷ []) (sym (append-nil before))
+pub parts_push : (before xs : List Segment) (s : Segment) → parts_after before (xs ++ s ∷ []) ≡ parts_after before xs ++ part_after (before ++ xs) s ∷ []
+parts_push before [] s = ap (λ b. part_after b s ∷ []) (sym (append-nil before))
 parts_push before (x ∷ xs) s =
-    ap (λ ps. part_behind before x ∷ ps) (parts_push (before ++ x ∷ []) xs s)
-    ∙ ap (λ b. part_behind before x ∷ (parts_behind (before ++ x ∷ []) xs ++ part_behind b s ∷ [])) (append_assoc before (x ∷ []) xs)
+    ap (λ ps. part_after before x ∷ ps) (parts_push (before ++ x ∷ []) xs s)
+    ∙ ap (λ b. part_after before x ∷ (parts_after (before ++ x ∷ []) xs ++ part_after b s ∷ [])) (append_assoc before (x ∷ []) xs)

@@ -6,28 +6,28 @@ use Rattle.std.proofs.Math.Seq.{take-append-add}
 use Rattle.m51_module.specs.declared.parts.ModuleParts.{ModuleParts}
 use Rattle.m51_module.specs.declared.segment.Segment.{Segment}
 use Rattle.m51_module.specs.Validity.{numbered}
-use Rattle.m51_resolve.specs.Joining.{part_behind}
-use Rattle.m51_resolve.specs.Kept.{parts_behind}
+use Rattle.m51_resolve.specs.Joining.{part_after}
+use Rattle.m51_resolve.specs.Kept.{parts_after}
 
 -- the module of that number has an item of that number, from 1
 pub record IsThere {A : Type 0} (items : ModuleParts → List A) (modules : List ModuleParts) (m s : ℕ) : Type 0 where
   pub holder : ModuleParts
   pub is : slice_get modules m ≡ Some holder
-  pub place : ℕ
-  pub number : s ≡ suc place
+  pub index : ℕ
+  pub number : s ≡ suc index
   pub item : A
-  pub at : slice_get (items holder) place ≡ Some item
+  pub at : slice_get (items holder) index ≡ Some item
 
 module _ {A : Type 0} (items : ModuleParts → List A) (modules : List ModuleParts) (m : ℕ) where
-  there_at : (s : ℕ) (holder : ModuleParts) (place : ℕ) → s ≡ suc place → slice_get modules m ≡ Some holder → (o : Option A) → slice_get (items holder) place ≡ o → IsSome o
+  there_at : (s : ℕ) (holder : ModuleParts) (index : ℕ) → s ≡ suc index → slice_get modules m ≡ Some holder → (o : Option A) → slice_get (items holder) index ≡ o → IsSome o
       → IsThere items modules m s
-  there_at s holder place number is None at h = cc
-  there_at s holder place number is (Some item) at h = record { holder = holder; is = is; place = place; number = number; item = item; at = at }
+  there_at s holder index number is None at h = cc
+  there_at s holder index number is (Some item) at h = record { holder = holder; is = is; index = index; number = number; item = item; at = at }
 
   there_by : (s : ℕ) (o : Option ModuleParts) → slice_get modules m ≡ o → IsSome (option_and_then (λ (holder : ModuleParts). numbered (items holder) s) o) → IsThere items modules m s
   there_by s None is h = cc
   there_by zero (Some holder) is h = cc
-  there_by (suc place) (Some holder) is h = there_at (suc place) holder place refl is (slice_get (items holder) place) refl h
+  there_by (suc index) (Some holder) is h = there_at (suc index) holder index refl is (slice_get (items holder) index) refl h
 
   pub there : (s : ℕ) → IsSome (option_and_then (λ (holder : ModuleParts). numbered (items holder) s) (slice_get modules m)) → IsThere items modules m s
   there s h = there_by s (slice_get modules m) refl h
@@ -49,7 +49,7 @@ get_left (y ∷ xs) ys zero x h = h
 get_left (y ∷ xs) ys (suc n) x h = get_left xs ys n x h
 
 module _ {A : Type 0} (items : ModuleParts → List A) where
-  -- an item of a module stands behind those of the modules before
+  -- an item of a module stands after those of the modules before
   pub get_flat : (modules : List ModuleParts) (m j : ℕ) (holder : ModuleParts) (item : A) → slice_get modules m ≡ Some holder → slice_get (items holder) j ≡ Some item
       → slice_get (flat_map items modules) (length (flat_map items (take m modules)) + j) ≡ Some item
   get_flat [] m j holder item is at = cc
@@ -77,12 +77,12 @@ module _ {A : Type 0} (items : ModuleParts → List A) where
 
 -- the part in the table is that of the segment there
 pub get_part : (before segments : List Segment) (n : ℕ) (s : Segment) → slice_get segments n ≡ Some s
-    → slice_get (parts_behind before segments) n ≡ Some (part_behind (before ++ take n segments) s)
+    → slice_get (parts_after before segments) n ≡ Some (part_after (before ++ take n segments) s)
 get_part before [] n s is = cc
 get_part before (x ∷ segments) zero s is =
-    let same : x ≡ s = cc in ap (λ y. Some (part_behind before y)) same ∙ ap (λ b. Some (part_behind b s)) (sym (append-nil before))
+    let same : x ≡ s = cc in ap (λ y. Some (part_after before y)) same ∙ ap (λ b. Some (part_after b s)) (sym (append-nil before))
 get_part before (x ∷ segments) (suc n) s is =
-    get_part (before ++ x ∷ []) segments n s is ∙ ap (λ b. Some (part_behind b s)) (append_assoc before (x ∷ []) (take n segments))
+    get_part (before ++ x ∷ []) segments n s is ∙ ap (λ b. Some (part_after b s)) (append_assoc before (x ∷ []) (take n segments))
 
 -- a list around one of its items
 pub around : {A : Type 0} (xs : List A) (n : ℕ) (x : A) → slice_get xs n ≡ Some x → xs ≡ take n xs ++ x ∷ drop (suc n) xs

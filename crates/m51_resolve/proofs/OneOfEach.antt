@@ -1,5 +1,5 @@
 -- A module of one segment, one public and one external is valid.
-use Rattle.std.proofs.Common.{◌≡◌, ◌≢◌, List, [], ◌∷◌, refl, ℕ, arith, All, AllPairs}
+use Rattle.std.proofs.Common.{◌≡◌, ◌≢◌, inr, true, List, [], ◌∷◌, refl, ℕ, arith, All, AllPairs}
 use Rattle.m51_cells.specs.Name.{IsWritten}
 use Rattle.m51_cells.specs.declared.kind.Base.TheVariants.{None}
 use Rattle.m51_cells.specs.declared.kind.Kind.TheVariants.{Code}
@@ -14,29 +14,31 @@ use Rattle.m51_module.proofs.SampleModule.{all_one, pairs_one}
 abbrev pub of_code : List ℕ → Public
 of_code name = record { name = name; kind = Code; base = None; number = 0 }
 
-none : {X : Type 0} (P : X → Type 0) → All P []
-none P k d below = absurd (omega (arith, below))
+all_none : {X : Type 0} (P : X → Type 0) → All P []
+all_none P k d below = absurd (omega (arith, below))
 
-no_pairs : {X : Type 0} (R : X → X → Type 0) → AllPairs R []
-no_pairs R i j d less below = absurd (omega (arith, below))
+pairs_none : {X : Type 0} (R : X → X → Type 0) → AllPairs R []
+pairs_none R i j d less below = absurd (omega (arith, below))
 
 one_valid : (name public : List ℕ) (segment : Segment) (external : External) → IsWritten name → IsSegmentValid segment → IsWritten public → IsWritten external.name
-    → IsValid (record { name = name; segments = segment ∷ []; publics = of_code public ∷ []; externals = external ∷ []; pieces = []; fixups = []; banks = 1 })
+    → IsValid (record { name = name; version = 2; segments = segment ∷ []; publics = of_code public ∷ []; externals = external ∷ []; pieces = []; fixups = []; banks = 1 })
 one_valid name public segment external written valid named wanted = record {
   name = written;
+  version = inr refl;
   few_segments = omega arith;
   few_externals = omega arith;
   few_fixups = omega arith;
   segments = all_one IsSegmentValid segment valid;
+  marks = all_one (λ (s : Segment). s.argument ≡ true → ◌≡◌ {A = ℕ} 2 2) segment (λ _. refl);
   segment_names = pairs_one (λ (s t : Segment). Differ s.name t.name) segment;
   publics = all_one (IsPublicValid (segment ∷ [])) (of_code public) (record { name = named; base = tt });
   public_names = pairs_one (λ (p q : Public). p.name ≢ q.name) (of_code public);
   externals = all_one (λ (e : External). IsWritten e.name) external wanted;
   external_names = pairs_one (λ (e f : External). e.name ≢ f.name) external;
-  pieces = none (IsPieceValid (segment ∷ []));
-  piece_order = no_pairs LiesBefore;
-  fixups = none (IsFixupValid (segment ∷ []) (external ∷ []) []);
-  fixup_order = no_pairs FieldBefore;
+  pieces = all_none (IsPieceValid (segment ∷ []));
+  piece_order = pairs_none LiesBefore;
+  fixups = all_none (IsFixupValid (segment ∷ []) (external ∷ []) []);
+  fixup_order = pairs_none FieldBefore;
   banks = refl;
   few_banks = omega arith;
 }
@@ -44,6 +46,6 @@ one_valid name public segment external written valid named wanted = record {
 pub one_of_each : (name public : List ℕ) (segment : Segment) (external : External) (segments : List Segment) (publics : List Public) (externals : List External)
     (pieces : List Piece) (fixups : List Fixup) → segments ≡ segment ∷ [] → publics ≡ of_code public ∷ [] → externals ≡ external ∷ [] → pieces ≡ [] → fixups ≡ []
     → IsWritten name → IsSegmentValid segment → IsWritten public → IsWritten external.name
-    → IsValid (record { name = name; segments = segments; publics = publics; externals = externals; pieces = pieces; fixups = fixups; banks = 1 })
+    → IsValid (record { name = name; version = 2; segments = segments; publics = publics; externals = externals; pieces = pieces; fixups = fixups; banks = 1 })
 one_of_each name public segment external segments publics externals pieces fixups a b d e f written valid named wanted =
     rw (a, b, d, e, f) (one_valid name public segment external written valid named wanted)

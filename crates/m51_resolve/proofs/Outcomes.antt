@@ -3,6 +3,7 @@ use Rattle.std.proofs.Common.{◌≡◌, ℕ, zero, suc, ◌≤◌, Bool, true, 
 use Rattle.std.specs.Prelude.{All, option_map}
 use Rattle.std.specs.Option.{option_map_or}
 use Rattle.m51_module.specs.declared.parts.ModuleParts.{ModuleParts}
+use Rattle.m51_resolve.proofs.Within.{no_option}
 use Rattle.m51_resolve.specs.Choice.{choice, Chooses, Ends, Takes, first_needed, is_needed, IsOneChoice}
 
 -- these are not needed
@@ -22,13 +23,13 @@ none_head chosen m ms h = h 0 m (omega arith)
 none_tail : (chosen : List ModuleParts) (m : ModuleParts) (ms : List ModuleParts) → NoneNeeded chosen (m ∷ ms) → NoneNeeded chosen ms
 none_tail chosen m ms h k d below = h (suc k) d (omega (arith, below))
 
--- what is found behind a member that is not needed
-abbrev behind : ModuleParts → ModuleParts × List ModuleParts → ModuleParts × List ModuleParts
-behind m found = (found.0, m ∷ found.1)
+-- what is found after a member that is not needed
+abbrev pub with_passed : ModuleParts → ModuleParts × List ModuleParts → ModuleParts × List ModuleParts
+with_passed m found = (found.0, m ∷ found.1)
 
 -- what comes first, as the first member's test goes
-abbrev first_with : List ModuleParts → ModuleParts → List ModuleParts → Bool → Option (ModuleParts × List ModuleParts)
-first_with chosen m more b = cond b (Some (m, more)) (option_map (behind m) (first_needed chosen more))
+abbrev pub first_with : List ModuleParts → ModuleParts → List ModuleParts → Bool → Option (ModuleParts × List ModuleParts)
+first_with chosen m more b = cond b (Some (m, more)) (option_map (with_passed m) (first_needed chosen more))
 
 -- the members around the first that is needed
 record IsSplit (chosen left : List ModuleParts) (m : ModuleParts) (rest : List ModuleParts) : Type 0 where
@@ -40,7 +41,7 @@ record IsSplit (chosen left : List ModuleParts) (m : ModuleParts) (rest : List M
   needed : is_needed chosen m ≡ true
 
 later : (chosen : List ModuleParts) (x : ModuleParts) (left : List ModuleParts) (m : ModuleParts) (rest : List ModuleParts) (o : Option (ModuleParts × List ModuleParts))
-    → is_needed chosen x ≡ false → option_map (behind x) o ≡ Some (m, rest)
+    → is_needed chosen x ≡ false → option_map (with_passed x) o ≡ Some (m, rest)
     → ((m' : ModuleParts) (rest' : List ModuleParts) → o ≡ Some (m', rest') → IsSplit chosen left m' rest') → IsSplit chosen (x ∷ left) m rest
 later chosen x left m rest None unneeded h more = absurd (cc h)
 later chosen x left m rest (Some found) unneeded h more =
@@ -71,15 +72,11 @@ split : (chosen left : List ModuleParts) (m : ModuleParts) (rest : List ModulePa
 split chosen [] m rest h = absurd (cc h)
 split chosen (x ∷ left) m rest h = split_by (is_needed chosen x) chosen x left m rest refl h (split chosen left)
 
-no_option_by : {X Y : Type 0} (f : X → Y) (o : Option X) → option_map f o ≡ None → o ≡ None
-no_option_by f None h = refl
-no_option_by f (Some x) h = absurd (cc h)
-
 past_by : (b : Bool) (chosen : List ModuleParts) (x : ModuleParts) (left : List ModuleParts) → is_needed chosen x ≡ b → first_with chosen x left b ≡ None
     → (first_needed chosen left ≡ None → NoneNeeded chosen left) → NoneNeeded chosen (x ∷ left)
 past_by true chosen x left needed h more = absurd (cc h)
 past_by false chosen x left unneeded h more =
-    none_more chosen x left unneeded (more (no_option_by (behind x) (first_needed chosen left) h))
+    none_more chosen x left unneeded (more (no_option (with_passed x) (first_needed chosen left) h))
 
 past : (chosen left : List ModuleParts) → first_needed chosen left ≡ None → NoneNeeded chosen left
 past chosen [] h = none_first chosen
@@ -91,12 +88,12 @@ finds : (chosen front back : List ModuleParts) (m : ModuleParts) → NoneNeeded 
 finds chosen [] back m passed needed = ap (first_with chosen m back) needed
 finds chosen (x ∷ front) back m passed needed =
     ap (first_with chosen x (front ++ m ∷ back)) (none_head chosen x front passed)
-    ∙ ap (option_map (behind x)) (finds chosen front back m (none_tail chosen x front passed) needed)
+    ∙ ap (option_map (with_passed x)) (finds chosen front back m (none_tail chosen x front passed) needed)
 
 misses : (chosen left : List ModuleParts) → NoneNeeded chosen left → first_needed chosen left ≡ None
 misses chosen [] h = refl
 misses chosen (x ∷ left) h =
-    ap (first_with chosen x left) (none_head chosen x left h) ∙ ap (option_map (behind x)) (misses chosen left (none_tail chosen x left h))
+    ap (first_with chosen x left) (none_head chosen x left h) ∙ ap (option_map (with_passed x)) (misses chosen left (none_tail chosen x left h))
 
 -- the choice as its first member goes
 turned : (turns : ℕ) (left chosen : List ModuleParts) (o : Option (ModuleParts × List ModuleParts)) → first_needed chosen left ≡ o

@@ -1,12 +1,13 @@
 -- The items of all modules in one list.
-use Rattle.std.proofs.Common.{◌≡◌, ◌⊎◌, inl, inr, ℕ, zero, suc, ◌+◌, ◌*◌, ◌<◌, ◌≤◌, List, [], ◌∷◌, ◌++◌, length, take, get_or, refl, sym, ap, ◌∙◌, arith, length-append}
+use Rattle.std.proofs.Common.{◌≡◌, ◌⊎◌, inl, inr, ℕ, zero, suc, ◌+◌, ◌*◌, ◌<◌, ◌≤◌, List, [], ◌∷◌, ◌++◌, length, take, get_or, refl, sym, ap, ◌∙◌, subst, arith, length-append}
 use Rattle.std.specs.Prelude.{flat_map, slice_index}
-use Rattle.std.proofs.lemmas.List.{append-nil, take_more}
+use Rattle.std.proofs.lemmas.List.{append-nil, get_or_default, take_more}
 use Rattle.std.proofs.lemmas.List.Concat.{flat_map-append}
 use Rattle.std.proofs.Math.ListN.{get_or-append}
 use Rattle.std.proofs.Math.Seq.{get_or-append_seam}
 use Rattle.m51_module.specs.declared.parts.ModuleParts.{ModuleParts}
 use Rattle.m51_module.specs.declared.segment.Segment.{Segment}
+use Rattle.m51_module.specs.Validity.{IsValid}
 use Rattle.m51_resolve.specs.Kept.{AreStarts}
 
 -- the items of so many of the modules are there, and where those of each begin
@@ -19,6 +20,7 @@ pub record AreFlat {A : Type 0} (items : ModuleParts → List A) (modules : List
 pub record AreSegmentsOf (modules : List ModuleParts) (count : ℕ) (all : List Segment) (starts : List ℕ) : Type 0 where
   pub are : AreFlat (λ m. m.segments) modules count all starts
   pub most : length all ≤ 254 * count
+  pub valid : (m : ℕ) → m < count → (d : ModuleParts) → IsValid (get_or modules m d)
 
 below_or_last : (m count : ℕ) → m < count + 1 → (m < count) ⊎ (m ≡ count)
 below_or_last m zero h = inr (omega (arith, h))
@@ -48,6 +50,14 @@ flat_more {A} items modules count all starts m start h below is start_is =
             ∙ start_is ∙ ap length h.flat ∙ ap (λ n. length (flat_map items (take n modules))) (sym last)
       ];
     }
+
+-- one valid module more
+pub valid_more : (modules : List ModuleParts) (count : ℕ) (m : ModuleParts) → ((k : ℕ) → k < count → (d : ModuleParts) → IsValid (get_or modules k d)) → count < length modules
+    → m ≡ get_or modules count m → IsValid m → (k : ℕ) → k < count + 1 → (d : ModuleParts) → IsValid (get_or modules k d)
+valid_more modules count m valid below is own k inside d = elim (below_or_last k count inside) as (λ _. IsValid (get_or modules k d)) [
+  | inl less ↦ valid k less d
+  | inr last ↦ subst (λ x. IsValid x) (is ∙ get_or_default modules count m d below ∙ ap (λ n. get_or modules n d) (sym last)) own
+]
 
 take_whole : {A : Type 0} (xs : List A) → take (length xs) xs ≡ xs
 take_whole [] = refl

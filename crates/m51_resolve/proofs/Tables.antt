@@ -3,24 +3,25 @@ use Rattle.std.proofs.Common.{◌≡◌, ℕ, zero, suc, ◌+◌, ◌<◌, Bool,
 use Rattle.std.specs.Prelude.{IfSome, slice_get, slice_set}
 use Rattle.std.specs.List.{position_from}
 use Rattle.std.specs.Str.{bytes_eq}
+use Rattle.indexmap.specs.IndexMap.{insert_entry}
 use Rattle.std.proofs.lemmas.List.{append-nil}
 use Rattle.std.proofs.lemmas.List.Quantifiers.{position-Some}
 use Rattle.std.proofs.lemmas.Iterator.Adapters.{position_from-zero}
 use Rattle.m51_module.specs.declared.segment.Segment.{Segment}
 use Rattle.m51_resolve.specs.declared.joining.Growing.{Growing}
-use Rattle.m51_resolve.specs.Growth.{begun, joined_with, numbers_from}
+use Rattle.m51_resolve.specs.WorkJoining.{begun, joined_with, numbers_from}
 use Rattle.m51_resolve.specs.Joining.{are_parts, is_relocatable}
-use Rattle.m51_resolve.specs.NamedNumbers.{number_in}
+use Rattle.m51_resolve.specs.WorkNames.{value_in}
 use Rattle.m51_resolve.proofs.Alike.{absolute_apart}
 
 named_by : (r : Bool) (name own : List ℕ) (number : ℕ) (rest : List (List ℕ × ℕ))
-    → number_in (cond r ((own, number) ∷ rest) rest) name ≡ cond (r && bytes_eq name own) (Some number) (number_in rest name)
+    → value_in (cond r ((own, number) ∷ rest) rest) name ≡ cond (r && bytes_eq name own) (Some number) (value_in rest name)
 named_by true name own number rest = refl
 named_by false name own number rest = refl
 
--- a name's number is the place of the joined segment that a segment of the name is a part of
+-- a name's number is the index of the joined segment that a segment of the name is a part of
 number_from : (number : ℕ) (growing : List Growing) (s : Segment) → is_relocatable s.reloc ≡ true
-    → number_in (numbers_from number growing) s.name ≡ position_from (λ g. are_parts s g.first) number growing
+    → value_in (numbers_from number growing) s.name ≡ position_from (λ g. are_parts s g.first) number growing
 number_from number [] s h = refl
 number_from number (g ∷ more) s h =
     let r = is_relocatable g.first.reloc in
@@ -28,7 +29,7 @@ number_from number (g ∷ more) s h =
     ∙ ap (λ o. cond (r && bytes_eq s.name g.first.name) (Some number) o) (number_from (number + 1) more s h)
     ∙ ap (λ x. cond (x && r && bytes_eq s.name g.first.name) (Some number) (position_from (λ g. are_parts s g.first) (number + 1) more)) (sym h)
 
-pub number_is : (growing : List Growing) (s : Segment) → is_relocatable s.reloc ≡ true → number_in (numbers_from 0 growing) s.name ≡ joined_with growing s
+pub number_is : (growing : List Growing) (s : Segment) → is_relocatable s.reloc ≡ true → value_in (numbers_from 0 growing) s.name ≡ joined_with growing s
 number_is growing s h = number_from 0 growing s h ∙ sym (position_from-zero (λ (g : Growing). are_parts s g.first) growing)
 
 absolute_from : (number : ℕ) (growing : List Growing) (s : Segment) → is_relocatable s.reloc ≡ false → position_from (λ g. are_parts s g.first) number growing ≡ None
@@ -87,3 +88,13 @@ numbers_named growing s h =
 pub numbers_absolute : (growing : List Growing) (s : Segment) → is_relocatable s.reloc ≡ false → numbers_from 0 growing ≡ numbers_from 0 (growing ++ begun s ∷ [])
 numbers_absolute growing s h =
     sym (numbers_push 0 growing (begun s) ∙ ap (λ b. numbers_from 0 growing ++ cond b ((s.name, 0 + length growing) ∷ []) []) h ∙ append-nil (numbers_from 0 growing))
+
+put_by : (b : Bool) (e : List ℕ × ℕ) (es rest : List (List ℕ × ℕ)) (name : List ℕ) (number : ℕ) → cond b (Some e.1) (value_in es name) ≡ None
+    → (value_in es name ≡ None → rest ≡ es ++ (name, number) ∷ []) → cond b ((e.0, number) ∷ es) (e ∷ rest) ≡ e ∷ (es ++ (name, number) ∷ [])
+put_by true e es rest name number h k = absurd (cc h)
+put_by false e es rest name number h k = ap (λ xs. e ∷ xs) (k h)
+
+-- a new name goes last
+pub put_last : (es : List (List ℕ × ℕ)) (name : List ℕ) (number : ℕ) → value_in es name ≡ None → insert_entry bytes_eq es name number ≡ es ++ (name, number) ∷ []
+put_last [] name number h = refl
+put_last (e ∷ es) name number h = put_by (bytes_eq name e.0) e es (insert_entry bytes_eq es name number) name number h (put_last es name number)

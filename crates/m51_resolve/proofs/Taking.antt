@@ -1,5 +1,5 @@
 -- Taking the first member that is needed. The members are lent: f is what they are.
-use Rattle.std.proofs.Common.{◌≡◌, ℕ, zero, suc, ◌<◌, Bool, true, false, cond, List, [], ◌∷◌, ◌++◌, length, map, refl, sym, ap, ◌∙◌, arith, Option, Some, None}
+use Rattle.std.proofs.Common.{◌≡◌, ℕ, zero, suc, ◌<◌, true, false, List, [], ◌∷◌, ◌++◌, length, map, refl, sym, ap, ◌∙◌, arith, Some, None}
 use Rattle.std.specs.Prelude.{option_map, position, remove, slice_get}
 use Rattle.std.specs.List.{list_any, slice_index_or}
 use Rattle.std.specs.Option.{option_map_or}
@@ -8,49 +8,44 @@ use Rattle.std.proofs.lemmas.Option.{slice_get-get_or}
 use Rattle.m51_module.specs.declared.parts.ModuleParts.{ModuleParts}
 use Rattle.m51_resolve.specs.Choice.{choice, first_needed, is_needed}
 use Rattle.m51_resolve.proofs.Alike.{none_of}
+use Rattle.m51_resolve.proofs.Outcomes.{first_with}
 use Rattle.m51_resolve.proofs.Positions.{none_found}
 
--- the first member's turn
-first_by : List ModuleParts → ModuleParts → List ModuleParts → Bool → Option (ModuleParts × List ModuleParts)
-first_by chosen m more b = cond b (Some (m, more)) (option_map (λ found. (found.0, m ∷ found.1)) (first_needed chosen more))
-
 module _ {X : Type 0} (f : X → ModuleParts) where
-  -- the place of the first that is needed, and what is left without it
-  needed_at : (chosen : List ModuleParts) (left : List X) (x : X) (place : ℕ) → slice_get left place ≡ Some x → is_needed chosen (f x) ≡ true
-      → ((k : ℕ) → k < place → is_needed chosen (f (slice_index_or left k x)) ≡ false)
-      → first_needed chosen (map f left) ≡ Some (f x, map f (remove left place))
-  unfolding first_by
-  needed_at chosen [] x place is needed before = cc
+  -- the index of the first that is needed, and what is left without it
+  needed_at : (chosen : List ModuleParts) (left : List X) (x : X) (index : ℕ) → slice_get left index ≡ Some x → is_needed chosen (f x) ≡ true
+      → ((k : ℕ) → k < index → is_needed chosen (f (slice_index_or left k x)) ≡ false)
+      → first_needed chosen (map f left) ≡ Some (f x, map f (remove left index))
+  needed_at chosen [] x index is needed before = cc
   needed_at chosen (y ∷ left) x zero is needed before =
       let same : y ≡ x = cc in
-      ap (first_by chosen (f y) (map f left)) (ap (λ z. is_needed chosen (f z)) same ∙ needed) ∙ ap (λ z. Some (f z, map f left)) same
-  needed_at chosen (y ∷ left) x (suc place) is needed before =
-      ap (first_by chosen (f y) (map f left)) (before 0 (omega arith))
-      ∙ ap (option_map (λ found. (found.0, f y ∷ found.1))) (needed_at chosen left x place is needed (λ k below. before (suc k) (omega (arith, below))))
+      ap (first_with chosen (f y) (map f left)) (ap (λ z. is_needed chosen (f z)) same ∙ needed) ∙ ap (λ z. Some (f z, map f left)) same
+  needed_at chosen (y ∷ left) x (suc index) is needed before =
+      ap (first_with chosen (f y) (map f left)) (before 0 (omega arith))
+      ∙ ap (option_map (λ found. (found.0, f y ∷ found.1))) (needed_at chosen left x index is needed (λ k below. before (suc k) (omega (arith, below))))
 
   none_needed : (chosen : List ModuleParts) (left : List X) → list_any (λ m. is_needed chosen (f m)) left ≡ false → first_needed chosen (map f left) ≡ None
-  unfolding first_by
   none_needed chosen [] h = refl
   none_needed chosen (y ∷ left) h =
       let k = none_of (is_needed chosen (f y)) (list_any (λ m. is_needed chosen (f m)) left) h in
-      ap (first_by chosen (f y) (map f left)) k.0 ∙ ap (option_map (λ found. (found.0, f y ∷ found.1))) (none_needed chosen left k.1)
+      ap (first_with chosen (f y) (map f left)) k.0 ∙ ap (option_map (λ found. (found.0, f y ∷ found.1))) (none_needed chosen left k.1)
 
-  length-remove : (left : List X) (place : ℕ) → place < length left → length left ≡ suc (length (remove left place))
-  length-remove [] place h = absurd (omega (arith, h))
+  length-remove : (left : List X) (index : ℕ) → index < length left → length left ≡ suc (length (remove left index))
+  length-remove [] index h = absurd (omega (arith, h))
   length-remove (y ∷ left) zero h = refl
-  length-remove (y ∷ left) (suc place) h = ap suc (length-remove left place (omega (arith, h)))
+  length-remove (y ∷ left) (suc index) h = ap suc (length-remove left index (omega (arith, h)))
 
   -- a turn takes the member
-  pub turn : (chosen : List ModuleParts) (left : List X) (x : X) (place : ℕ) (all : List ModuleParts) → Some place ≡ position (λ m. is_needed chosen (f m)) left
-      → x ≡ slice_index_or left place x → choice (length left) (map f left) chosen ≡ all
-      → choice (length (remove left place)) (map f (remove left place)) (chosen ++ f x ∷ []) ≡ all
-  turn chosen left x place all found is h =
-      let at = position-Some (λ m. is_needed chosen (f m)) left place x (sym found) in
-      let there : slice_get left place ≡ Some x = slice_get-get_or left place x at.0 ∙ ap Some (sym is) in
+  pub turn : (chosen : List ModuleParts) (left : List X) (x : X) (index : ℕ) (all : List ModuleParts) → Some index ≡ position (λ m. is_needed chosen (f m)) left
+      → x ≡ slice_index_or left index x → choice (length left) (map f left) chosen ≡ all
+      → choice (length (remove left index)) (map f (remove left index)) (chosen ++ f x ∷ []) ≡ all
+  turn chosen left x index all found is h =
+      let at = position-Some (λ m. is_needed chosen (f m)) left index x (sym found) in
+      let there : slice_get left index ≡ Some x = slice_get-get_or left index x at.0 ∙ ap Some (sym is) in
       let needed : is_needed chosen (f x) ≡ true = ap (λ z. is_needed chosen (f z)) is ∙ at.1 in
-      let rest = remove left place in
-      sym (ap (λ n. choice n (map f left) chosen) (length-remove left place at.0)
-      ∙ ap (λ o. option_map_or (λ next. choice (length rest) next.1 (chosen ++ next.0 ∷ [])) o chosen) (needed_at chosen left x place there needed at.2))
+      let rest = remove left index in
+      sym (ap (λ n. choice n (map f left) chosen) (length-remove left index at.0)
+      ∙ ap (λ o. option_map_or (λ next. choice (length rest) next.1 (chosen ++ next.0 ∷ [])) o chosen) (needed_at chosen left x index there needed at.2))
       ∙ h
 
   last_by : (turns : ℕ) (chosen : List ModuleParts) (left : List ModuleParts) → first_needed chosen left ≡ None → choice turns left chosen ≡ chosen

@@ -12,28 +12,25 @@ use Rattle.m51_cells.specs.declared.kind.Kind.{Kind}
 use Rattle.m51_cells.specs.declared.kind.Kind.TheVariants.{Code, Xdata, Direct, Idata, Bits, Number}
 use Rattle.m51_cells.specs.declared.kind.Reloc.{Reloc}
 use Rattle.m51_cells.specs.declared.kind.Reloc.TheVariants.{Abs, Unit as UnitType, Bitaddressable, Inpage, Inblock, Page}
+use Rattle.m51_cells.specs.Kinds.{most_of}
 use Rattle.m51_module.specs.declared.parts.ModuleParts.{ModuleParts}
 use Rattle.m51_module.specs.declared.segment.Segment.{Segment}
-use Rattle.m51_resolve.specs.Joining.{all_segments, are_parts, end_behind, firsts, firsts_behind, is_relocatable, joined_of, part_behind, parts_with, segments_of, start_behind}
-use Rattle.m51_resolve.specs.Rules.{is_too_large, large_segment, most_of}
+use Rattle.m51_resolve.specs.Joining.{all_segments, are_parts, end_after, firsts, firsts_after, is_relocatable, joined_of, part_after, parts_with, segments_of, start_after}
+use Rattle.m51_resolve.specs.Rules.{is_too_large, large_segment}
 use Rattle.m51_resolve.proofs.Alike.{absolute_none, filter_none, filter_same, or_true, part_self, parts_have}
-use Rattle.m51_resolve.proofs.FirstSight.{any_firsts}
+use Rattle.m51_resolve.proofs.FirstSight.{any_firsts, push_by}
 use Rattle.m51_resolve.proofs.JoinSteps.{none_at, start_zero}
 use Rattle.m51_resolve.proofs.Positions.{none_found}
 
-append_by : (c : Bool) (x : Segment) (more last : List Segment) → cond c (more ++ last) (x ∷ (more ++ last)) ≡ cond c more (x ∷ more) ++ last
-append_by true x more last = refl
-append_by false x more last = refl
-
 -- those seen first among some segments and the next ones
-pub firsts_append : (before xs ys : List Segment) → firsts_behind before (xs ++ ys) ≡ firsts_behind before xs ++ firsts_behind (before ++ xs) ys
-firsts_append before [] ys = ap (λ b. firsts_behind b ys) (sym (append-nil before))
+pub firsts_append : (before xs ys : List Segment) → firsts_after before (xs ++ ys) ≡ firsts_after before xs ++ firsts_after (before ++ xs) ys
+firsts_append before [] ys = ap (λ b. firsts_after b ys) (sym (append-nil before))
 firsts_append before (x ∷ xs) ys =
     let seen = list_any (are_parts x) before in
-    let more = firsts_behind (before ++ x ∷ []) xs in
+    let more = firsts_after (before ++ x ∷ []) xs in
     ap (λ fs. cond seen fs (x ∷ fs)) (firsts_append (before ++ x ∷ []) xs ys)
-    ∙ append_by seen x more (firsts_behind ((before ++ x ∷ []) ++ xs) ys)
-    ∙ ap (λ b. cond seen more (x ∷ more) ++ firsts_behind b ys) (append_assoc before (x ∷ []) xs)
+    ∙ push_by seen x more (firsts_after ((before ++ x ∷ []) ++ xs) ys)
+    ∙ ap (λ b. cond seen more (x ∷ more) ++ firsts_after b ys) (append_assoc before (x ∷ []) xs)
 
 number_by : (o : Option ℕ) (count : ℕ) (seen : Bool) (s : Segment) (more : List Segment) → ((n : ℕ) → o ≡ Some n → n < count) → (o ≡ None → seen ≡ false)
     → unwrap_or o count < count + length (cond seen more (s ∷ more))
@@ -42,10 +39,10 @@ number_by None count false s more below unseen = omega arith
 number_by (Some n) count seen s more below unseen = let k = below n refl in omega arith
 
 -- the number of a part is that of a joined segment
-pub part_number : (before : List Segment) (s : Segment) (after : List Segment) → (part_behind before s).number < length (firsts (before ++ s ∷ after))
+pub part_number : (before : List Segment) (s : Segment) (after : List Segment) → (part_after before s).number < length (firsts (before ++ s ∷ after))
 part_number before s after =
     let fs = firsts before in
-    let more = firsts_behind (before ++ s ∷ []) after in
+    let more = firsts_after (before ++ s ∷ []) after in
     let seen = list_any (are_parts s) before in
     let is : length (firsts (before ++ s ∷ after)) ≡ length fs + length (cond seen more (s ∷ more)) =
     ap length (firsts_append [] before (s ∷ after)) ∙ length-append fs (cond seen more (s ∷ more)) in
@@ -53,7 +50,7 @@ part_number before s after =
     (λ none. sym (any_firsts [] before s) ∙ none_found (are_parts s) fs none) in
     omega (arith, is, number)
 
-start_least : (reloc : Reloc) (end : ℕ) → end ≤ start_behind reloc end
+start_least : (reloc : Reloc) (end : ℕ) → end ≤ start_after reloc end
 start_least Page end = omega arith
 start_least Abs end = omega arith
 start_least UnitType end = omega arith
@@ -61,13 +58,13 @@ start_least Bitaddressable end = omega arith
 start_least Inpage end = omega arith
 start_least Inblock end = omega arith
 
-end_least : (end : ℕ) (xs : List Segment) → end ≤ end_behind end xs
+end_least : (end : ℕ) (xs : List Segment) → end ≤ end_after end xs
 end_least end [] = omega arith
-end_least end (x ∷ xs) = let a = start_least x.reloc end in let b = end_least (start_behind x.reloc end + x.size) xs in omega arith
+end_least end (x ∷ xs) = let a = start_least x.reloc end in let b = end_least (start_after x.reloc end + x.size) xs in omega arith
 
-end-append : (end : ℕ) (xs ys : List Segment) → end_behind end (xs ++ ys) ≡ end_behind (end_behind end xs) ys
+end-append : (end : ℕ) (xs ys : List Segment) → end_after end (xs ++ ys) ≡ end_after (end_after end xs) ys
 end-append end [] ys = refl
-end-append end (x ∷ xs) ys = end-append (start_behind x.reloc end + x.size) xs ys
+end-append end (x ∷ xs) ys = end-append (start_after x.reloc end + x.size) xs ys
 
 filter_at : (p : Segment → Bool) (before : List Segment) (s : Segment) (after : List Segment) → p s ≡ true
     → filter p (before ++ s ∷ after) ≡ filter p before ++ s ∷ filter p after
@@ -75,12 +72,12 @@ filter_at p before s after h = filter-append p before (s ∷ after) ∙ ap (λ b
 
 -- a part begins before the end of its joined segment
 pub part_offset : (before : List Segment) (s : Segment) (after : List Segment) → is_relocatable s.reloc ≡ true
-    → (part_behind before s).offset ≤ end_behind 0 (filter (are_parts s) (before ++ s ∷ after))
+    → (part_after before s).offset ≤ end_after 0 (filter (are_parts s) (before ++ s ∷ after))
 part_offset before s after named =
     let p : Segment → Bool = are_parts s in
-    let start = start_behind s.reloc (end_behind 0 (filter p before)) in
-    let is : end_behind 0 (filter p (before ++ s ∷ after)) ≡ end_behind (start + s.size) (filter p after) =
-    ap (end_behind 0) (filter_at p before s after (part_self s named)) ∙ end-append 0 (filter p before) (s ∷ filter p after) in
+    let start = start_after s.reloc (end_after 0 (filter p before)) in
+    let is : end_after 0 (filter p (before ++ s ∷ after)) ≡ end_after (start + s.size) (filter p after) =
+    ap (end_after 0) (filter_at p before s after (part_self s named)) ∙ end-append 0 (filter p before) (s ∷ filter p after) in
     let past = end_least (start + s.size) (filter p after) in
     omega (arith, is, past)
 
@@ -115,7 +112,7 @@ not_above a b h = grind (arith, nat_tests)
 
 -- a joined segment ends in 16 bits where L5 does not come
 pub end_fits : (modules : List ModuleParts) (s : Segment) → large_segment modules ≡ None → list_any (are_parts s) (all_segments modules) ≡ true
-    → end_behind 0 (filter (are_parts s) (all_segments modules)) ≤ 65535
+    → end_after 0 (filter (are_parts s) (all_segments modules)) ≤ 65535
 end_fits modules s small seen =
     let all = all_segments modules in
     let fs = firsts all in
@@ -126,24 +123,24 @@ end_fits modules s small seen =
     let named = (parts_have s f k.4).second in
     let none : list_any (λ x. is_too_large (joined_of all x)) fs ≡ false =
     sym (any-map is_too_large (joined_of all) fs) ∙ find_none is_too_large (segments_of modules) (no_option (λ j. j.title) (find is_too_large (segments_of modules)) small) in
-    let fits = not_above (most_of f.kind f.reloc) (end_behind 0 (parts_with all f)) (none_at (λ x. is_too_large (joined_of all x)) fs k.0 f none at) in
-    let is : end_behind 0 (parts_with all f) ≡ end_behind 0 (filter (are_parts s) all) =
-    ap (λ r. end_behind 0 (cond r (filter (are_parts f) all) (f ∷ []))) named ∙ ap (end_behind 0) (sym (filter_same s f k.4 all)) in
+    let fits = not_above (most_of f.kind f.reloc) (end_after 0 (parts_with all f)) (none_at (λ x. is_too_large (joined_of all x)) fs k.0 f none at) in
+    let is : end_after 0 (parts_with all f) ≡ end_after 0 (filter (are_parts s) all) =
+    ap (λ r. end_after 0 (cond r (filter (are_parts f) all) (f ∷ []))) named ∙ ap (end_after 0) (sym (filter_same s f k.4 all)) in
     omega (arith, fits, is, most_fits f.kind f.reloc)
 
 offset_by : (r : Bool) (modules : List ModuleParts) (before : List Segment) (s : Segment) (after : List Segment) → is_relocatable s.reloc ≡ r
-    → all_segments modules ≡ before ++ s ∷ after → large_segment modules ≡ None → (part_behind before s).offset ≤ 65535
+    → all_segments modules ≡ before ++ s ∷ after → large_segment modules ≡ None → (part_after before s).offset ≤ 65535
 offset_by false modules before s after absolute is small =
-    let zero_end : (part_behind before s).offset ≡ 0 =
-    ap (λ ps. start_behind s.reloc (end_behind 0 ps)) (filter_none (are_parts s) before (absolute_none s absolute before)) ∙ start_zero s.reloc in
+    let zero_end : (part_after before s).offset ≡ 0 =
+    ap (λ ps. start_after s.reloc (end_after 0 ps)) (filter_none (are_parts s) before (absolute_none s absolute before)) ∙ start_zero s.reloc in
     omega (arith, zero_end)
 offset_by true modules before s after named is small =
     let seen : list_any (are_parts s) (before ++ s ∷ after) ≡ true =
     list_any-append (are_parts s) before (s ∷ after) ∙ ap (λ b. list_any (are_parts s) before || (b || list_any (are_parts s) after)) (part_self s named) ∙ or_true (list_any (are_parts s) before) in
     let fits = end_fits modules s small (ap (list_any (are_parts s)) is ∙ seen) in
-    omega (arith, part_offset before s after named, fits, ap (λ all. end_behind 0 (filter (are_parts s) all)) is)
+    omega (arith, part_offset before s after named, fits, ap (λ all. end_after 0 (filter (are_parts s) all)) is)
 
 -- the offset of a part fits 16 bits
 pub offset_fits : (modules : List ModuleParts) (before : List Segment) (s : Segment) (after : List Segment)
-    → all_segments modules ≡ before ++ s ∷ after → large_segment modules ≡ None → (part_behind before s).offset ≤ 65535
+    → all_segments modules ≡ before ++ s ∷ after → large_segment modules ≡ None → (part_after before s).offset ≤ 65535
 offset_fits modules before s after is small = offset_by (is_relocatable s.reloc) modules before s after refl is small

@@ -22,12 +22,14 @@ is_needed chosen member = list_any (λ p. is_missing chosen p.name) member.publi
 abbrev pub first_needed : List ModuleParts → List ModuleParts → Option (ModuleParts × List ModuleParts)
 first_needed chosen [] = None
 first_needed chosen (m ∷ more) =
-    if is_needed chosen m then Some (m, more) else option_map (λ found. (found.0, m ∷ found.1)) (first_needed chosen more)
+    if is_needed chosen m then Some (m, more)
+    else option_map (λ found. (found.0, m ∷ found.1)) (first_needed chosen more)
 
 -- In each turn the first of the members left that is needed is chosen; it ends where none is.
 abbrev pub choice : ℕ → List ModuleParts → List ModuleParts → List ModuleParts
 choice zero left chosen = chosen
-choice (suc turns) left chosen = option_map_or (λ next. choice turns next.1 (chosen ++ next.0 ∷ [])) (first_needed chosen left) chosen
+choice (suc turns) left chosen =
+    option_map_or (λ next. choice turns next.1 (chosen ++ next.0 ∷ [])) (first_needed chosen left) chosen
 
 -- The given modules and those chosen of the members. As many turns as there are members are enough: each takes one.
 abbrev pub chosen_of : List ModuleParts → List ModuleParts → List ModuleParts
@@ -40,8 +42,8 @@ members_of libraries = flat_map (λ members. members) libraries
 -- The same as a relation: members are chosen, each the first of those left that is needed, until none is.
 pub data Chooses : List ModuleParts → List ModuleParts → List ModuleParts → Type 0 where
   Ends : {left chosen : List ModuleParts} → All (λ m. is_needed chosen m ≡ false) left → Chooses left chosen chosen
-  Takes : {left chosen all : List ModuleParts} → (front back : List ModuleParts) (m : ModuleParts) → left ≡ front ++ m ∷ back
-      → All (λ m. is_needed chosen m ≡ false) front → is_needed chosen m ≡ true
+  Takes : {left chosen all : List ModuleParts} → (front back : List ModuleParts) (m : ModuleParts)
+      → left ≡ front ++ m ∷ back → All (λ m. is_needed chosen m ≡ false) front → is_needed chosen m ≡ true
       → Chooses (front ++ back) (chosen ++ m ∷ []) all → Chooses left chosen all
 
 -- what the relation gives is what is chosen, and nothing else

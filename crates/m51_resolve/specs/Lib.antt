@@ -1,7 +1,8 @@
 pub mod Choice
-pub mod Growth
 pub mod Joining
 pub mod Kept
-pub mod NamedNumbers
 pub mod Publics
 pub mod Rules
+pub mod WorkJoining
+pub mod WorkNames
+pub mod WorkRules

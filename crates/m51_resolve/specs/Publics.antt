@@ -1,25 +1,28 @@
 -- Which public resolves an external.
-use Rattle.std.specs.Prelude.{ℕ, ◌+◌, Bool, true, false, ◌||◌, if◌then◌else◌, List, [], ◌∷◌, flat_map, slice_get, Option, Some, None, unwrap_or, option_and_then}
+use Rattle.std.specs.Prelude.{ℕ, ◌+◌, Bool, ◌||◌, if◌then◌else◌, List, [], ◌∷◌, flat_map, slice_get, Option, Some, None, unwrap_or, option_and_then}
 use Rattle.std.specs.Option.{option_or}
 use Rattle.std.specs.Str.{bytes_eq}
 use Rattle.m51_cells.specs.declared.kind.Kind.{Kind}
-use Rattle.m51_cells.specs.declared.kind.Kind.TheVariants.{Code, Xdata, Direct, Idata, Bits, Number}
+use Rattle.m51_cells.specs.declared.kind.Kind.TheVariants.{Number}
+use Rattle.m51_cells.specs.Kinds.{same_kind}
 use Rattle.m51_module.specs.declared.parts.ModuleParts.{ModuleParts}
 use Rattle.m51_module.specs.declared.symbol.External.{External}
 use Rattle.m51_module.specs.declared.symbol.Public.{Public}
 use Rattle.m51_module.specs.Validity.{numbered}
 use Rattle.m51_resolve.specs.declared.publics.Definition.{Definition}
 
--- the public of the name among these, which are those of the module of that number from that place on
+-- the public of the name among these, which are those of the module of that number from that index on
 abbrev pub definition_among : ℕ → ℕ → List ℕ → List Public → Option Definition
-definition_among number place name [] = None
-definition_among number place name (p ∷ more) =
-    if bytes_eq p.name name then Some (record { number = number; place = place; kind = p.kind }) else definition_among number (place + 1) name more
+definition_among number index name [] = None
+definition_among number index name (p ∷ more) =
+    if bytes_eq p.name name then Some (record { number = number; index = index; kind = p.kind })
+    else definition_among number (index + 1) name more
 
 -- the public of the name in these modules, the first of which has that number
 abbrev pub definition_from : ℕ → List ℕ → List ModuleParts → Option Definition
 definition_from number name [] = None
-definition_from number name (m ∷ more) = option_or (definition_among number 0 name m.publics) (definition_from (number + 1) name more)
+definition_from number name (m ∷ more) =
+    option_or (definition_among number 0 name m.publics) (definition_from (number + 1) name more)
 
 -- the public of the name in the modules; where L1 does not come, there is at most one
 abbrev pub definition_of : List ModuleParts → List ℕ → Option Definition
@@ -29,9 +32,9 @@ definition_of modules name = definition_from 0 name modules
 abbrev pub all_externals : List ModuleParts → List External
 all_externals modules = flat_map (λ m. m.externals) modules
 
--- what stands for the definition of a name that has none
+-- What stands for the definition of a name that has none: L2 comes there, so no external of a `Joined` is resolved so.
 abbrev pub nowhere : Definition
-nowhere = record { number = 0; place = 0; kind = Number }
+nowhere = record { number = 0; index = 0; kind = Number }
 
 -- the external of that number, from 1, of the module of that number, from 0
 abbrev pub external_at : List ModuleParts → ℕ → ℕ → Option External
@@ -41,21 +44,12 @@ external_at modules m e = option_and_then (λ (chosen : ModuleParts). numbered c
 abbrev pub resolving : List ModuleParts → External → Definition
 resolving modules e = unwrap_or (definition_of modules e.name) nowhere
 
--- The public that resolves an external of a module: the number of its module, and its place there, both from 0.
+-- The public that resolves an external of a module: the number of its module, and its index there, both from 0.
 abbrev pub public_of : List ModuleParts → ℕ → ℕ → ℕ × ℕ
 public_of modules m e =
-    let found : Definition = unwrap_or (option_and_then (λ (x : External). definition_of modules x.name) (external_at modules m e)) nowhere in
-    (found.number, found.place)
-
--- whether the kinds are the same
-abbrev pub same_kind : Kind → Kind → Bool
-same_kind Code Code = true
-same_kind Xdata Xdata = true
-same_kind Direct Direct = true
-same_kind Idata Idata = true
-same_kind Bits Bits = true
-same_kind Number Number = true
-same_kind _ _ = false
+    let known : Option Definition = option_and_then (λ (x : External). definition_of modules x.name) (external_at modules m e) in
+    let found : Definition = unwrap_or known nowhere in
+    (found.number, found.index)
 
 -- the kinds agree: they are the same, or one of them is NUMBER
 abbrev pub kinds_agree : Kind → Kind → Bool

@@ -3,9 +3,7 @@ use Rattle.std.specs.Prelude.{◌≡◌, ℕ, ◌≤◌, Bool, true, false, not,
 use Rattle.std.specs.List.{list_all}
 use Rattle.std.specs.Option.{option_or}
 use Rattle.m51_cells.specs.declared.kind.Kind.{Kind}
-use Rattle.m51_cells.specs.declared.kind.Kind.TheVariants.{Code, Direct, Idata, Bits}
-use Rattle.m51_cells.specs.declared.kind.Reloc.{Reloc}
-use Rattle.m51_cells.specs.declared.kind.Reloc.TheVariants.{Abs, Unit as UnitType, Bitaddressable, Inpage, Inblock, Page}
+use Rattle.m51_cells.specs.Kinds.{is_code, most_of, same_kind, same_reloc}
 use Rattle.m51_module.specs.declared.linked.Quantity.{Quantity}
 use Rattle.m51_module.specs.declared.linked.Quantity.TheVariants.{Modules, Segments, Units}
 use Rattle.m51_module.specs.declared.linked.Refusal.{Refusal}
@@ -16,18 +14,19 @@ use Rattle.m51_module.specs.declared.symbol.External.{External}
 use Rattle.m51_module.specs.Library.{defines}
 use Rattle.m51_resolve.specs.Choice.{chosen_of, members_of}
 use Rattle.m51_resolve.specs.Joining.{all_segments, firsts, parts_with, segments_of}
-use Rattle.m51_resolve.specs.Publics.{all_externals, definition_of, kinds_agree, same_kind}
+use Rattle.m51_resolve.specs.Publics.{all_externals, definition_of, kinds_agree}
 use Rattle.m51_resolve.specs.declared.publics.Definition.{Definition}
 use Rattle.m51_resolve.specs.declared.segment.JoinedSegment.{JoinedSegment}
 
--- L1: the first public of the modules behind these that another chosen module, before or after, defines too
-abbrev pub shared_behind : List ModuleParts → List ModuleParts → Option (List ℕ)
-shared_behind before [] = None
-shared_behind before (m ∷ after) =
-    option_or (option_map (λ p. p.name) (find (λ p. defines (before ++ after) p.name) m.publics)) (shared_behind (before ++ m ∷ []) after)
+-- L1: the first public of the modules after these that another chosen module, before or after, defines too
+abbrev pub shared_after : List ModuleParts → List ModuleParts → Option (List ℕ)
+shared_after before [] = None
+shared_after before (m ∷ after) =
+    option_or (option_map (λ p. p.name) (find (λ p. defines (before ++ after) p.name) m.publics))
+    (shared_after (before ++ m ∷ []) after)
 
 abbrev pub shared_public : List ModuleParts → Option (List ℕ)
-shared_public modules = shared_behind [] modules
+shared_public modules = shared_after [] modules
 
 -- L2: the first external that no chosen module defines
 abbrev pub is_undefined : List ModuleParts → External → Bool
@@ -47,42 +46,28 @@ is_contrary modules e = is_against e.kind (definition_of modules e.name)
 abbrev pub contrary_external : List ModuleParts → Option (List ℕ)
 contrary_external modules = option_map (λ e. e.name) (find (is_contrary modules) (all_externals modules))
 
--- whether the types are the same, and whether the marks OVERLAYABLE are
-abbrev pub same_reloc : Reloc → Reloc → Bool
-same_reloc Abs Abs = true
-same_reloc UnitType UnitType = true
-same_reloc Bitaddressable Bitaddressable = true
-same_reloc Inpage Inpage = true
-same_reloc Inblock Inblock = true
-same_reloc Page Page = true
-same_reloc _ _ = false
-
+-- whether two marks are the same
 abbrev pub same_mark : Bool → Bool → Bool
 same_mark true two = two
 same_mark false two = not two
 
--- two parts agree in kind, type and OVERLAYABLE
+-- two segments have the same marks OVERLAYABLE and ARGUMENT
+abbrev pub same_marks : Segment → Segment → Bool
+same_marks one two = same_mark one.overlay two.overlay && same_mark one.argument two.argument
+
+-- two parts agree in kind, type, OVERLAYABLE and ARGUMENT
 abbrev pub parts_agree : Segment → Segment → Bool
-parts_agree one two = same_kind one.kind two.kind && same_reloc one.reloc two.reloc && same_mark one.overlay two.overlay
+parts_agree one two = same_kind one.kind two.kind && same_reloc one.reloc two.reloc && same_marks one two
 
 -- L4: the first joined segment whose parts differ: not all agree with the one that is seen first
 abbrev pub is_mixed : List Segment → Segment → Bool
 is_mixed all s = not (list_all (parts_agree s) (parts_with all s))
 
 abbrev pub mixed_segment : List ModuleParts → Option (List ℕ)
-mixed_segment modules = option_map (λ s. s.name) (find (is_mixed (all_segments modules)) (firsts (all_segments modules)))
+mixed_segment modules =
+    option_map (λ s. s.name) (find (is_mixed (all_segments modules)) (firsts (all_segments modules)))
 
--- the most bytes, for BIT bits, that a joined segment has
-abbrev pub most_of : Kind → Reloc → ℕ
-most_of Direct Bitaddressable = 16
-most_of Direct _ = 128
-most_of Bits _ = 128
-most_of Idata _ = 256
-most_of _ Inpage = 256
-most_of _ Inblock = 2048
-most_of _ _ = 65535
-
--- L5: the first joined segment that is larger
+-- L5: the first joined segment that is larger than its kind and type allow
 abbrev pub is_too_large : JoinedSegment → Bool
 is_too_large j = nat_lt (most_of j.kind j.reloc) j.size
 
@@ -91,7 +76,7 @@ large_segment modules = option_map (λ j. j.title) (find is_too_large (segments_
 
 -- the units: the joined segments of program memory
 abbrev pub units_of : List ModuleParts → List JoinedSegment
-units_of modules = filter (λ j. same_kind j.kind Code) (segments_of modules)
+units_of modules = filter (λ j. is_code j.kind) (segments_of modules)
 
 -- there are more than so many
 abbrev pub more_than : ℕ → Quantity → ℕ → Option Refusal
@@ -103,8 +88,8 @@ first_of [] = None
 first_of (rule ∷ more) = option_or rule (first_of more)
 
 -- The rules in their order.
-abbrev pub refusal_of : List ModuleParts → Option Refusal
-refusal_of modules = first_of (
+abbrev pub first_refusal : List ModuleParts → Option Refusal
+first_refusal modules = first_of (
     more_than 255 Modules (length modules)
     ∷ option_map L1 (shared_public modules)
     ∷ option_map L2 (undefined_external modules)
@@ -120,9 +105,13 @@ abbrev pub unless_refused : List ModuleParts → Option Refusal → Result (List
 unless_refused modules None = Ok modules
 unless_refused modules (Some refusal) = Err refusal
 
--- What resolving answers: the chosen modules, or the refusal of the first rule that fails.
+-- what is answered where these modules are chosen: them, or the refusal of the first rule that fails
+abbrev pub answer_of : List ModuleParts → Result (List ModuleParts) Refusal
+answer_of chosen = unless_refused chosen (first_refusal chosen)
+
+-- What resolving answers.
 abbrev pub resolved_of : List ModuleParts → List (List ModuleParts) → Result (List ModuleParts) Refusal
-resolved_of given libraries = let chosen = chosen_of given (members_of libraries) in unless_refused chosen (refusal_of chosen)
+resolved_of given libraries = answer_of (chosen_of given (members_of libraries))
 
 -- an error as the refusal that it is, or none for want of memory
 abbrev pub but_memory : Refusal → Option Refusal

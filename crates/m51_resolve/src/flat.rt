@@ -1,5 +1,6 @@
 //! The segments and the externals of all modules in one list, and where those of each module begin.
-ghost use Rattle.std.specs.Prelude.{◌≡◌, ◌*◌, ◌≤◌, IfOk, length};
+ghost use Rattle.std.specs.Prelude.{◌≡◌, ◌*◌, ◌≤◌, All, IfOk, OnOk, length};
+ghost use Rattle.m51_module.specs.Validity.{IsValid};
 ghost use Rattle.m51_resolve.specs.Joining.{all_segments};
 ghost use Rattle.m51_resolve.specs.Kept.{AreStarts};
 ghost use Rattle.m51_resolve.specs.Publics.{all_externals};
@@ -8,22 +9,19 @@ use m51_cells::NoMemory;
 use m51_module::{External, Module, Segment};
 use std::alloc::Global;
 
-/// The items of all modules in module order, and for each module how many the modules before it have.
-///
-/// Source: own choice ("Joined segments").
+// The items of all modules in module order, and for each module how many the modules before it have.
 #[derive(Drop)]
 pub(crate) struct Flat<T> {
     pub items: Vec<T>,
     pub starts: Vec<usize>,
 }
 
-/// The segments of the modules: at most 254 of each.
-///
-/// Source: own choice ("Joined segments").
+// The segments of the modules: at most 254 of each.
 pub(crate) fn all_segments(alloc: Global, modules: &[Module]) -> Result<Flat<Segment>, NoMemory>
     ensures all { IfOk result (λ all. all.items.items ≡ all_segments modules.now) }
     ensures starts { IfOk result (λ all. AreStarts (λ m. m.segments) modules.now all.starts.items) }
     ensures few { IfOk result (λ all. length all.items.items ≤ 254 * length modules.now) }
+    ensures valid { OnOk result (All IsValid modules.now) }
 {
     let mut items = Vec::new(alloc);
     let mut starts = Vec::new(alloc);
@@ -34,9 +32,7 @@ pub(crate) fn all_segments(alloc: Global, modules: &[Module]) -> Result<Flat<Seg
     Ok(Flat { items, starts })
 }
 
-/// The externals of the modules.
-///
-/// Source: own choice ("Joined segments").
+// The externals of the modules.
 pub(crate) fn all_externals(alloc: Global, modules: &[Module]) -> Result<Flat<External>, NoMemory>
     ensures all { IfOk result (λ all. all.items.items ≡ all_externals modules.now) }
     ensures starts { IfOk result (λ all. AreStarts (λ m. m.externals) modules.now all.starts.items) }

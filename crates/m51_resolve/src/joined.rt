@@ -1,5 +1,6 @@
 //! Modules that are chosen and joined.
-ghost use Rattle.std.specs.Prelude.{◌≡◌, IsSome};
+ghost use Rattle.std.specs.Prelude.{◌≡◌, All, IsSome};
+ghost use Rattle.m51_module.specs.Validity.{IsValid};
 ghost use Rattle.m51_resolve.specs.Joining.{segments_of, segment_at, part_of};
 ghost use Rattle.m51_resolve.specs.Publics.{external_at, public_of};
 ghost use Rattle.m51_resolve.specs.Rules.{AreResolved};
@@ -33,7 +34,8 @@ impl Model for Joined {
 
     ghost view = { λ j. j.modules.items };
 
-    ghost invariant = { λ j. AreKept j.modules.items j.segments.items j.segment_starts.items j.parts.items j.external_starts.items j.publics.items };
+    ghost invariant = { λ j. AreKept j.modules.items j.segments.items j.segment_starts.items j.parts.items
+        j.external_starts.items j.publics.items };
 }
 
 impl Joined {
@@ -42,13 +44,14 @@ impl Joined {
     /// Source: RL51 guide.
     pub fn modules(&self) -> &[Module]
         ensures list { result.now ≡ self.now }
+        ensures valid { All IsValid self.now }
         ensures resolved { AreResolved self.now }
     {
         &self.modules
     }
 
-    /// The joined segments, in order of first sight over modules and their segments: at most 2,000, of which at most 1,000
-    /// are of program memory.
+    /// The joined segments, in order of first sight over modules and their segments: at most 2,000, of which at most
+    /// 1,000 are of program memory.
     ///
     /// Source: RL51 guide.
     pub fn segments(&self) -> &[JoinedSegment]
@@ -71,8 +74,8 @@ impl Joined {
         (part.number as u16, part.offset as u16)
     }
 
-    /// The public that resolves an external: its module, from 0, and its place among the publics there, from 0. The module
-    /// of the external is counted from 0, the external from 1, and both are there.
+    /// The public that resolves an external: its module, from 0, and its index among the publics there, from 0. The
+    /// module of the external is counted from 0, the external from 1, and both are there.
     ///
     /// Source: RL51 guide.
     pub fn public_of(&self, module: u8, external: u8) -> (u8, usize)
@@ -81,6 +84,6 @@ impl Joined {
     {
         let start = self.external_starts[usize::from(module)];
         let found = &self.publics[start + usize::from(external) - 1];
-        (found.number as u8, found.place)
+        (found.number as u8, found.index)
     }
 }

@@ -1,77 +1,67 @@
 //! Joins segments.
 ghost use Rattle.std.specs.Prelude.{◌≡◌, ℕ, ◌+◌, ◌^◌, ◌<◌, ◌≤◌, [], ◌∷◌, ◌++◌, None, All, length, IfOk, IfSome, OnOk};
-ghost use Rattle.m51_resolve.specs.Growth.{all_growing, begun, grown, joined_with, numbers_from, Joins};
-ghost use Rattle.m51_resolve.specs.Joining.{is_relocatable, are_parts, start_behind, all_segments};
-ghost use Rattle.m51_resolve.specs.Kept.{parts_behind};
-ghost use Rattle.m51_resolve.specs.Rules.{same_reloc, parts_agree};
+ghost use Rattle.m51_resolve.specs.WorkJoining.{all_growing, begun, grown, joined_with, numbers_from, Joins};
+ghost use Rattle.m51_resolve.specs.Joining.{is_relocatable, are_parts, start_after, all_segments};
+ghost use Rattle.m51_resolve.specs.Kept.{parts_after};
+ghost use Rattle.m51_resolve.specs.Rules.{parts_agree, same_marks};
 
-use crate::numbers::Numbers;
-use crate::publics::same_kind;
-use m51_cells::{NoMemory, Reloc};
+use indexmap::IndexMap;
+use m51_cells::{Name, NoMemory, Reloc, is_absolute, same_kind, same_reloc};
 use m51_module::Segment;
 use std::alloc::Global;
 
-/// The part of a joined segment that a segment is.
-///
-/// Source: own choice ("Joined segments").
+// The part of a joined segment that a segment is.
 #[derive(Clone, Copy)]
 pub(crate) struct Part {
-    /// The joined segment, counted from 0.
+    // The joined segment, counted from 0.
     pub number: usize,
-    /// Where the part begins in it, in bytes, for BIT in bits.
+    // Where the part begins in it, in bytes, for BIT in bits.
     pub offset: usize,
 }
 
-/// A joined segment while its parts are joined.
-///
-/// Source: own choice ("Joined segments").
+// A joined segment while its parts are joined.
 #[derive(Clone, Copy)]
 pub(crate) struct Growing {
-    /// The part that is seen first.
+    // The part that is seen first.
     pub first: Segment,
-    /// The end of the last part, in bytes, for BIT in bits.
+    // The end of the last part, in bytes, for BIT in bits.
     pub end: usize,
-    /// The parts differ in kind, type or OVERLAYABLE.
+    // The parts differ in kind, type, OVERLAYABLE or ARGUMENT.
     pub mixed: bool,
 }
 
-/// Whether the type is not that of absolute segments.
-///
-/// Source: RL51 guide.
+// Whether the type is not that of absolute segments.
 pub(crate) fn is_relocatable(reloc: Reloc) -> bool
     ensures { result ≡ is_relocatable reloc }
 {
-    match reloc {
-        Reloc::Abs => false,
-        _ => true,
-    }
+    !is_absolute(reloc)
 }
 
 // Whether the segments are parts of one: both are relocatable, and they have one name.
 fn are_parts(one: &Segment, two: &Segment) -> bool
     ensures { result ≡ are_parts one.now two.now }
 {
-    is_relocatable(one.reloc) && is_relocatable(two.reloc) && one.name.bytes() == two.name.bytes()
+    is_relocatable(one.reloc) && is_relocatable(two.reloc) && one.name == two.name
 }
 
-// Whether the types are the same.
-fn same_reloc(one: Reloc, two: Reloc) -> bool
-    ensures { result ≡ same_reloc one two }
+// Whether two segments have the same marks.
+fn same_marks(one: &Segment, two: &Segment) -> bool
+    ensures { result ≡ same_marks one.now two.now }
 {
-    one == two
+    one.overlay == two.overlay && one.argument == two.argument
 }
 
-// Whether two parts agree in kind, type and OVERLAYABLE.
+// Whether two parts agree in kind, type, OVERLAYABLE and ARGUMENT.
 fn parts_agree(one: &Segment, two: &Segment) -> bool
     ensures { result ≡ parts_agree one.now two.now }
 {
-    same_kind(one.kind, two.kind) && same_reloc(one.reloc, two.reloc) && one.overlay == two.overlay
+    same_kind(one.kind, two.kind) && same_reloc(one.reloc, two.reloc) && same_marks(one, two)
 }
 
-// Where a part begins behind that end.
-fn start_behind(reloc: Reloc, end: usize) -> usize
+// Where a part begins after that end.
+fn start_after(reloc: Reloc, end: usize) -> usize
     requires { end < 2 ^ 40 }
-    ensures start { result ≡ start_behind reloc end }
+    ensures start { result ≡ start_after reloc end }
     ensures near { result ≤ end + 255 }
 {
     match reloc {
@@ -87,7 +77,7 @@ fn grown(growing: &Growing, segment: &Segment) -> Growing
     ensures near { result.end ≤ growing.now.end + 65790 }
 {
     let first = growing.first;
-    let end = start_behind(segment.reloc, growing.end) + usize::from(segment.size);
+    let end = start_after(segment.reloc, growing.end) + usize::from(segment.size);
     let mixed = growing.mixed || !parts_agree(&first, segment);
     Growing { first, end, mixed }
 }
@@ -105,13 +95,17 @@ fn begun(segment: &Segment) -> Growing
 }
 
 // The number of the joined segment that a segment is a part of.
-fn joined_with(growing: &[Growing], numbers: &Numbers, segment: &Segment) -> Option<usize>
-    requires { numbers.now ≡ numbers_from 0 growing.now }
-    ensures place { result ≡ joined_with growing.now segment.now }
+fn joined_with(
+    growing: &[Growing],
+    numbers: &IndexMap<Name, usize>,
+    segment: &Segment,
+) -> Option<usize>
+    requires { numbers.now.entries ≡ numbers_from 0 growing.now }
+    ensures index { result ≡ joined_with growing.now segment.now }
     ensures within { IfSome result (λ number. number < length growing.now) }
 {
     if is_relocatable(segment.reloc) {
-        numbers.of(&segment.name)
+        numbers.get(&segment.name).copied()
     } else {
         None
     }
@@ -119,65 +113,63 @@ fn joined_with(growing: &[Growing], numbers: &Numbers, segment: &Segment) -> Opt
 
 // Gives the next number to the name of a segment that is seen first, where it has one.
 fn number_next(
-    alloc: Global,
-    numbers: &mut Numbers,
+    numbers: &mut IndexMap<Name, usize>,
     growing: &[Growing],
     segment: &Segment,
 ) -> Result<(), NoMemory>
-    requires numbers { numbers.old ≡ numbers_from 0 growing.now }
+    requires numbers { numbers.old.entries ≡ numbers_from 0 growing.now }
     requires unseen { joined_with growing.now segment.now ≡ None }
-    ensures { OnOk result (numbers.new ≡ numbers_from 0 (growing.now ++ begun segment.now ∷ [])) }
+    ensures { OnOk result (numbers.new.entries ≡ numbers_from 0 (growing.now ++ begun segment.now ∷ [])) }
 {
     if is_relocatable(segment.reloc) {
-        numbers.note(alloc, &segment.name, growing.len())?;
+        numbers.insert(segment.name, growing.len())?;
     }
     Ok(())
 }
 
 // Joins one segment more, and answers the part that it is.
 fn join(
-    alloc: Global,
     growing: &mut Vec<Growing>,
-    numbers: &mut Numbers,
+    numbers: &mut IndexMap<Name, usize>,
     segment: &Segment,
 ) -> Result<Part, NoMemory>
     requires ends { All (λ g. g.end < 2 ^ 40) growing.old.items }
-    requires numbers { numbers.old ≡ numbers_from 0 growing.old.items }
+    requires numbers { numbers.old.entries ≡ numbers_from 0 growing.old.items }
     ensures joins { IfOk result (λ part. Joins growing.old.items segment.now part growing.new.items) }
-    ensures grows { (most : ℕ) → All (λ g. g.end ≤ most) growing.old.items → IfOk result (λ _. All (λ g. g.end ≤ most + 65790) growing.new.items) }
-    ensures numbers { OnOk result (numbers.new ≡ numbers_from 0 growing.new.items) }
+    ensures grows { (most : ℕ) → All (λ g. g.end ≤ most) growing.old.items
+        → IfOk result (λ _. All (λ g. g.end ≤ most + 65790) growing.new.items) }
+    ensures numbers { OnOk result (numbers.new.entries ≡ numbers_from 0 growing.new.items) }
 {
     match joined_with(growing, numbers, segment) {
         Some(number) => {
             let joined = &mut growing[number];
-            let offset = start_behind(segment.reloc, joined.end);
+            let offset = start_after(segment.reloc, joined.end);
             *joined = grown(joined, segment);
             Ok(Part { number, offset })
         }
         None => {
             let number = growing.len();
-            number_next(alloc, numbers, growing, segment)?;
+            number_next(numbers, growing, segment)?;
             growing.push(begun(segment))?;
             Ok(Part { number, offset: 0 })
         }
     }
 }
 
-/// Joins all of these segments: the joined segments, and for each segment the part that it is.
-///
-/// Source: RL51 guide.
+// Joins all of these segments: the joined segments, and for each segment the part that it is.
 pub(crate) fn join_all(
     alloc: Global,
     segments: &[Segment],
 ) -> Result<(Vec<Growing>, Vec<Part>), NoMemory>
     requires { length segments.now ≤ 2 ^ 20 }
-    ensures { IfOk result (λ joined. (joined.0.items ≡ all_growing segments.now) × (joined.1.items ≡ parts_behind [] segments.now)) }
+    ensures { let all = all_growing segments.now in
+        IfOk result (λ joined. (joined.0.items ≡ all) × (joined.1.items ≡ parts_after [] segments.now)) }
 {
     let mut growing = Vec::new(alloc);
     let mut parts = Vec::new(alloc);
-    let mut numbers = Numbers::new(alloc);
+    let mut numbers = IndexMap::new(alloc);
     for segment in segments {
-        parts.push(join(alloc, &mut growing, &mut numbers, segment)?)?;
+        parts.push(join(&mut growing, &mut numbers, segment)?)?;
     }
     Ok((growing, parts))
 }

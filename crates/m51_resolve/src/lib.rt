@@ -2,11 +2,12 @@
 #![tactic(auto)]
 
 mod choosing;
+mod chosen;
+mod definitions;
 mod flat;
 mod joined;
 mod joining;
 mod laws;
-mod numbers;
 mod publics;
 mod resolving;
 mod rules;

@@ -1,44 +1,50 @@
 //! Resolves the modules of a link.
 ghost use Rattle.std.specs.Prelude.{◌≡◌, false, map, IfOk, All};
 ghost use Rattle.m51_cells.specs.Outcome.{Gives};
-ghost use Rattle.m51_resolve.specs.Growth.{all_growing, is_large, joined_as, Tells, rules_of_publics, rules_of_externals, rules_of_counts, rules_of_growing};
-ghost use Rattle.m51_resolve.specs.Rules.{but_memory, unless_refused, refusal_of, resolved_of};
+ghost use Rattle.m51_resolve.specs.Rules.{answer_of, but_memory, resolved_of};
+ghost use Rattle.m51_resolve.specs.WorkJoining.{is_large, joined_as};
+ghost use Rattle.m51_resolve.specs.WorkNames.{definition_in, AreDefinitions};
+ghost use Rattle.m51_resolve.specs.WorkRules.{rules_of_counts, rules_of_externals, rules_of_growing};
+ghost use Rattle.m51_resolve.specs.WorkRules.{rules_of_publics, Tells};
 
 use crate::choosing::choose;
+use crate::chosen::Chosen;
+use crate::definitions::Definitions;
 use crate::flat::{all_externals, all_segments};
 use crate::joining::{Growing, join_all};
 use crate::publics::resolving_all;
 use crate::rules::{
-    MOST_MODULES, MOST_SEGMENTS, MOST_UNITS, contrary_external, large_segment, mixed_segment,
-    shared_public, title_of, undefined_external, unit_count,
+    contrary_external, large_segment, mixed_segment, shared_public, title_of, undefined_external,
+    unit_count,
 };
 use crate::{Joined, JoinedSegment};
-use m51_cells::NoMemory;
+use m51_cells::{MOST_MODULES, MOST_SEGMENTS, MOST_UNITS, NoMemory};
 use m51_module::{External, Library, Module, Quantity, Refusal};
 use std::alloc::Global;
 
 // Limit of modules, and L1.
-fn check_publics(modules: &[Module]) -> Result<(), Refusal>
+fn check_publics(definitions: &Definitions, modules: &[Module]) -> Result<(), Refusal>
+    requires { AreDefinitions modules.now definitions.now.entries }
     ensures { Tells (rules_of_publics modules.now) result }
 {
     if modules.len() > MOST_MODULES {
         let what = Quantity::Modules;
         return Err(Refusal::Limit { what });
     }
-    match shared_public(modules) {
+    match shared_public(definitions, modules) {
         Some(name) => Err(Refusal::L1 { name }),
         None => Ok(()),
     }
 }
 
 // L2 and L3.
-fn check_externals(modules: &[Module], externals: &[External]) -> Result<(), Refusal>
-    ensures { Tells (rules_of_externals modules.now externals.now) result }
+fn check_externals(definitions: &Definitions, externals: &[External]) -> Result<(), Refusal>
+    ensures { Tells (rules_of_externals (definition_in definitions.now.entries) externals.now) result }
 {
-    if let Some(name) = undefined_external(modules, externals) {
+    if let Some(name) = undefined_external(definitions, externals) {
         return Err(Refusal::L2 { name });
     }
-    match contrary_external(modules, externals) {
+    match contrary_external(definitions, externals) {
         Some(name) => Err(Refusal::L3 { name }),
         None => Ok(()),
     }
@@ -84,6 +90,7 @@ fn joined_as(joined: &Growing) -> JoinedSegment
         kind: first.kind,
         reloc: first.reloc,
         overlay: first.overlay,
+        argument: first.argument,
         base: first.base,
         size: joined.end as u16,
     }
@@ -102,17 +109,22 @@ fn segments_of(alloc: Global, growing: &[Growing]) -> Result<Vec<JoinedSegment>,
 }
 
 // Resolves the externals of the chosen modules and joins their segments.
-fn join_chosen(alloc: Global, modules: Vec<Module>) -> Result<Joined, Refusal>
-    ensures { Gives (λ joined. joined) but_memory result (unless_refused modules.items (refusal_of modules.items)) }
+fn join_chosen(
+    alloc: Global,
+    modules: Vec<Module>,
+    definitions: &Definitions,
+) -> Result<Joined, Refusal>
+    requires { AreDefinitions modules.items definitions.now.entries }
+    ensures { Gives (λ joined. joined) but_memory result (answer_of modules.items) }
 {
-    check_publics(&modules)?;
+    check_publics(definitions, &modules)?;
     let externals = all_externals(alloc, &modules)?;
-    check_externals(&modules, &externals.items)?;
+    check_externals(definitions, &externals.items)?;
     let segments = all_segments(alloc, &modules)?;
     let (growing, parts) = join_all(alloc, &segments.items)?;
     check_segments(&growing)?;
     let joined = segments_of(alloc, &growing)?;
-    let publics = resolving_all(alloc, &modules, &externals.items)?;
+    let publics = resolving_all(alloc, definitions, &externals.items)?;
     Ok(Joined {
         modules,
         segments: joined,
@@ -125,15 +137,15 @@ fn join_chosen(alloc: Global, modules: Vec<Module>) -> Result<Joined, Refusal>
 
 /// Chooses the modules of a link, resolves their externals and joins their segments.
 ///
-/// The given modules are chosen, and then the members of libraries that they want: each the first, in order of library and
-/// member, that is not chosen and has a public which a chosen module wants and none defines, until there is none.
+/// The given modules are chosen, and then the members of libraries that they want: each the first, in order of library
+/// and member, that is not chosen and has a public which a chosen module wants and none defines, until there is none.
 ///
-/// The first rule that fails is the refusal, in this order: `Limit` where there are more than 255 modules; `L1`, the first
-/// public that another module defines too; `L2`, the first external that no module defines; `L3`, the first external whose
-/// kind does not agree with that of its public; `L4`, the first joined segment whose parts differ in kind, type or
-/// OVERLAYABLE; `Limit` where there are more than 2,000 joined segments, and where there are more than 1,000 units; `L5`,
-/// the first joined segment that is too large. Externals and publics come by module and place. Want of memory is the one
-/// other error.
+/// The first rule that fails is the refusal, in this order: `Limit` where there are more than 255 modules; `L1`, the
+/// first public that another module defines too; `L2`, the first external that no module defines; `L3`, the first
+/// external whose kind does not agree with that of its public; `L4`, the first joined segment whose parts differ in
+/// kind, type, OVERLAYABLE or ARGUMENT; `Limit` where there are more than 2,000 joined segments, and where there are
+/// more than 1,000 units; `L5`, the first joined segment that is too large. Publics and externals come in order of
+/// their modules, and in a module as they stand there. `Memory` is the one other error.
 ///
 /// Source: RL51 guide.
 pub fn resolve(
@@ -143,6 +155,10 @@ pub fn resolve(
 ) -> Result<Joined, Refusal>
     ensures { Gives (λ joined. joined) but_memory result (resolved_of modules.items libraries.now) }
 {
-    let chosen = choose(alloc, modules, libraries)?;
-    join_chosen(alloc, chosen)
+    let Chosen {
+        modules,
+        definitions,
+        wanted: _,
+    } = choose(alloc, modules, libraries)?;
+    join_chosen(alloc, modules, &definitions)
 }

@@ -1,8 +1,8 @@
-//! Modules for the tests: each has one segment of external memory, one public and one external.
-ghost use Rattle.std.specs.Prelude.{◌≡◌, true, map};
-ghost use Rattle.std.specs.Char.{to_ascii_uppercase};
-ghost use Rattle.m51_cells.specs.Fits.{allows};
-ghost use Rattle.m51_cells.specs.Name.{is_name, IsWritten};
+//! Modules for the tests: each has one segment, one public and one external.
+ghost use Rattle.std.specs.Prelude.{◌≡◌, true};
+ghost use Rattle.m51_cells.specs.Kinds.{allows};
+ghost use Rattle.m51_cells.specs.Name.{IsWritten};
+ghost use Rattle.m51_module.specs.Arguments.{is_argument_name};
 ghost use Rattle.m51_module.specs.Validity.{IsSegmentValid};
 ghost use Rattle.m51_resolve.specs.Joining.{is_relocatable};
 
@@ -10,18 +10,7 @@ use m51_cells::{Base, Kind, ListOf, Name, NoMemory, Reloc};
 use m51_module::{External, Module, ModuleParts, Public, Segment};
 use std::alloc::Global;
 
-/// The name that the text writes.
-pub(crate) fn name(text: &[u8]) -> Name
-    requires { is_name text.now ≡ true }
-    ensures { result ≡ map to_ascii_uppercase text.now }
-{
-    match Name::of(text) {
-        Some(name) => name,
-        None => unreachable!(),
-    }
-}
-
-/// A segment of external memory.
+// A segment of external memory.
 pub(crate) fn segment(name: Name, reloc: Reloc, size: u16) -> Segment
     requires name { IsWritten name }
     requires relocatable { is_relocatable reloc ≡ true }
@@ -33,12 +22,30 @@ pub(crate) fn segment(name: Name, reloc: Reloc, size: u16) -> Segment
         kind: Kind::Xdata,
         reloc,
         overlay: false,
+        argument: false,
         base: 0,
         size,
     }
 }
 
-/// The external of a name.
+// An OVERLAYABLE byte of DATA, with the argument mark or without.
+pub(crate) fn local(name: Name, argument: bool) -> Segment
+    requires name { IsWritten name }
+    requires mark { argument ≡ true → is_argument_name name ≡ true }
+    ensures { IsSegmentValid result }
+{
+    Segment {
+        name,
+        kind: Kind::Direct,
+        reloc: Reloc::Unit,
+        overlay: true,
+        argument,
+        base: 0,
+        size: 1,
+    }
+}
+
+// The external of a name.
 pub(crate) fn external(name: Name, kind: Kind) -> External
     requires { IsWritten name }
     ensures { IsWritten result.name }
@@ -46,7 +53,7 @@ pub(crate) fn external(name: Name, kind: Kind) -> External
     External { name, kind }
 }
 
-/// A module with that segment, a public of kind CODE and that external.
+// A module of version 2 with that segment, a public of kind CODE and that external.
 pub(crate) fn module(
     alloc: Global,
     name: Name,
@@ -70,6 +77,7 @@ pub(crate) fn module(
     let externals = ListOf::of(vec![in alloc; external]?);
     Ok(Module::make(ModuleParts {
         name,
+        version: 2,
         segments,
         publics,
         externals,

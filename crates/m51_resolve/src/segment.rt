@@ -12,6 +12,8 @@ pub struct JoinedSegment {
     pub reloc: Reloc,
     /// OVERLAYABLE: the segment holds locals of a unit.
     pub overlay: bool,
+    /// ARGUMENT: the segment holds the arguments of a unit, which its callers fill.
+    pub argument: bool,
     /// The base of an absolute segment, in bytes, for BIT in bits; 0 else.
     pub base: u16,
     /// The end of the last part, in bytes, for BIT in bits.

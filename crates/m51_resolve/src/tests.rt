@@ -1,13 +1,15 @@
 //! What no clause says: that the calls give their answers where memory is there.
 ghost use Rattle.std.specs.Prelude.{◌≡◌, true};
-ghost use Rattle.m51_cells.specs.Fits.{allows};
+ghost use Rattle.m51_cells.specs.Kinds.{allows};
 ghost use Rattle.m51_cells.specs.Name.{IsWritten};
+ghost use Rattle.m51_module.specs.Validity.{IsSegmentValid};
 ghost use Rattle.m51_resolve.specs.Joining.{is_relocatable};
 
-use crate::sample::{external, module, name, segment};
+use crate::sample::{external, local, module, segment};
 use crate::{Joined, resolve};
 use m51_cells::{Kind, Name, NoMemory, Reloc};
-use m51_module::{Library, Module, Refusal, build};
+use m51_module::sample::name;
+use m51_module::{Library, Module, Refusal, Segment, build};
 use std::alloc::{AllocError, Global};
 use std::test::Fail;
 
@@ -80,6 +82,26 @@ fn size_of(answer: &Result<Joined, Refusal>) -> u16 {
 // The size of the first joined segment of these modules.
 fn first_size(alloc: Global, modules: Vec<Module>) -> u16 {
     size_of(&resolve(alloc, modules, &[]))
+}
+
+// The marks OVERLAYABLE and ARGUMENT of the first joined segment; false where there is none.
+fn marks_of(answer: &Result<Joined, Refusal>) -> (bool, bool) {
+    match answer {
+        Ok(joined) => joined
+            .segments()
+            .first()
+            .map_or((false, false), |first| (first.overlay, first.argument)),
+        Err(_) => (false, false),
+    }
+}
+
+// Those of a module A with this segment.
+fn marks(alloc: Global, part: Segment) -> Result<(bool, bool), NoMemory>
+    requires { IsSegmentValid part }
+{
+    let own = name(b"A");
+    let one = module(alloc, own, part, own, external(own, Kind::Code))?;
+    Ok(marks_of(&resolve(alloc, alone(alloc, one)?, &[])))
 }
 
 // The names of the chosen modules, one after another.
@@ -193,5 +215,16 @@ fn parts_of_two_types_are_refused(rt: HostRuntime) -> Result<(), Fail> {
         refused(rt.alloc(), both(rt.alloc(), one, two)?),
         (4, name(b"BUF"))
     );
+    Ok(())
+}
+
+#[test]
+fn the_marks_of_a_joined_segment_are_those_of_its_parts(rt: HostRuntime) -> Result<(), Fail> {
+    let plain = marks(rt.alloc(), segment(name(b"A"), Reloc::Unit, 1))?;
+    assert_eq!(rt; plain, (false, false));
+    let overlaid = marks(rt.alloc(), local(name(b"?DT?A"), false))?;
+    assert_eq!(rt; overlaid, (true, false));
+    let argument = marks(rt.alloc(), local(name(b"?AG?A"), true))?;
+    assert_eq!(rt; argument, (true, true));
     Ok(())
 }

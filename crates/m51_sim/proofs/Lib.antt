@@ -7,3 +7,4 @@ pub mod Parting
 pub mod Keeping
 pub mod SampleLayout
 pub mod UnitTests
+pub mod Tellings

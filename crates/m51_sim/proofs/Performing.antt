@@ -12,7 +12,7 @@ use Rattle.m51_flat.specs.Meaning.{plan_of}
 use Rattle.m51_flat.specs.Causes.{unless_down}
 use Rattle.m51_sim.specs.Runs.{State}
 use Rattle.m51_sim.specs.Effects.{cycles_on, effected}
-use Rattle.m51_sim.specs.FlatMachine.{instr_effect, map_after, outer, unless_powers_down}
+use Rattle.m51_sim.specs.FlatMachine.{instr_effect, map_after, unless_powers_down}
 use Rattle.m51_sim.specs.Boards.{ChipState, flat_of, map_of}
 
 is_done : (down : Bool) (cpu : Cpu) (e f : Effect) → Done f ≡ cond down PowerDown (Done e) → Ok f ≡ cond down (Err (DownEvent cpu.pc)) (Ok e)
@@ -23,19 +23,19 @@ is_down : (down : Bool) (cpu : Cpu) (e : Effect) → PowerDown ≡ cond down Pow
 is_down true cpu e h = refl
 is_down false cpu e h = cc h
 
-module _ (cpu : Cpu) (m : CellMap) (instr : Instr) (image bytes : List ℕ) (pins : Pins) (same : bytes ≡ image) (high : pins ≡ outer) where
+module _ (cpu : Cpu) (m : CellMap) (instr : Instr) (image bytes : List ℕ) (pins : Pins) (levels : Pins) (same : bytes ≡ image) (high : pins ≡ levels) where
   -- the effect over the bytes that were lent
   abbrev lent : Effect
   lent = result_over m (plan_of cpu instr bytes pins)
 
-  same_effect : unless_powers_down cpu lent ≡ instr_effect image cpu m instr
+  same_effect : unless_powers_down cpu lent ≡ instr_effect image cpu m levels instr
   unfolding instr_effect
   same_effect = ap (λ b. unless_powers_down cpu (result_over m (plan_of cpu instr b pins))) same ∙ ap (λ p. unless_powers_down cpu (result_over m (plan_of cpu instr image p))) high
 
-  pub effect_done : (f : Effect) → Done f ≡ unless_down lent → Ok f ≡ instr_effect image cpu m instr
+  pub effect_done : (f : Effect) → Done f ≡ unless_down lent → Ok f ≡ instr_effect image cpu m levels instr
   effect_done f h = is_done (flag lent.cpu pcon 1) cpu lent f h ∙ same_effect
 
-  pub effect_down : PowerDown ≡ unless_down lent → Err (DownEvent cpu.pc) ≡ instr_effect image cpu m instr
+  pub effect_down : PowerDown ≡ unless_down lent → Err (DownEvent cpu.pc) ≡ instr_effect image cpu m levels instr
   effect_down h = is_down (flag lent.cpu pcon 1) cpu lent h ∙ same_effect
 
 -- a processor, a cycle number and a map

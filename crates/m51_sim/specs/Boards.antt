@@ -22,6 +22,11 @@ pub record BoardState : Type 0 where
   pub layout : LayoutParts
   pub chip : ChipState
 
+-- what a step leaves as it is
+pub record Loaded : Type 0 where
+  pub layout : LayoutParts
+  pub image : List ℕ
+
 -- what a cell holds; 0 where it holds nothing
 abbrev pub value_of : CellState → ℕ
 value_of (Holds v) = v

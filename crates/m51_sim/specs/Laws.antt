@@ -26,12 +26,13 @@ IsKeptByFlat =
 
 -- after a reset the stores give the flat machine's map
 abbrev pub StartsAgree : Type 0
-StartsAgree = (layout : LayoutParts) → joined layout separate_start ≡ flat_start
+StartsAgree = (layout : LayoutParts) (fill : ℕ) → joined layout (separate_start layout fill) ≡ flat_start fill
 
 -- a unit of the layout covers the address; and one unit covers both addresses
 pub record HasItsUnits (layout : LayoutParts) (pc address : ℕ) : Type 0 where
   pub covered : (has_unit layout address ≡ true) ↔ ((unit : ℕ) × IsUnitAt layout address unit)
-  pub inside : (in_unit_of layout pc address ≡ true) ↔ ((unit : ℕ) × IsUnitAt layout pc unit × IsUnitAt layout address unit)
+  pub inside : (in_unit_of layout pc address ≡ true)
+      ↔ ((unit : ℕ) × IsUnitAt layout pc unit × IsUnitAt layout address unit)
 
 -- what the machine tests is what the layout's units cover
 abbrev pub UnitsAreTheLayouts : Type 0

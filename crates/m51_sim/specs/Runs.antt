@@ -3,6 +3,7 @@ use Rattle.std.specs.Prelude.{ℕ, zero, suc, List, [], ◌++◌, Option, None, 
 use Rattle.m51_cells.specs.declared.event.Event.{Event}
 use Rattle.m51_cells.specs.declared.event.Entry.{Entry}
 use Rattle.m51_flat.specs.declared.state.Cpu.{Cpu}
+use Rattle.m51_sim.specs.declared.runs.Told.{Told}
 
 -- the processor, the number of the machine cycle, and a memory
 pub record State (M : Type 0) : Type 0 where
@@ -10,10 +11,14 @@ pub record State (M : Type 0) : Type 0 where
   pub cycle : ℕ
   pub memory : M
 
--- a step that is performed: the state after it, and its entry if it wrote the latch of a port
+-- a step that is performed: the state after it, and the entries that it tells
 pub record Performed (M : Type 0) : Type 0 where
   pub state : State M
-  pub entry : Option Entry
+  pub told : Told
+
+-- the entries that a step tells, that of a port first
+abbrev pub entries_of : Told → List Entry
+entries_of told = option_to_list told.port ++ option_to_list told.sent
 
 -- a machine: the step from each state, which is performed, or stopped by an event
 abbrev pub Machine : Type 0 → Type 0
@@ -31,12 +36,17 @@ abbrev pub no_step : {M : Type 0} → Option Event → State M → Record M
 no_step event s = record { entries = []; event = event; steps = 0; last = s }
 
 -- a step that is performed, and then a run
-abbrev pub with_step : {M : Type 0} → Option Entry → Record M → Record M
-with_step entry r = record { entries = option_to_list entry ++ r.entries; event = r.event; steps = suc r.steps; last = r.last }
+abbrev pub with_step : {M : Type 0} → Told → Record M → Record M
+with_step told r = record {
+  entries = entries_of told ++ r.entries;
+  event = r.event;
+  steps = suc r.steps;
+  last = r.last;
+}
 
 -- the run goes on after a step that is performed, and ends before one that is stopped
 abbrev pub record_from : {M : Type 0} → State M → (State M → Record M) → Result (Performed M) Event → Record M
-record_from s rest (Ok done) = with_step done.entry (rest done.state)
+record_from s rest (Ok done) = with_step done.told (rest done.state)
 record_from s rest (Err event) = no_step (Some event) s
 
 -- the record of at most so many steps

@@ -1,7 +1,8 @@
--- The separate machine: each plain or absolute segment of data memory has a store of its own, and all other cells are of
--- a common one. Its program stays inside its units. A machine cycle adds 1 to the cycle number and changes nothing else,
--- and no interrupt is taken.
-use Rattle.std.specs.Prelude.{ℕ, zero, suc, ◌+◌, ◌%◌, Bool, true, false, ◌&&◌, ◌==◌, nat_le, nat_lt, if◌then◌else◌, List, [], ◌∷◌, Option, Some, None, Result, Ok, Err}
+-- The separate machine: each plain or absolute segment of data memory has a store of its own, and all other cells are
+-- of a common one. Its program stays inside its units. A machine cycle adds 1 to the cycle number and changes nothing
+-- else, and no interrupt is taken.
+use Rattle.std.specs.Prelude.{ℕ, zero, suc, ◌+◌, ◌%◌, Bool, true, false, ◌&&◌, ◌==◌, nat_le, nat_lt, if◌then◌else◌}
+use Rattle.std.specs.Prelude.{List, [], ◌∷◌, Option, Some, None, Result, Ok, Err}
 use Rattle.std.specs.List.{list_any}
 use Rattle.m51_cells.specs.declared.cell.Cell.{Cell}
 use Rattle.m51_cells.specs.declared.cell.Space.{Space}
@@ -20,17 +21,19 @@ use Rattle.m51_module.specs.declared.placed.Mark.TheVariants.{Bank, Reserve, Abs
 use Rattle.m51_module.specs.declared.placed.Placed.{Placed}
 use Rattle.m51_module.specs.Cells.{extent_at}
 use Rattle.m51_flat.specs.declared.state.Cpu.{Cpu}
+use Rattle.m51_flat.specs.declared.state.Pins.{Pins}
 use Rattle.m51_flat.specs.declared.state.Put.{Put}
 use Rattle.m51_flat.specs.declared.state.Transfer.{Transfer}
 use Rattle.m51_flat.specs.declared.state.Transfer.TheVariants.{Next}
 use Rattle.m51_flat.specs.declared.state.Effect.{Effect}
 use Rattle.m51_flat.specs.Reads.{CellMap}
-use Rattle.m51_flat.specs.States.{ram_cell, xram_cell}
+use Rattle.m51_flat.specs.Flags.{idl}
+use Rattle.m51_flat.specs.States.{ram_cell, written_to, xram_cell}
 use Rattle.m51_flat.specs.Sfr.{flag, pcon}
 use Rattle.m51_flat.specs.Reset.{reset_cpu}
 use Rattle.m51_sim.specs.Runs.{State, Machine}
 use Rattle.m51_sim.specs.Effects.{performs}
-use Rattle.m51_sim.specs.FlatMachine.{idle_effect, instr_at, instr_effect, replaced, written}
+use Rattle.m51_sim.specs.FlatMachine.{filled_at, idle_effect, instr_at, instr_effect, outer, replaced}
 
 -- whose store a cell is in: that of the placed segment of this number, or the common one
 pub data Home : Type 0 where
@@ -45,7 +48,7 @@ has_store Bank = false
 has_store Reserve = false
 has_store Overlaid = false
 
--- the same memory
+-- both name one memory
 abbrev pub is_in : Space → Space → Bool
 is_in Ram Ram = true
 is_in Xram Xram = true
@@ -84,7 +87,7 @@ map_of_stores layout stores = record {
 -- a put changes cells in the stores of their homes alone
 abbrev pub stores_after : LayoutParts → Put → Stores → Stores
 stores_after layout put stores = λ home cell.
-    if is_home home (home_of layout cell) then replaced (written put cell.space cell.at) (stores home cell) else stores home cell
+    if is_home home (home_of layout cell) then replaced (written_to put cell) (stores home cell) else stores home cell
 
 -- a segment of program memory; a register bank or a reserve is no segment
 abbrev pub is_code : Kind → Mark → Bool
@@ -121,23 +124,28 @@ transferred layout pc (Ok e) = unless_leaves layout pc e e.transfer
 transferred layout pc (Err event) = Err event
 
 -- first of all, the bytes of an instruction must lie in the current unit
-abbrev pub separate_instr : LayoutParts → List ℕ → Cpu → CellMap → Option Instr → Result Effect Event
-separate_instr layout image cpu m None = Err (Reserved cpu.pc)
-separate_instr layout image cpu m (Some instr) =
+abbrev pub separate_instr : LayoutParts → List ℕ → Cpu → CellMap → Pins → Option Instr → Result Effect Event
+separate_instr layout image cpu m pins None = Err (Reserved cpu.pc)
+separate_instr layout image cpu m pins (Some instr) =
     if lie_inside layout cpu.pc (length_of instr)
-    then transferred layout cpu.pc (instr_effect image cpu m instr)
+    then transferred layout cpu.pc (instr_effect image cpu m pins instr)
     else Err (LeavesUnits PastEnd cpu.pc ((cpu.pc + length_of instr) % 65536))
 
--- what a step comes to
-unfoldable pub separate_effect : LayoutParts → List ℕ → Cpu → CellMap → Result Effect Event
-separate_effect layout image cpu m =
-    if flag cpu pcon 0 then Ok (idle_effect cpu) else separate_instr layout image cpu m (instr_at image cpu.pc)
+-- what a step comes to, with these levels of the pins
+unfoldable pub separate_effect : LayoutParts → List ℕ → Cpu → CellMap → Pins → Result Effect Event
+separate_effect layout image cpu m pins =
+    if flag cpu pcon idl then Ok (idle_effect cpu) else separate_instr layout image cpu m pins (instr_at image cpu.pc)
 
 -- the separate machine of a layout, which holds an image
 abbrev pub separate_machine : LayoutParts → List ℕ → Machine Stores
 separate_machine layout image s =
-    performs (stores_after layout) s (separate_effect layout image s.cpu (map_of_stores layout s.memory))
+    performs (stores_after layout) s (separate_effect layout image s.cpu (map_of_stores layout s.memory) outer)
 
--- the separate machine after a reset: each store has the fill 00H
-abbrev pub separate_start : State Stores
-separate_start = record { cpu = reset_cpu; cycle = 0; memory = λ home cell. 0 }
+-- each store has the fill in the cells that are its own
+abbrev pub filled_stores : LayoutParts → ℕ → Stores
+filled_stores layout fill = λ home cell.
+    if is_home home (home_of layout cell) then filled_at fill cell.space cell.at else 0
+
+-- the separate machine after a reset
+abbrev pub separate_start : LayoutParts → ℕ → State Stores
+separate_start layout fill = record { cpu = reset_cpu; cycle = 0; memory = filled_stores layout fill }

@@ -1,20 +1,21 @@
 //! A board whose program keeps to its units, and whose segments have stores of their own.
-ghost use Rattle.std.specs.Prelude.{◌≡◌, ◌≤◌, ℕ, true, IfErr, IfOk};
+ghost use Rattle.std.specs.Prelude.{◌≡◌, ◌≤◌, ℕ, true, IfErr, IfOk, length};
 ghost use Rattle.m51_cells.specs.Outside.{Rose};
 ghost use Rattle.m51_module.specs.Plan.{IsRootAt};
-ghost use Rattle.m51_print.specs.Lines.{titles_of};
+ghost use Rattle.m51_print.specs.Lines.{HasText, titles_of};
 ghost use Rattle.m51_sim.specs.Boards.{flat_of, map_of, parted, separate_of};
-ghost use Rattle.m51_sim.specs.Run.{Ended, HasTextAnywhere, IsAdvance, IsStep, step_told};
+ghost use Rattle.m51_sim.specs.Run.{Ended, IsAdvance, IsStep, step_told};
+ghost use Rattle.m51_sim.specs.FlatMachine.{outer};
 ghost use Rattle.m51_sim.specs.SeparateMachine.{has_unit, separate_effect, separate_machine, separate_start};
 
 use crate::chip::Chip;
-use crate::runs::{RunEnd, Step, write_end, write_entry};
-use crate::sink::{Failed, Sink};
+use crate::runs::{RunEnd, Step, Steps, Told, run};
+use crate::sink::Sink;
 use crate::units::{lie_inside, unless_leaves};
-use m51_cells::{Entry, Event, NoMemory, Why};
+use m51_cells::{Event, NoMemory, Why};
 use m51_flat::Effect;
 use m51_isa::length;
-use m51_module::{Image, Layout};
+use m51_module::{Image, Layout, Placed};
 use std::alloc::Global;
 use std::marker::Model;
 
@@ -49,7 +50,7 @@ impl Board {
         requires { (unit : ℕ) × IsRootAt layout 0 unit }
         ensures layout { IfOk result (λ board. board.layout ≡ layout) }
         ensures image { IfOk result (λ board. board.chip.image ≡ image) }
-        ensures start { IfOk result (λ board. separate_of board ≡ separate_start) }
+        ensures start { IfOk result (λ board. separate_of board ≡ separate_start layout 0) }
     {
         // A layout is sound, so its root is not empty.
         let _ = layout.placed();
@@ -63,9 +64,10 @@ impl Board {
     pub fn step(&mut self) -> Step
         ensures layout { self.new.layout ≡ self.old.layout }
         ensures image { self.new.chip.image ≡ self.old.chip.image }
-        ensures step { IsStep (separate_machine self.old.layout self.old.chip.image (separate_of self.old)) result (separate_of self.old) (separate_of self.new) }
+        ensures step { IsStep (separate_machine self.old.layout self.old.chip.image (separate_of self.old)) result
+            (separate_of self.old) (separate_of self.new) }
     {
-        let answer = advance(&self.layout, &mut self.chip);
+        let answer = self.advance();
         step_told(answer)
     }
 
@@ -77,18 +79,20 @@ impl Board {
     /// Source: own choice ("Runs").
     pub fn run<S: Sink>(&mut self, n: u32, out: &mut S) -> RunEnd
         requires { (1 ≤ n) × (n ≤ 10000000) }
-        ensures ended { Ended (S.text out.old) (S.text out.new) (titles_of self.old.layout.placed) (separate_machine self.old.layout self.old.chip.image) n (separate_of self.old) (separate_of self.new) result }
+        ensures ended { Ended (S.state out.old).text (S.state out.new).text (titles_of self.old.layout.placed)
+            (separate_machine self.old.layout self.old.chip.image) n
+            (separate_of self.old) (separate_of self.new) result }
         ensures layout { self.new.layout ≡ self.old.layout }
         ensures image { self.new.chip.image ≡ self.old.chip.image }
-        ensures later { S.faults out.old ≤ S.faults out.new }
-        ensures fault { result ≡ RunEnd.WriteFault → Rose (S.faults out.old) (S.faults out.new) }
+        ensures later { (S.state out.old).faults ≤ (S.state out.new).faults }
+        ensures fault { result ≡ RunEnd.WriteFault → Rose (S.state out.old).faults (S.state out.new).faults }
     {
-        run_inside(&self.layout, &mut self.chip, n, out)
+        run(self, n, out)
     }
 }
 
 // What an advance tells of its step.
-fn step_told(answer: Result<Option<Entry>, Event>) -> Step
+fn step_told(answer: Result<Told, Event>) -> Step
     ensures { result ≡ step_told answer }
 {
     match answer {
@@ -101,9 +105,9 @@ fn step_told(answer: Result<Option<Entry>, Event>) -> Step
 #[tactic(auto, unfolding(crate::specs::SeparateMachine::separate_effect))]
 fn judge(layout: &Layout, chip: &Chip) -> Result<Effect, Event>
     requires { has_unit layout.now chip.now.cpu.pc ≡ true }
-    ensures value { result ≡ separate_effect layout.now chip.now.image chip.now.cpu (map_of chip.now.memory) }
+    ensures value { result ≡ separate_effect layout.now chip.now.image chip.now.cpu (map_of chip.now.memory) outer }
     ensures covered { IfOk result (λ e. has_unit layout.now e.cpu.pc ≡ true) }
-    ensures text { IfErr result HasTextAnywhere }
+    ensures text { IfErr result (HasText (length layout.now.placed)) }
 {
     if chip.is_idle() {
         return Ok(chip.idle());
@@ -121,17 +125,18 @@ fn judge(layout: &Layout, chip: &Chip) -> Result<Effect, Event>
     }
     match chip.effect(&instr) {
         Ok(effect) => unless_leaves(layout, pc, effect),
-        Err(event) => Err(event),
+        Err(stopped) => Err(stopped),
     }
 }
 
-// Performs a step and gives its entry, or gives the event that stops it.
-fn advance(layout: &Layout, chip: &mut Chip) -> Result<Option<Entry>, Event>
+// Performs a step and gives what it tells, or gives the event that stops it.
+fn advance(layout: &Layout, chip: &mut Chip) -> Result<Told, Event>
     requires { has_unit layout.now chip.old.cpu.pc ≡ true }
     ensures covered { has_unit layout.now chip.new.cpu.pc ≡ true }
     ensures image { chip.new.image ≡ chip.old.image }
-    ensures step { IsAdvance (separate_machine layout.now chip.old.image (parted layout.now (flat_of chip.old))) result (parted layout.now (flat_of chip.old)) (parted layout.now (flat_of chip.new)) }
-    ensures text { IfErr result HasTextAnywhere }
+    ensures step { IsAdvance (separate_machine layout.now chip.old.image (parted layout.now (flat_of chip.old))) result
+        (parted layout.now (flat_of chip.old)) (parted layout.now (flat_of chip.new)) }
+    ensures text { IfErr result (HasText (length layout.now.placed)) }
 {
     match judge(layout, chip) {
         Ok(effect) => Ok(chip.perform(&effect)),
@@ -139,35 +144,33 @@ fn advance(layout: &Layout, chip: &mut Chip) -> Result<Option<Entry>, Event>
     }
 }
 
-// At most so many steps, with their lines.
-fn run_inside<S: Sink>(layout: &Layout, chip: &mut Chip, n: u32, out: &mut S) -> RunEnd
-    requires { has_unit layout.now chip.old.cpu.pc ≡ true }
-    ensures covered { has_unit layout.now chip.new.cpu.pc ≡ true }
-    ensures ended { Ended (S.text out.old) (S.text out.new) (titles_of layout.now.placed) (separate_machine layout.now chip.old.image) n (parted layout.now (flat_of chip.old)) (parted layout.now (flat_of chip.new)) result }
-    ensures image { chip.new.image ≡ chip.old.image }
-    ensures later { S.faults out.old ≤ S.faults out.new }
-    ensures fault { result ≡ RunEnd.WriteFault → Rose (S.faults out.old) (S.faults out.new) }
-{
-    for done in 0..n {
-        match advance(layout, chip) {
-            Ok(entry) => {
-                match write_entry(out, entry) {
-                    Ok(()) => {}
-                    Err(Failed) => return RunEnd::WriteFault,
-                }
-            }
-            Err(event) => {
-                match write_end(out, Some(&event), layout.placed(), done, chip.cycle()) {
-                    Ok(()) => {}
-                    Err(Failed) => return RunEnd::WriteFault,
-                }
-                return RunEnd::Stopped(event);
-            }
-        }
+impl Steps for Board {
+    ghost use Rattle.std.specs.Prelude.{ℕ, List};
+    ghost use Rattle.m51_module.specs.declared.parts.LayoutParts.{LayoutParts};
+    ghost use Rattle.m51_sim.specs.Boards.{Loaded, separate_of};
+    ghost use Rattle.m51_sim.specs.SeparateMachine.{Stores, separate_machine};
+
+    ghost Memory = { Stores };
+
+    ghost Fixed = { Loaded };
+
+    ghost fixed = { λ board. record { layout = board.layout; image = board.chip.image } };
+
+    ghost machine = { λ loaded. separate_machine loaded.layout loaded.image };
+
+    ghost state = { separate_of };
+
+    ghost extents = { λ loaded. loaded.layout.placed };
+
+    fn advance(&mut self) -> Result<Told, Event> {
+        advance(&self.layout, &mut self.chip)
     }
-    match write_end(out, None, layout.placed(), n, chip.cycle()) {
-        Ok(()) => {}
-        Err(Failed) => return RunEnd::WriteFault,
+
+    fn cycle(&self) -> u64 {
+        self.chip.cycle()
     }
-    RunEnd::Finished
+
+    fn placed(&self) -> &[Placed] {
+        self.layout.placed()
+    }
 }

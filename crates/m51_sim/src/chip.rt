@@ -1,20 +1,24 @@
 //! An image, the processor, the number of the machine cycle, and one memory.
-ghost use Rattle.std.specs.Prelude.{◌≡◌, IfErr, IfOk, slice_index};
+ghost use Rattle.std.specs.Prelude.{◌≡◌, ℕ, IfErr, IfOk, slice_index};
+ghost use Rattle.m51_print.specs.Lines.{HasText};
+ghost use Rattle.m51_flat.specs.Flags.{idl};
 ghost use Rattle.m51_flat.specs.Sfr.{flag, pcon};
 ghost use Rattle.m51_sim.specs.Boards.{flat_of, map_of};
-ghost use Rattle.m51_sim.specs.Effects.{cycles_on, effected, entry_of, latch_of};
-ghost use Rattle.m51_sim.specs.Run.{HasTextAnywhere};
+ghost use Rattle.m51_sim.specs.Effects.{cycles_on, effected, entry_of, latch_address, told_of};
 ghost use Rattle.m51_sim.specs.FlatMachine.{flat_start, idle_effect, instr_at, instr_effect, map_after, outer};
 
+use crate::runs::Told;
 use m51_cells::{Entry, Event, NoMemory};
+use m51_flat::addresses::{P0, P1, P2, P3, PCON};
+use m51_flat::flags::IDL;
 use m51_flat::{CellStore, Cpu, Effect, FlatRam, Outcome, Pins, Put, Transfer, exec, reset};
 use m51_isa::{Instr, decode};
 use m51_module::Image;
 use std::alloc::Global;
 use std::marker::Model;
 
-/// The place of PCON among the registers.
-const PCON: usize = 0x07;
+// The byte that memory has everywhere after a reset.
+const FILL: u8 = 0x00;
 
 /// What both boards have. One memory serves all segments.
 #[derive(Drop)]
@@ -34,12 +38,12 @@ impl Model for Chip {
 }
 
 impl Chip {
-    // With this image, after a reset, and with the fill 00H everywhere.
+    // With this image, after a reset, and with the fill everywhere.
     pub(crate) fn make(alloc: Global, image: Image) -> Result<Chip, NoMemory>
         ensures image { IfOk result (λ chip. chip.image ≡ image) }
-        ensures start { IfOk result (λ chip. flat_of chip ≡ flat_start) }
+        ensures start { IfOk result (λ chip. flat_of chip ≡ flat_start 0) }
     {
-        let memory = FlatRam::filled(alloc, 0)?;
+        let memory = FlatRam::filled(alloc, FILL)?;
         Ok(Chip {
             image,
             cpu: reset(),
@@ -63,11 +67,10 @@ impl Chip {
     }
 
     // Whether PCON asks for idle cycles.
-    #[tactic(auto, using(crate::proofs::Values::idle_bit))]
     pub(crate) fn is_idle(&self) -> bool
-        ensures { result ≡ flag self.now.cpu pcon 0 }
+        ensures { result ≡ flag self.now.cpu pcon idl }
     {
-        self.cpu.regs[PCON] % 2 == 1
+        self.cpu.flag(PCON, IDL)
     }
 
     // A machine cycle without an instruction.
@@ -109,8 +112,8 @@ impl Chip {
 
     // The effect of an instruction, unless it would power down.
     pub(crate) fn effect(&self, instr: &Instr) -> Result<Effect, Event>
-        ensures value { result ≡ instr_effect self.now.image self.now.cpu (map_of self.now.memory) instr.now }
-        ensures text { IfErr result HasTextAnywhere }
+        ensures value { result ≡ instr_effect self.now.image self.now.cpu (map_of self.now.memory) outer instr.now }
+        ensures text { (count : ℕ) → IfErr result (HasText count) }
     {
         match exec(
             &self.cpu,
@@ -125,19 +128,19 @@ impl Chip {
         }
     }
 
-    // Performs an effect, and gives the entry of a port that it wrote.
-    pub(crate) fn perform(&mut self, effect: &Effect) -> Option<Entry>
+    // Performs an effect, and gives what it tells.
+    pub(crate) fn perform(&mut self, effect: &Effect) -> Told
         ensures image { self.new.image ≡ self.old.image }
         ensures cpu { self.new.cpu ≡ effect.now.cpu }
         ensures state { flat_of self.new ≡ effected map_after (flat_of self.old) effect.now }
-        ensures entry { result ≡ entry_of self.old.cycle effect.now }
+        ensures told { result ≡ told_of self.old.cycle effect.now }
     {
-        let entry = port_entry(self.cycle, effect);
+        let told = told_by(self.cycle, effect);
         put(&mut self.memory, &effect.first);
         put(&mut self.memory, &effect.second);
         self.cpu = effect.cpu;
         self.cycle = cycle_after(self.cycle, effect.cycles);
-        entry
+        told
     }
 }
 
@@ -162,11 +165,26 @@ fn cycle_after(cycle: u64, more: u8) -> u64
     cycle.saturating_add(u64::from(more))
 }
 
-// The latch of a port.
-fn latch(cpu: &Cpu, port: u8) -> u8
-    ensures { result ≡ latch_of cpu.now port }
+// The address of the latch of a port.
+fn latch_address(port: u8) -> u8
+    ensures { result ≡ latch_address port }
 {
-    cpu.regs.get(16 * usize::from(port)).copied().unwrap_or(0)
+    match port {
+        0 => P0,
+        1 => P1,
+        2 => P2,
+        _ => P3,
+    }
+}
+
+// What a step that starts in this cycle tells.
+fn told_by(cycle: u64, effect: &Effect) -> Told
+    ensures { result ≡ told_of cycle effect.now }
+{
+    Told {
+        port: port_entry(cycle, effect),
+        sent: None,
+    }
 }
 
 // The entry of a step that starts in this cycle, if it wrote the latch of a port.
@@ -178,7 +196,7 @@ fn port_entry(cycle: u64, effect: &Effect) -> Option<Entry>
         Some(port) => Some(Entry::Port {
             cycle,
             port,
-            value: latch(&effect.cpu, port),
+            value: effect.cpu.latch(latch_address(port)),
         }),
     }
 }

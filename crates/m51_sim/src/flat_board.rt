@@ -1,21 +1,22 @@
 //! A board with one memory for all.
 ghost use Rattle.std.specs.Prelude.{◌≡◌, ◌≤◌, [], IfErr, IfOk};
 ghost use Rattle.m51_cells.specs.Outside.{Rose};
+ghost use Rattle.m51_print.specs.Lines.{HasText};
 ghost use Rattle.m51_sim.specs.Boards.{flat_of, map_of};
-ghost use Rattle.m51_sim.specs.FlatMachine.{flat_effect, flat_machine, flat_start};
-ghost use Rattle.m51_sim.specs.Run.{Ended, HasTextAnywhere, IsAdvance};
+ghost use Rattle.m51_sim.specs.FlatMachine.{flat_effect, flat_machine, flat_start, outer};
+ghost use Rattle.m51_sim.specs.Run.{Ended};
 
 use crate::chip::Chip;
-use crate::runs::{RunEnd, write_end, write_entry};
-use crate::sink::{Failed, Sink};
-use m51_cells::{Entry, Event, NoMemory};
+use crate::runs::{RunEnd, Steps, Told, run};
+use crate::sink::Sink;
+use m51_cells::{Event, NoMemory};
 use m51_flat::Effect;
-use m51_module::Image;
+use m51_module::{Image, Placed};
 use std::alloc::Global;
 use std::marker::Model;
 
 /// A board that runs an image over one map from all cells to values. It stops at the reserved opcode and at power-down
-/// alone.
+/// only.
 ///
 /// Source: own choice ("Boards").
 #[derive(Drop)]
@@ -37,7 +38,7 @@ impl FlatBoard {
     /// Source: own choice ("Boards").
     pub fn make(alloc: Global, image: Image) -> Result<FlatBoard, NoMemory>
         ensures image { IfOk result (λ board. board.image ≡ image) }
-        ensures start { IfOk result (λ board. flat_of board ≡ flat_start) }
+        ensures start { IfOk result (λ board. flat_of board ≡ flat_start 0) }
     {
         let chip = Chip::make(alloc, image)?;
         Ok(FlatBoard { chip })
@@ -51,47 +52,20 @@ impl FlatBoard {
     /// Source: own choice ("Runs").
     pub fn run<S: Sink>(&mut self, n: u32, out: &mut S) -> RunEnd
         requires { (1 ≤ n) × (n ≤ 10000000) }
-        ensures ended { Ended (S.text out.old) (S.text out.new) [] (flat_machine self.old.image) n (flat_of self.old) (flat_of self.new) result }
+        ensures ended { Ended (S.state out.old).text (S.state out.new).text []
+            (flat_machine self.old.image) n (flat_of self.old) (flat_of self.new) result }
         ensures image { self.new.image ≡ self.old.image }
-        ensures later { S.faults out.old ≤ S.faults out.new }
-        ensures fault { result ≡ RunEnd.WriteFault → Rose (S.faults out.old) (S.faults out.new) }
+        ensures later { (S.state out.old).faults ≤ (S.state out.new).faults }
+        ensures fault { result ≡ RunEnd.WriteFault → Rose (S.state out.old).faults (S.state out.new).faults }
     {
-        for done in 0..n {
-            match self.advance() {
-                Ok(entry) => {
-                    match write_entry(out, entry) {
-                        Ok(()) => {}
-                        Err(Failed) => return RunEnd::WriteFault,
-                    }
-                }
-                Err(event) => {
-                    match write_end(out, Some(&event), &[], done, self.cycle()) {
-                        Ok(()) => {}
-                        Err(Failed) => return RunEnd::WriteFault,
-                    }
-                    return RunEnd::Stopped(event);
-                }
-            }
-        }
-        match write_end(out, None, &[], n, self.cycle()) {
-            Ok(()) => {}
-            Err(Failed) => return RunEnd::WriteFault,
-        }
-        RunEnd::Finished
-    }
-
-    // The number of the machine cycle.
-    fn cycle(&self) -> u64
-        ensures { result ≡ self.now.cycle }
-    {
-        self.chip.cycle()
+        run(self, n, out)
     }
 
     // The effect of the next step, or the event that stops it.
     #[tactic(auto, unfolding(crate::specs::FlatMachine::flat_effect))]
     fn judge(&self) -> Result<Effect, Event>
-        ensures value { result ≡ flat_effect self.now.image self.now.cpu (map_of self.now.memory) }
-        ensures text { IfErr result HasTextAnywhere }
+        ensures value { result ≡ flat_effect self.now.image self.now.cpu (map_of self.now.memory) outer }
+        ensures text { IfErr result (HasText 0) }
     {
         if self.chip.is_idle() {
             return Ok(self.chip.idle());
@@ -101,16 +75,38 @@ impl FlatBoard {
             Some(instr) => self.chip.effect(&instr),
         }
     }
+}
 
-    // Performs a step and gives its entry, or gives the event that stops it.
-    fn advance(&mut self) -> Result<Option<Entry>, Event>
-        ensures image { self.new.image ≡ self.old.image }
-        ensures step { IsAdvance (flat_machine self.old.image (flat_of self.old)) result (flat_of self.old) (flat_of self.new) }
-        ensures text { IfErr result HasTextAnywhere }
-    {
+impl Steps for FlatBoard {
+    ghost use Rattle.std.specs.Prelude.{ℕ, List, []};
+    ghost use Rattle.m51_flat.specs.Reads.{CellMap};
+    ghost use Rattle.m51_sim.specs.Boards.{flat_of};
+    ghost use Rattle.m51_sim.specs.FlatMachine.{flat_machine};
+
+    ghost Memory = { CellMap };
+
+    ghost Fixed = { List ℕ };
+
+    ghost fixed = { λ board. board.image };
+
+    ghost machine = { flat_machine };
+
+    ghost state = { flat_of };
+
+    ghost extents = { λ image. [] };
+
+    fn advance(&mut self) -> Result<Told, Event> {
         match self.judge() {
             Ok(effect) => Ok(self.chip.perform(&effect)),
             Err(event) => Err(event),
         }
+    }
+
+    fn cycle(&self) -> u64 {
+        self.chip.cycle()
+    }
+
+    fn placed(&self) -> &[Placed] {
+        &[]
     }
 }

@@ -18,7 +18,7 @@ pub use laws::{flat_keeps, units_are_the_layouts};
 pub use memory::MemSink;
 pub use runs::{RunEnd, Step};
 pub use sink::{Failed, Sink, write_whole};
-pub use stdout::StdSink;
+pub use stdout::{MOST_TRIES, StdSink};
 pub use sure::SureSink;
 
 #[cfg(test)]

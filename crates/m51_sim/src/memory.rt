@@ -9,7 +9,8 @@ use m51_cells::NoMemory;
 use std::alloc::Global;
 use std::marker::Model;
 
-/// A sink that tells its text. A call fails where its number, counted from 1, is listed, and where it would pass the room.
+/// A sink that tells its text. A call fails where its number, counted from 1, is listed, and where it would pass the
+/// room.
 ///
 /// Source: own choice ("Sinks in memory").
 #[derive(Drop)]
@@ -27,7 +28,13 @@ impl Model for MemSink {
 
     ghost Value = { MemSinkState };
 
-    ghost view = { λ s. record { text = s.text.items; room = s.room; fails = s.fails.items; calls = s.calls; faults = s.faults } };
+    ghost view = { λ s. record {
+      text = s.text.items;
+      room = s.room;
+      fails = s.fails.items;
+      calls = s.calls;
+      faults = s.faults;
+    } };
 
     ghost invariant = { λ s. (s.room ≤ vec_capacity s.text) × (vec_len s.text ≤ s.room) };
 }
@@ -39,7 +46,8 @@ impl MemSink {
     ///
     /// Source: own choice ("Sinks in memory").
     pub fn make(alloc: Global, fails: Vec<u32>, room: u32) -> Result<MemSink, NoMemory>
-        ensures made { IfOk result (λ sink. sink ≡ record { text = []; room = room; fails = fails.items; calls = 0; faults = 0 }) }
+        ensures made { IfOk result (λ sink.
+            sink ≡ record { text = []; room = room; fails = fails.items; calls = 0; faults = 0 }) }
     {
         let room = room as usize;
         Ok(MemSink {
@@ -76,9 +84,7 @@ fn is_listed(fails: &[u32], number: u64) -> bool
 }
 
 impl Sink for MemSink {
-    ghost text = { λ sink. Some sink.text };
-
-    ghost faults = { λ sink. sink.faults };
+    ghost state = { λ sink. record { text = Some sink.text; faults = sink.faults } };
 
     /// Takes the whole piece, or fails and is counted as a fault.
     ///

@@ -21,9 +21,7 @@ impl SureSink {
 }
 
 impl Sink for SureSink {
-    ghost text = { λ sink. None };
-
-    ghost faults = { λ sink. 0 };
+    ghost state = { λ sink. record { text = None; faults = 0 } };
 
     /// Takes the whole piece.
     ///

@@ -1,4 +1,5 @@
-//! What no clause says: that the calls which want memory can succeed, and that the texts are those of runs worked by hand.
+//! What no clause says: that the calls which want memory can succeed, and that the texts are those of runs worked by
+//! hand.
 ghost use Rattle.std.specs.Prelude.{◌≡◌, ◌<◌, ◌≤◌, [], IfOk, length};
 ghost use Rattle.m51_cells.specs.Name.{title_at};
 ghost use Rattle.m51_sim.specs.Sample.{one_unit};
@@ -99,6 +100,56 @@ fn the_reserved_opcode_stops_a_run(rt: HostRuntime) -> Result<(), Fail> {
         sink.text(),
         b"EVENT V4 AT 0000 AFTER 0 STEPS 0 CYCLES\n".as_slice()
     );
+    Ok(())
+}
+
+// What so many steps of a board of one unit of this size write.
+fn unit_run(alloc: Global, size: u16, bytes: &[u8], n: u32) -> Result<MemSink, NoMemory>
+    requires unit { 0 < size }
+    requires few { length bytes.now ≤ 100 }
+    requires some { (1 ≤ n) × (n ≤ 100) }
+{
+    let mut board = board(alloc, size, bytes)?;
+    let mut sink = MemSink::make(alloc, Vec::new(alloc), 200)?;
+    board.run(n, &mut sink);
+    Ok(sink)
+}
+
+const JUMPS_AWAY: [u8; 3] = [0x02, 0x80, 0x00];
+
+const POWERS_DOWN: [u8; 3] = [0x75, 0x87, 0x02];
+
+#[test]
+fn a_jump_to_no_unit_stops_a_board_only(rt: HostRuntime) -> Result<(), Fail> {
+    let sink = unit_run(rt.alloc(), 3, &JUMPS_AWAY, 9)?;
+    let text = b"EVENT V1 NOUNIT FROM 0000 TO 8000 AFTER 0 STEPS 0 CYCLES\n";
+    assert_eq!(rt; sink.text(), text.as_slice());
+    let sink = flat_run(rt.alloc(), &JUMPS_AWAY, 2)?;
+    assert_eq!(rt; sink.text(), b"END 2 STEPS 3 CYCLES\n".as_slice());
+    Ok(())
+}
+
+#[test]
+fn power_down_comes_before_the_end_of_the_unit(rt: HostRuntime) -> Result<(), Fail> {
+    let text = b"EVENT V5 AT 0000 AFTER 0 STEPS 0 CYCLES\n";
+    let sink = unit_run(rt.alloc(), 3, &POWERS_DOWN, 9)?;
+    assert_eq!(rt; sink.text(), text.as_slice());
+    let sink = flat_run(rt.alloc(), &POWERS_DOWN, 9)?;
+    assert_eq!(rt; sink.text(), text.as_slice());
+    Ok(())
+}
+
+#[test]
+fn an_idle_step_is_one_cycle_and_a_call_returns(rt: HostRuntime) -> Result<(), Fail> {
+    let sink = unit_run(rt.alloc(), 5, &[0x75, 0x87, 0x01, 0x80, 0xFE], 3)?;
+    assert_eq!(rt; sink.text(), b"END 3 STEPS 4 CYCLES\n".as_slice());
+    let sink = unit_run(
+        rt.alloc(),
+        7,
+        &[0x12, 0x00, 0x06, 0x75, 0x90, 0x05, 0x22],
+        3,
+    )?;
+    assert_eq!(rt; sink.text(), b"4 P1 05\nEND 3 STEPS 6 CYCLES\n".as_slice());
     Ok(())
 }
 

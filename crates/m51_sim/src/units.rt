@@ -1,7 +1,8 @@
 //! Which units cover an address.
-ghost use Rattle.std.specs.Prelude.{◌≡◌, true, IfErr, IfOk};
-ghost use Rattle.m51_sim.specs.SeparateMachine.{is_code, unit_covers, has_unit, in_unit_of, lie_inside, unless_leaves};
-ghost use Rattle.m51_sim.specs.Run.{HasTextAnywhere};
+ghost use Rattle.std.specs.Prelude.{◌≡◌, true, IfErr, IfOk, length};
+ghost use Rattle.m51_sim.specs.SeparateMachine.{is_code, unit_covers, has_unit, in_unit_of};
+ghost use Rattle.m51_sim.specs.SeparateMachine.{lie_inside, unless_leaves};
+ghost use Rattle.m51_print.specs.Lines.{HasText};
 
 use m51_cells::{Event, Kind, Why};
 use m51_flat::{Effect, Transfer};
@@ -58,7 +59,7 @@ pub(crate) fn lie_inside(layout: &Layout, pc: u16, count: u8) -> bool
 pub(crate) fn unless_leaves(layout: &Layout, pc: u16, effect: Effect) -> Result<Effect, Event>
     ensures value { result ≡ unless_leaves layout.now pc effect effect.transfer }
     ensures covered { IfOk result (λ e. has_unit layout.now e.cpu.pc ≡ true) }
-    ensures text { IfErr result HasTextAnywhere }
+    ensures text { IfErr result (HasText (length layout.now.placed)) }
 {
     let target = effect.cpu.pc;
     match effect.transfer {

@@ -1,4 +1,4 @@
--- What is printed has all that is wanted behind a word.
+-- What is printed has all that is wanted after a word.
 use Rattle.std.proofs.Common.{◌≡◌, ℕ, zero, suc, ◌+◌, ◌-◌, ◌<◌, true, false, cond, List, [], ◌∷◌, ◌++◌, length, Some, None, Ok, Err, refl, sym, ap, ◌∙◌, arith, append_assoc, append-nil}
 use Rattle.std.specs.Prelude.{codes}
 use Rattle.m51_lex.specs.declared.token.Token.{Token}
@@ -44,7 +44,7 @@ pub step_here : {line : List ℕ} {tokens : List Token} {at : ℕ} {ws : List Wo
 unfolding step_at
 step_here {line} {tokens} {at} {ws} w h = ap (λ s. step_by line tokens w at (step_of s)) (symbol_here h)
 
--- what is wanted behind a list of words, wherever they end
+-- what is wanted after a list of words, wherever they end
 pub record MetBehind (line : List ℕ) (tokens : List Token) (w : Want) (rest : List Word) : Type 0 where
   pub at_next : (next : ℕ) → Stands line tokens next rest → AllMet line tokens w next
 
@@ -80,7 +80,7 @@ expr_met line tokens w at e rest is end h more =
     (step_here w h ∙ ap (step_by line tokens w at) (expr_starts e rest is) ∙ past_expr line tokens at e rest r)
     (more.at_next r.next r.then)
 
--- an expression behind a sign is passed over with it
+-- an expression after a sign is passed over with it
 pub signed_met : (line : List ℕ) (tokens : List Token) (w : Want) (at c : ℕ) (e : Tree) (rest : List Word) → step_of (Some (symbol (sign_word c))) ≡ step_is.Behind → IsTree e → infix_operator (first rest) ≡ None → Stands line tokens at (sign_word c ∷ expr_words e rest) → MetBehind line tokens w rest → AllMet line tokens w at
 signed_met line tokens w at c e rest step is end h more =
     let r = expr_read line tokens (at + 1) e rest is end (behind h) in

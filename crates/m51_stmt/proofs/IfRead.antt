@@ -61,7 +61,7 @@ ok_or k P None h = err_is
 abbrev pub flip : {A B C : Type 0} → (A → B → C) → B → A → C
 flip f b a = f a b
 
--- the same behind a function of what is chosen
+-- the same after a function of what is chosen
 pub read_cond : {L A : Type 0} (f : L → Result A ℕ) (P : A → Type 0) (b : Bool) (x y : L) → (b ≡ true → IfRead (f x) P) → (b ≡ false → IfRead (f y) P) → IfRead (f (cond b x y)) P
 read_cond f P true x y h k = h refl
 read_cond f P false x y h k = k refl

@@ -9,6 +9,7 @@ pub mod PrintedOperands
 pub mod PrintedLists
 pub mod PrintedExterns
 pub mod PrintedBodies
+pub mod DirectiveWords
 pub mod PrintedLines
 pub mod PrintedStatements
 pub mod IfRead
@@ -16,4 +17,3 @@ pub mod ReadWords
 pub mod ReadParts
 pub mod ReadExterns
 pub mod ReadStatements
-pub mod TableForms

@@ -1,4 +1,4 @@
--- The cut of a line of words with a blank behind each.
+-- The cut of a line of words with a blank after each.
 use Rattle.std.proofs.Common.{◌≡◌, ℕ, length-append, ◌+◌, ◌-◌, ◌<◌, List, [], ◌∷◌, ◌++◌, length, drop, take, Ok, refl, ap, ◌∙◌, append_assoc, arith, subst}
 use Rattle.std.specs.List.{slice_range}
 use Rattle.m51_lex.specs.Characters.{space}
@@ -13,7 +13,7 @@ pub record Word : Type 0 where
   pub what : What
   pub text : List ℕ
 
--- words, with a blank behind each
+-- words, with a blank after each
 abbrev pub laid : List Word → List ℕ
 laid [] = []
 laid (w ∷ ws) = w.text ++ space ∷ laid ws
@@ -53,7 +53,7 @@ one_word w rest at is =
     ∙ is.front at rest (λ n. tokens_at 0 (at + 1 + n) (drop (1 + n) l))
     ∙ ap (put_front (token_at at w ∷ [])) (ap (λ a. tokens_at 0 a (drop (1 + (n - 1)) l)) (omega (arith, is.some)) ∙ ap (λ k. tokens_at 0 (at + n) (drop k l)) same ∙ ap (λ r. tokens_at 0 (at + n) r) (behind w.text (space ∷ rest)) ∙ one_blank (at + n) rest)
 
--- words with a blank behind each are cut into these words
+-- words with a blank after each are cut into these words
 pub cut : (ws : List Word) (at : ℕ) → AreCut ws → tokens_at 0 at (laid ws) ≡ Ok (placed at ws)
 cut [] at h = refl
 cut (w ∷ ws) at h = one_word w (laid ws) at h.0 ∙ ap (put_front (token_at at w ∷ [])) (cut ws (at + length w.text + 1) h.1)

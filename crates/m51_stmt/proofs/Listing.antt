@@ -8,7 +8,7 @@ use Rattle.m51_stmt.specs.Lists.{name_or_12, name_and_place, comma_at, more_name
 use Rattle.m51_stmt.specs.Externs.{after_name, go_on, more_externs}
 use Rattle.m51_stmt.proofs.Passing.{more_goes}
 
--- a name and the place behind it
+-- a name and the place after it
 abbrev placed : ℕ → List ℕ → Result (List ℕ × ℕ) ℕ
 placed next word = Ok (word, next)
 

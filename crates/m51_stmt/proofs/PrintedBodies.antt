@@ -1,4 +1,4 @@
--- What a line says behind its label reads back.
+-- What a line says after its label reads back.
 use Rattle.std.proofs.Common.{◌≡◌, ℕ, Bool, true, false, List, [], ◌∷◌, ◌++◌, Option, Some, None, refl, sym, ap, ◌∙◌, append_assoc, append-nil}
 use Rattle.std.specs.Prelude.{codes}
 use Rattle.m51_cells.specs.Name.{name_of}
@@ -12,8 +12,8 @@ use Rattle.m51_stmt.specs.declared.directives.Directive.TheVariants as directive
 use Rattle.m51_stmt.specs.Statement as body
 use Rattle.m51_stmt.specs.Statement.{BodyTree, OperandTree, ItemTree}
 use Rattle.m51_stmt.specs.Kinds.{kind_of, reloc_of}
-use Rattle.m51_stmt.specs.Shapes.{has_form}
-use Rattle.m51_stmt.specs.Definitions.{may_be}
+use Rattle.m51_stmt.specs.Looks.{has_form}
+use Rattle.m51_stmt.specs.Definitions.{is_allowed}
 use Rattle.m51_stmt.specs.Directives.{directive_of}
 use Rattle.m51_stmt.specs.Printing.{word_text, kind_word, reloc_word, select_word, separated, expr_text, overlayable_text, segment_text, at_text, operand_text, item_text, extern_text, body_text}
 use Rattle.m51_stmt.proofs.LineCuts.{Word, laid, AreCut}
@@ -42,7 +42,7 @@ pub record IsSegment (name : List ℕ) (k : Kind) (r : Reloc) (overlayable : Boo
   pub name_is : IsFree name
   pub kind_is : IsKind k
   pub reloc_is : reloc_of (reloc_word r) ≡ Some r
-  pub allowed : may_be k r overlayable ≡ true
+  pub allowed : is_allowed k r overlayable ≡ true
 
 abbrev pub IsSelected : Kind → Type 0
 IsSelected k = directive_of (select_word k) ≡ Some (directive.Select k)

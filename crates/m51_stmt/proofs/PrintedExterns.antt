@@ -1,30 +1,31 @@
 -- The printed names of EXTRN read back.
 use Rattle.std.proofs.Common.{◌≡◌, ℕ, zero, suc, ◌+◌, ◌-◌, ◌<◌, ◌≤◌, ◌&&◌, true, false, cond, List, [], ◌∷◌, ◌++◌, length, drop, Some, None, Ok, Err, refl, sym, ap, ◌∙◌, arith, subst, append_assoc}
-use Rattle.std.specs.Prelude.{codes, option_and_then}
+use Rattle.std.specs.Prelude.{codes, option_and_then, is_some}
 use Rattle.std.specs.List.{slice_range}
 use Rattle.m51_cells.specs.Name.{name_of}
 use Rattle.m51_cells.specs.declared.kind.Kind.{Kind}
 use Rattle.m51_cells.specs.declared.kind.Kind.TheVariants as kind
 use Rattle.m51_lex.specs.declared.token.Token.{Token}
 use Rattle.m51_lex.specs.declared.token.What.{What}
+use Rattle.m51_expr.specs.declared.symbol.Symbol.TheVariants as symbols
 use Rattle.m51_expr.specs.Symbol.{operator_of, symbol_at}
+use Rattle.m51_expr.specs.Reading.{expression_at}
 use Rattle.m51_expr.specs.Words.{is_language_word, is_reserved}
-use Rattle.m51_expr.specs.Tree as tree
 use Rattle.m51_expr.specs.Ranks.{is_open, is_close, leaf_of}
 use Rattle.m51_stmt.specs.declared.externs.Region.{Region}
-use Rattle.m51_stmt.specs.declared.externs.Region.TheVariants as region
 use Rattle.m51_stmt.specs.declared.externs.AfterName.TheVariants as after
 use Rattle.m51_stmt.specs.Answer.{and_then}
 use Rattle.m51_stmt.specs.Kinds.{kind_of, extern_kind_of}
 use Rattle.m51_stmt.specs.Words.{is_comma, word_by, word_of, word_at}
-use Rattle.m51_stmt.specs.Lack.{is_closed_by, is_closed, parenthesis, parenthesis_at, place_behind}
-use Rattle.m51_stmt.specs.Externs.{group_at, group_or_nothing, after_group, after_name, more_externs, first_group, externs_at, region_after, is_reserved_word, is_reserved_token, is_at_name, defines_reserved}
+use Rattle.m51_stmt.specs.declared.lack.Prefix.TheVariants as prefix
+use Rattle.m51_stmt.specs.Lack.{is_closed_by, is_closed, prefix_of, after_prefix, operand_in, closes, operand_or_6, expression_begins, parenthesis, parenthesis_at}
+use Rattle.m51_stmt.specs.Externs.{group_at, group_or_nothing, after_group, after_name, more_externs, first_group, externs_at, region_after, is_reserved_word, is_reserved_token, outside, inside, naming, defines_reserved}
 use Rattle.m51_stmt.specs.Printing.{word_text, kind_word, extern_text}
 use Rattle.m51_stmt.proofs.Listing.{externs_goes}
 use Rattle.m51_stmt.proofs.LineCuts.{Word, laid, AreCut, AreWords}
 use Rattle.m51_stmt.proofs.Standing.{symbol, Stands, symbol_here, word_here, behind, ends, goes_on}
 use Rattle.m51_stmt.proofs.WordCuts.{name_word, name_cut, open_cut, close_cut}
-use Rattle.m51_stmt.proofs.PrintedTrees.{IsLeafName, open_word, close_word, one_laid, leaf_read}
+use Rattle.m51_stmt.proofs.PrintedTrees.{IsLeafName, open_word, close_word, one_laid}
 use Rattle.m51_stmt.proofs.AllMet.{AllClosed, closed_on, closed_end, plain_closed, Each, comma_word, list_words}
 use Rattle.m51_stmt.proofs.PrintedLists.{more_words, list_front, more_long, many, name_symbol, name_here}
 
@@ -117,10 +118,19 @@ closed_words line (t ∷ u ∷ us) name rest h =
     ap (λ (w : What). is_closed_by w 0 (is_closed (u ∷ us) (0 + 1)) (is_closed (u ∷ us) (0 - 1)) (is_closed (u ∷ us) 0)) h.0
     ∙ ap (λ (w : What). is_closed_by w 0 (is_closed us (0 + 1)) (is_closed us (0 - 1)) (is_closed us 0)) h.2.0
 
+-- a name begins an expression
+name_begins : (line : List ℕ) (ts : List Token) (name : List ℕ) (rest : List Word) → IsLeafName name → AreWords line ts (name_word name ∷ rest) → expression_begins line ts ≡ Ok tt
+name_begins line [] name rest is h = absurd h
+name_begins line (t ∷ more) name rest is h =
+    let stands : Stands line (t ∷ more) 0 (name_word name ∷ rest) = record { are = h } in
+    let leaf : symbol_at line (t ∷ more) 0 ≡ Some (symbols.Name name) = symbol_here stands ∙ ap Some (name_symbol name is) in
+    ap (λ s. operand_or_6 line (after_prefix prefix.Nothing (λ next. operand_in line next more) (Some (t ∷ more)) (prefix_of s))) leaf
+    ∙ ap (λ s. cond (is_open s) (closes line (t ∷ more) (expression_at line (t ∷ more) 1)) (cond (is_some (leaf_of s)) (Ok tt) (Err 6))) leaf
+
 open_name : (line : List ℕ) (tokens : List Token) (at : ℕ) (name : List ℕ) (rest : List Word) → IsLeafName name → Stands line tokens at (open_word ∷ name_word name ∷ close_word ∷ rest) → parenthesis_at line tokens at ≡ Ok tt
 open_name line tokens at name rest is h =
     ap (λ s. cond (is_open s) (parenthesis line tokens at) (Ok tt)) (symbol_here h)
-    ∙ ap (λ r. and_then (place_behind r) (λ next. cond (is_closed (drop (at + 1) tokens) 0) (Ok tt) (Err 6))) (leaf_read line tokens (at + 1) (tree.Name name) (name_word name) (close_word ∷ rest) (ap (λ s. leaf_of (Some s)) (name_symbol name is)) refl (behind h))
+    ∙ ap (λ r. and_then r (λ _. cond (is_closed (drop (at + 1) tokens) 0) (Ok tt) (Err 6))) (name_begins line (drop (at + 1) tokens) name (close_word ∷ rest) is (behind h).are)
     ∙ ap (λ b. cond b (Ok tt) (Err 6)) (closed_words line (drop (at + 1) tokens) name rest (behind h).are)
 
 name_opens : (name : List ℕ) → IsLeafName name → is_open (Some (symbol (name_word name))) ≡ false
@@ -146,28 +156,28 @@ reserved_by : (line : List ℕ) (t : Token) (w : Word) (ts : List Token) (ws : L
 unfolding word_of
 reserved_by line t w ts ws h = ap (λ (x : What). is_reserved_word (word_by x (slice_range line t.from t.to))) h.0 ∙ ap (λ x. is_reserved_word (word_by w.what x)) h.1
 
-scan : (line : List ℕ) (r : Region) (w : Word) (ws : List Word) → (is_at_name r && is_reserved_word (word_by w.what w.text)) ≡ false → NoneDefined line (region_after r w.what) ws → NoneDefined line r (w ∷ ws)
+scan : (line : List ℕ) (r : Region) (w : Word) (ws : List Word) → (r.at_name && is_reserved_word (word_by w.what w.text)) ≡ false → NoneDefined line (region_after r w.what) ws → NoneDefined line r (w ∷ ws)
 scan line r w ws none more [] h = absurd h
 scan line r w ws none more (t ∷ ts) h =
-    ap (λ b. cond (is_at_name r && b) true (defines_reserved line ts (region_after r t.what))) (reserved_by line t w ts ws h)
+    ap (λ b. cond (r.at_name && b) true (defines_reserved line ts (region_after r t.what))) (reserved_by line t w ts ws h)
     ∙ ap (λ b. cond b true (defines_reserved line ts (region_after r t.what))) none
     ∙ ap (λ (x : What). defines_reserved line ts (region_after r x)) h.0 ∙ more ts h.2
 
 free_name : (name : List ℕ) → IsFree name → is_reserved_word (word_by (name_word name).what name) ≡ false
 free_name name is = ap is_reserved_word is.leaf.written ∙ is.free
 
-extern_scan : (line : List ℕ) (x : List ℕ × Kind) (rest : List Word) → IsExtern x → NoneDefined line region.Outside rest → NoneDefined line region.Outside (extern_words x rest)
+extern_scan : (line : List ℕ) (x : List ℕ × Kind) (rest : List Word) → IsExtern x → NoneDefined line outside rest → NoneDefined line outside (extern_words x rest)
 extern_scan line x rest is more =
-    scan line region.Outside (name_word (kind_word x.1)) (open_word ∷ name_word x.0 ∷ close_word ∷ rest) refl
-    (scan line region.Outside open_word (name_word x.0 ∷ close_word ∷ rest) refl
-    (scan line region.AtName (name_word x.0) (close_word ∷ rest) (free_name x.0 is)
-    (scan line region.Inside close_word rest refl more)))
+    scan line outside (name_word (kind_word x.1)) (open_word ∷ name_word x.0 ∷ close_word ∷ rest) refl
+    (scan line outside open_word (name_word x.0 ∷ close_word ∷ rest) refl
+    (scan line naming (name_word x.0) (close_word ∷ rest) (free_name x.0 is)
+    (scan line inside close_word rest refl more)))
 
 none_left : (line : List ℕ) (r : Region) → NoneDefined line r []
 none_left line r [] h = refl
 none_left line r (t ∷ ts) h = absurd h
 
-pub none_defined : (line : List ℕ) (xs : List (List ℕ × Kind)) → Each IsExtern xs → NoneDefined line region.Outside (list_words extern_words xs)
-none_defined line [] all = none_left line region.Outside
-none_defined line (x ∷ []) all = extern_scan line x [] all.0 (none_left line region.Outside)
-none_defined line (x ∷ y ∷ more) all = extern_scan line x (comma_word ∷ list_words extern_words (y ∷ more)) all.0 (scan line region.Outside comma_word (list_words extern_words (y ∷ more)) refl (none_defined line (y ∷ more) all.1))
+pub none_defined : (line : List ℕ) (xs : List (List ℕ × Kind)) → Each IsExtern xs → NoneDefined line outside (list_words extern_words xs)
+none_defined line [] all = none_left line outside
+none_defined line (x ∷ []) all = extern_scan line x [] all.0 (none_left line outside)
+none_defined line (x ∷ y ∷ more) all = extern_scan line x (comma_word ∷ list_words extern_words (y ∷ more)) all.0 (scan line outside comma_word (list_words extern_words (y ∷ more)) refl (none_defined line (y ∷ more) all.1))

@@ -9,7 +9,10 @@ use Rattle.m51_cells.specs.declared.kind.Kind.{Kind}
 use Rattle.m51_cells.specs.declared.kind.Kind.TheVariants as kind
 use Rattle.m51_cells.specs.declared.kind.Reloc.{Reloc}
 use Rattle.m51_cells.specs.declared.kind.Reloc.TheVariants as reloc
+use Rattle.m51_isa.specs.Mnemonics.{is_mnemonic}
+use Rattle.m51_isa.proofs.FoundMnemonics.{has_mnemonic}
 use Rattle.m51_lex.specs.declared.token.Token.{Token}
+use Rattle.m51_expr.specs.declared.symbol.Symbol.{Symbol}
 use Rattle.m51_expr.specs.declared.symbol.Symbol.TheVariants as symbols
 use Rattle.m51_expr.specs.Symbol.{symbol_at, operator_of, word_symbol}
 use Rattle.m51_expr.specs.Words.{is_language_word}
@@ -18,7 +21,6 @@ use Rattle.m51_expr.specs.Tree as tree
 use Rattle.m51_expr.specs.Tree.{Tree}
 use Rattle.m51_stmt.specs.declared.lack.Want.{Want}
 use Rattle.m51_stmt.specs.declared.lack.Want.TheVariants as want
-use Rattle.m51_stmt.specs.declared.groups.Group.{Group}
 use Rattle.m51_stmt.specs.declared.definitions.Definition.{Definition}
 use Rattle.m51_stmt.specs.declared.definitions.Definition.TheVariants as definition
 use Rattle.m51_stmt.specs.declared.directives.Directive.{Directive}
@@ -26,18 +28,17 @@ use Rattle.m51_stmt.specs.declared.directives.Directive.TheVariants as directive
 use Rattle.m51_stmt.specs.Statement as body
 use Rattle.m51_stmt.specs.Statement.{BodyTree, OperandTree, ItemTree}
 use Rattle.m51_stmt.specs.Answer.{and_then, or_fault}
-use Rattle.m51_stmt.specs.Words.{is_comma, word_at}
-use Rattle.m51_stmt.specs.Lack.{met, all_closed}
+use Rattle.m51_stmt.specs.Words.{is_comma, begins_operand, word_at}
+use Rattle.m51_stmt.specs.Lack.{is_met, met, all_closed}
 use Rattle.m51_stmt.specs.Kinds.{kind_of, reloc_of}
-use Rattle.m51_stmt.specs.Forms.{group_of}
-use Rattle.m51_stmt.specs.Shapes.{has_form, fits_group}
+use Rattle.m51_stmt.specs.Looks.{has_form}
 use Rattle.m51_stmt.specs.Operands.{operand_at, after_second, after_first, operands_at, instruction}
-use Rattle.m51_stmt.specs.declared.shape.Shape.{Shape}
 use Rattle.m51_stmt.specs.Lists.{name_or_12}
-use Rattle.m51_stmt.specs.Definitions.{definition_of, beside_extrn, definition_at, expression_line, reloc_at, reloc_or_unit, is_overlayable, overlayable_at, may_be, segment_of, segment_with, segment, valued, is_segment, definition_met, definition_form}
+use Rattle.m51_stmt.specs.Definitions.{definition_of, beside_extrn, definition_at, expression_line, reloc_at, reloc_or_unit, is_overlayable, overlayable_at, is_allowed, segment_of, segment_with, segment, valued, is_segment, definition_met, definition_form}
 use Rattle.m51_stmt.specs.Directives.{directive_of, is_at, select_met, directive_met, name_line, select, directive_form, with_value, with_name}
-use Rattle.m51_stmt.specs.Lines.{is_a_group, is_mnemonic, or_no_directive, spoken, by_definition, by_word, said}
+use Rattle.m51_stmt.specs.Lines.{or_no_directive, spoken, by_definition, by_word, said}
 use Rattle.m51_stmt.specs.Printing.{register_word, kind_word, reloc_word, select_word}
+use Rattle.m51_stmt.proofs.DirectiveWords.{no_mnemonic}
 use Rattle.m51_stmt.proofs.LineCuts.{Word}
 use Rattle.m51_stmt.proofs.Standing.{symbol, first, first_word, Stands, symbol_here, word_here, behind, ends, goes_on}
 use Rattle.m51_stmt.proofs.WordCuts.{name_word}
@@ -152,9 +153,9 @@ extrn_here line tokens at k rest h =
     ∙ ap (λ o. beside_extrn (option_and_then definition_of o)) (kind_written k)
     ∙ beside_kind k)
 
-directive_here : (line : List ℕ) (tokens : List Token) (w : List ℕ) (d : Directive) (at : ℕ) (b : BodyTree) → is_mnemonic w ≡ false → directive_of w ≡ Some d → directive_met line tokens d at ≡ Ok tt → directive_form line tokens d at ≡ Ok b → spoken line tokens w at ≡ Ok b
-directive_here line tokens w d at b none is met' form =
-    ap (λ x. cond x (and_then (met line tokens want.Nothing want.Operand at) (λ _. instruction line tokens w at)) (or_no_directive line tokens at (directive_of w))) none
+directive_here : (line : List ℕ) (tokens : List Token) (w : List ℕ) (d : Directive) (at : ℕ) (b : BodyTree) → directive_of w ≡ Some d → directive_met line tokens d at ≡ Ok tt → directive_form line tokens d at ≡ Ok b → spoken line tokens w at ≡ Ok b
+directive_here line tokens w d at b is met' form =
+    ap (λ x. cond x (and_then (met line tokens want.First want.Operand at) (λ _. instruction line tokens w at)) (or_no_directive line tokens at (directive_of w))) (no_mnemonic w d is)
     ∙ ap (or_no_directive line tokens at) is
     ∙ ap (λ r. and_then r (λ _. directive_form line tokens d at)) met' ∙ form
 
@@ -171,22 +172,18 @@ line_met line tokens at e is h =
     (expr_met line tokens want.Nothing at e [] is refl h (record { at_next = λ next s. met_end want.Nothing s }))
 
 -- a directive with one expression
-value_here : (line : List ℕ) (tokens : List Token) (at : ℕ) (w : List ℕ) (d : Directive) (e : Tree) (b : BodyTree) → name_of w ≡ Some w → is_mnemonic w ≡ false → directive_of w ≡ Some d → ((next : ℕ) → directive_met line tokens d next ≡ met line tokens want.Expression want.Nothing next) → ((next : ℕ) → directive_form line tokens d next ≡ and_then (expression_line line tokens next) (λ e. Ok (with_value d e))) → with_value d e ≡ b → IsTree e → Stands line tokens at (name_word w ∷ expr_words e []) → said line tokens at ≡ Ok b
-value_here line tokens at w d e b written none is met' form same tree' h =
+value_here : (line : List ℕ) (tokens : List Token) (at : ℕ) (w : List ℕ) (d : Directive) (e : Tree) (b : BodyTree) → name_of w ≡ Some w → directive_of w ≡ Some d → ((next : ℕ) → directive_met line tokens d next ≡ met line tokens want.Expression want.Nothing next) → ((next : ℕ) → directive_form line tokens d next ≡ and_then (expression_line line tokens next) (λ e. Ok (with_value d e))) → with_value d e ≡ b → IsTree e → Stands line tokens at (name_word w ∷ expr_words e []) → said line tokens at ≡ Ok b
+value_here line tokens at w d e b written is met' form same tree' h =
     spoken_here line tokens at w (expr_words e []) written (expr_no_definition e [] tree') h
-    ∙ directive_here line tokens w d (at + 1) b none is (met' (at + 1) ∙ line_met line tokens (at + 1) e tree' (behind h))
+    ∙ directive_here line tokens w d (at + 1) b is (met' (at + 1) ∙ line_met line tokens (at + 1) e tree' (behind h))
     (form (at + 1) ∙ ap (λ r. and_then r (λ e. Ok (with_value d e))) (line_read line tokens (at + 1) e tree' (behind h)) ∙ ap Ok same)
 
 -- instructions
-form_group : (g : Option Group) (a b c : Shape) → fits_group g a b c ≡ true → is_a_group g ≡ true
-form_group None a b c h = absurd (cc h)
-form_group (Some g) a b c h = refl
-
 mnemonic_is : (m : List ℕ) (os : List OperandTree) → has_form m os ≡ true → is_mnemonic m ≡ true
-mnemonic_is m [] h = form_group (group_of m) _ _ _ h
-mnemonic_is m (a ∷ []) h = form_group (group_of m) _ _ _ h
-mnemonic_is m (a ∷ b ∷ []) h = form_group (group_of m) _ _ _ h
-mnemonic_is m (a ∷ b ∷ c ∷ []) h = form_group (group_of m) _ _ _ h
+mnemonic_is m [] h = has_mnemonic m _ _ _ h
+mnemonic_is m (a ∷ []) h = has_mnemonic m _ _ _ h
+mnemonic_is m (a ∷ b ∷ []) h = has_mnemonic m _ _ _ h
+mnemonic_is m (a ∷ b ∷ c ∷ []) h = has_mnemonic m _ _ _ h
 mnemonic_is m (a ∷ b ∷ c ∷ d ∷ more) h = absurd (cc h)
 
 some_operand : (o : OperandTree) (rest : List Word) → 0 < length (operand_words o rest)
@@ -231,34 +228,43 @@ operands_read line tokens m at (a ∷ b ∷ c ∷ []) form is h =
     third_read line tokens last a b c is.1.1.0 u))
 operands_read line tokens m at (a ∷ b ∷ c ∷ d ∷ more) form is h = absurd (cc form)
 
+-- what begins an operand is no text
+begins_no_text : (s : Option Symbol) → begins_operand s ≡ true → is_met want.First s ≡ true
+begins_no_text (Some symbols.Text) h = absurd (cc h)
+begins_no_text s h = refl
+
+no_text : (line : List ℕ) (tokens : List Token) (os : List OperandTree) → Each IsOperand os → is_met want.First (first (list_words operand_words os)) ≡ true
+no_text line tokens [] all = refl
+no_text line tokens (a ∷ more) all = begins_no_text (first (list_words operand_words (a ∷ more))) (list_begins line tokens want.Operand IsOperand operand_words (operands_met line tokens) a more all.0)
+
 code_here : (line : List ℕ) (tokens : List Token) (at : ℕ) (m : List ℕ) (os : List OperandTree) → IsCode m os → Stands line tokens at (name_word m ∷ list_words operand_words os) → said line tokens at ≡ Ok (body.Code m os)
 code_here line tokens at m os is h =
     let ws = list_words operand_words os in
     let s = behind h in
     spoken_here line tokens at m ws is.written (operands_no_definition os is.each) h
-    ∙ ap (λ b. cond b (and_then (met line tokens want.Nothing want.Operand (at + 1)) (λ _. instruction line tokens m (at + 1))) (or_no_directive line tokens (at + 1) (directive_of m))) (mnemonic_is m os is.form)
-    ∙ ap (λ r. and_then r (λ _. instruction line tokens m (at + 1))) (met_first line tokens want.Nothing want.Operand (at + 1) ws s refl (list_met line tokens want.Operand IsOperand operand_words (operands_met line tokens) os is.each (at + 1) s))
+    ∙ ap (λ b. cond b (and_then (met line tokens want.First want.Operand (at + 1)) (λ _. instruction line tokens m (at + 1))) (or_no_directive line tokens (at + 1) (directive_of m))) (mnemonic_is m os is.form)
+    ∙ ap (λ r. and_then r (λ _. instruction line tokens m (at + 1))) (met_first line tokens want.First want.Operand (at + 1) ws s (no_text line tokens os is.each) (list_met line tokens want.Operand IsOperand operand_words (operands_met line tokens) os is.each (at + 1) s))
     ∙ ap (λ r. and_then r (λ os. cond (has_form m os) (Ok (body.Code m os)) (Err 11))) (operands_read line tokens m (at + 1) os is.form is.each s)
     ∙ ap (λ b. cond b (Ok (body.Code m os)) (Err 11)) is.form
 
 -- DB and DW
 db_here : (line : List ℕ) (tokens : List Token) (at : ℕ) (i : ItemTree) (more : List ItemTree) → IsItem want.Item i → Each (IsItem want.Item) more → Stands line tokens at (name_word (codes "DB") ∷ list_words item_words (i ∷ more)) → said line tokens at ≡ Ok (body.Db (i ∷ more))
-unfolding group_of directive_of
+unfolding directive_of
 db_here line tokens at i more is all h =
     let ws = list_words item_words (i ∷ more) in
     let s = behind h in
     spoken_here line tokens at (codes "DB") ws refl (items_no_definition want.Item (i ∷ more) (is, all)) h
-    ∙ directive_here line tokens (codes "DB") directive.Db (at + 1) (body.Db (i ∷ more)) refl refl
+    ∙ directive_here line tokens (codes "DB") directive.Db (at + 1) (body.Db (i ∷ more)) refl
     (met_first line tokens want.Item want.Item (at + 1) ws s (list_begins line tokens want.Item (IsItem want.Item) item_words (items_met line tokens) i more is) (list_met line tokens want.Item (IsItem want.Item) item_words (items_met line tokens) (i ∷ more) (is, all) (at + 1) s))
     (ap (λ r. and_then r (λ items. Ok (body.Db items))) (items_here line tokens want.Item (at + 1) i more is all s))
 
 dw_here : (line : List ℕ) (tokens : List Token) (at : ℕ) (i : ItemTree) (more : List ItemTree) → IsItem want.Expression i → Each (IsItem want.Expression) more → Stands line tokens at (name_word (codes "DW") ∷ list_words item_words (i ∷ more)) → said line tokens at ≡ Ok (body.Dw (i ∷ more))
-unfolding group_of directive_of
+unfolding directive_of
 dw_here line tokens at i more is all h =
     let ws = list_words item_words (i ∷ more) in
     let s = behind h in
     spoken_here line tokens at (codes "DW") ws refl (items_no_definition want.Expression (i ∷ more) (is, all)) h
-    ∙ directive_here line tokens (codes "DW") directive.Dw (at + 1) (body.Dw (i ∷ more)) refl refl
+    ∙ directive_here line tokens (codes "DW") directive.Dw (at + 1) (body.Dw (i ∷ more)) refl
     (met_first line tokens want.Expression want.Expression (at + 1) ws s (list_begins line tokens want.Expression (IsItem want.Expression) item_words (values_met line tokens) i more is) (list_met line tokens want.Expression (IsItem want.Expression) item_words (values_met line tokens) (i ∷ more) (is, all) (at + 1) s))
     (ap (λ r. and_then r (λ items. Ok (body.Dw items))) (items_here line tokens want.Expression (at + 1) i more is all s))
 
@@ -275,10 +281,10 @@ names_closed line tokens (a ∷ []) all at h = name_closed line tokens at a all.
 names_closed line tokens (a ∷ b ∷ more) all at h = plain_closed (name_opens a all.0) h (plain_closed refl (behind h) (names_closed line tokens (b ∷ more) all.1 (at + 1 + 1) (behind (behind h))))
 
 end_here : (line : List ℕ) (tokens : List Token) (at : ℕ) → Stands line tokens at (name_word (codes "END") ∷ []) → said line tokens at ≡ Ok body.End
-unfolding group_of directive_of
+unfolding directive_of
 end_here line tokens at h =
     spoken_here line tokens at (codes "END") [] refl refl h
-    ∙ directive_here line tokens (codes "END") directive.End (at + 1) body.End refl refl
+    ∙ directive_here line tokens (codes "END") directive.End (at + 1) body.End refl
     ((closed_end (behind h)).steps (length tokens - (at + 1)))
     (ap (λ b. cond b (Ok body.End) (Err 12)) (ends (behind h)))
 
@@ -288,28 +294,28 @@ name_line_here line tokens at name is h =
     ∙ ap (λ b. cond b (Ok name) (Err 12)) (ends (behind h))
 
 rseg_here : (line : List ℕ) (tokens : List Token) (at : ℕ) (name : List ℕ) → IsLeafName name → Stands line tokens at (name_word (codes "RSEG") ∷ name_word name ∷ []) → said line tokens at ≡ Ok (body.Rseg name)
-unfolding group_of directive_of
+unfolding directive_of
 rseg_here line tokens at name is h =
     spoken_here line tokens at (codes "RSEG") (name_word name ∷ []) refl (name_no_definition name [] is) h
-    ∙ directive_here line tokens (codes "RSEG") directive.Rseg (at + 1) (body.Rseg name) refl refl
+    ∙ directive_here line tokens (codes "RSEG") directive.Rseg (at + 1) (body.Rseg name) refl
     ((name_closed line tokens (at + 1) name is (behind h)).steps (length tokens - (at + 1)))
     (ap (λ r. and_then r (λ name. Ok (with_name directive.Rseg name))) (name_line_here line tokens (at + 1) name is (behind h)))
 
 module_here : (line : List ℕ) (tokens : List Token) (at : ℕ) (name : List ℕ) → IsLeafName name → Stands line tokens at (name_word (codes "NAME") ∷ name_word name ∷ []) → said line tokens at ≡ Ok (body.ModuleName name)
-unfolding group_of directive_of
+unfolding directive_of
 module_here line tokens at name is h =
     spoken_here line tokens at (codes "NAME") (name_word name ∷ []) refl (name_no_definition name [] is) h
-    ∙ directive_here line tokens (codes "NAME") directive.Name (at + 1) (body.ModuleName name) refl refl
+    ∙ directive_here line tokens (codes "NAME") directive.Name (at + 1) (body.ModuleName name) refl
     ((name_closed line tokens (at + 1) name is (behind h)).steps (length tokens - (at + 1)))
     (ap (λ r. and_then r (λ name. Ok (with_name directive.Name name))) (name_line_here line tokens (at + 1) name is (behind h)))
 
 public_here : (line : List ℕ) (tokens : List Token) (at : ℕ) (name : List ℕ) (more : List (List ℕ)) → IsLeafName name → Each IsLeafName more → Stands line tokens at (name_word (codes "PUBLIC") ∷ list_words name_words (name ∷ more)) → said line tokens at ≡ Ok (body.Public (name ∷ more))
-unfolding group_of directive_of
+unfolding directive_of
 public_here line tokens at name more is all h =
     let ws = list_words name_words (name ∷ more) in
     let s = behind h in
     spoken_here line tokens at (codes "PUBLIC") ws refl (names_no_definition (name ∷ more) (is, all)) h
-    ∙ directive_here line tokens (codes "PUBLIC") directive.Public (at + 1) (body.Public (name ∷ more)) refl refl
+    ∙ directive_here line tokens (codes "PUBLIC") directive.Public (at + 1) (body.Public (name ∷ more)) refl
     ((names_closed line tokens (name ∷ more) (is, all) (at + 1) s).steps (length tokens - (at + 1)))
     (ap (λ r. and_then r (λ names. Ok (body.Public names))) (names_here line tokens (at + 1) name more is all s))
 
@@ -318,21 +324,16 @@ extrn_first line tokens at x [] h = extrn_here line tokens at x.1 _ h
 extrn_first line tokens at x (y ∷ more) h = extrn_here line tokens at x.1 _ h
 
 extrns_here : (line : List ℕ) (tokens : List Token) (at : ℕ) (x : List ℕ × Kind) (more : List (List ℕ × Kind)) → IsExtern x → Each IsExtern more → Stands line tokens at (name_word (codes "EXTRN") ∷ list_words extern_words (x ∷ more)) → said line tokens at ≡ Ok (body.Extrn (x ∷ more))
-unfolding group_of directive_of
+unfolding directive_of
 extrns_here line tokens at x more is all h =
     let s = behind h in
     extrn_first line tokens at x more h
-    ∙ directive_here line tokens (codes "EXTRN") directive.Extrn (at + 1) (body.Extrn (x ∷ more)) refl refl
+    ∙ directive_here line tokens (codes "EXTRN") directive.Extrn (at + 1) (body.Extrn (x ∷ more)) refl
     (ap (λ b. cond b (Err 12) (all_closed (length tokens - (at + 1)) line tokens (at + 1))) (none_defined line (x ∷ more) (is, all) (drop (at + 1) tokens) s.are)
     ∙ (externs_closed line tokens (x ∷ more) (is, all) (at + 1) s).steps (length tokens - (at + 1)))
     (ap (λ r. and_then r (λ externs. Ok (body.Extrn externs))) (externs_here line tokens (at + 1) x more is all s))
 
 -- CSEG and its kin
-select_no_mnemonic : (k : Kind) → is_mnemonic (select_word k) ≡ false
-unfolding group_of
-select_no_mnemonic kind.Code = refl
-select_no_mnemonic k = refl
-
 at_no_definition : (e : Option Tree) → NoDefinition (at_words e)
 unfolding definition_of kind_of
 at_no_definition None = refl
@@ -357,7 +358,7 @@ select_at line tokens k at (Some e) is h =
 select_here : (line : List ℕ) (tokens : List Token) (at : ℕ) (k : Kind) (e : Option Tree) → IsSelected k → IsAt e → Stands line tokens at (name_word (select_word k) ∷ at_words e) → said line tokens at ≡ Ok (body.Select k e)
 select_here line tokens at k e is tree' h =
     spoken_here line tokens at (select_word k) (at_words e) (select_written k) (at_no_definition e) h
-    ∙ directive_here line tokens (select_word k) (directive.Select k) (at + 1) (body.Select k e) (select_no_mnemonic k) is
+    ∙ directive_here line tokens (select_word k) (directive.Select k) (at + 1) (body.Select k e) is
     (select_met_at line tokens (at + 1) e tree' (behind h)) (select_at line tokens k (at + 1) e tree' (behind h))
 
 -- definitions
@@ -413,14 +414,14 @@ unfolding operator_of is_language_word
 overlayable_closed line tokens at true h = plain_closed refl h (closed_end (behind h))
 overlayable_closed line tokens at false h = closed_end h
 
-overlayable_read : (line : List ℕ) (tokens : List Token) (at : ℕ) (name : List ℕ) (k : Kind) (r : Reloc) (b : Bool) → may_be k r b ≡ true → Stands line tokens at (overlayable_words b) → segment_of line tokens name k r (overlayable_at line tokens at) ≡ Ok (body.Segment name k r b)
+overlayable_read : (line : List ℕ) (tokens : List Token) (at : ℕ) (name : List ℕ) (k : Kind) (r : Reloc) (b : Bool) → is_allowed k r b ≡ true → Stands line tokens at (overlayable_words b) → segment_of line tokens name k r (overlayable_at line tokens at) ≡ Ok (body.Segment name k r b)
 overlayable_read line tokens at name k r true may h =
     ap (λ w. segment_of line tokens name k r (cond (is_overlayable w) (true, at + 1) (false, at))) (word_here h)
-    ∙ ap (λ b. cond (b && may_be k r true) (Ok (body.Segment name k r true)) (Err 12)) (ends (behind h))
+    ∙ ap (λ b. cond (b && is_allowed k r true) (Ok (body.Segment name k r true)) (Err 12)) (ends (behind h))
     ∙ ap (λ b. cond b (Ok (body.Segment name k r true)) (Err 12)) may
 overlayable_read line tokens at name k r false may h =
     ap (λ w. segment_of line tokens name k r (cond (is_overlayable w) (true, at + 1) (false, at))) (word_here h)
-    ∙ ap (λ b. cond (b && may_be k r false) (Ok (body.Segment name k r false)) (Err 12)) (ends h)
+    ∙ ap (λ b. cond (b && is_allowed k r false) (Ok (body.Segment name k r false)) (Err 12)) (ends h)
     ∙ ap (λ b. cond b (Ok (body.Segment name k r false)) (Err 12)) may
 
 segment_read : (line : List ℕ) (tokens : List Token) (at : ℕ) (name : List ℕ) (k : Kind) (r : Reloc) (b : Bool) → IsSegment name k r b → Stands line tokens at (name_word (kind_word k) ∷ name_word (reloc_word r) ∷ overlayable_words b) → segment line tokens name at ≡ Ok (body.Segment name k r b)
@@ -443,7 +444,7 @@ segment_here line tokens at name k r b begin is h =
 
 -- what the words of a body say is the body
 pub said_read : (line : List ℕ) (tokens : List Token) (at : ℕ) (b : BodyTree) → IsBody at b → Stands line tokens at (body_words b) → said line tokens at ≡ Ok b
-unfolding group_of directive_of
+unfolding directive_of
 said_read line tokens at body.Empty is h = ap (λ b. cond b (Ok body.Empty) (by_word line tokens at (word_at line tokens at))) (ends h)
 said_read line tokens at body.Ignored is h = absurd is
 said_read line tokens at (body.Include name) is h = absurd is
@@ -454,10 +455,10 @@ said_read line tokens at (body.Db []) is h = absurd is
 said_read line tokens at (body.Db (i ∷ more)) is h = db_here line tokens at i more is.0 is.1 h
 said_read line tokens at (body.Dw []) is h = absurd is
 said_read line tokens at (body.Dw (i ∷ more)) is h = dw_here line tokens at i more is.0 is.1 h
-said_read line tokens at (body.Ds e) is h = value_here line tokens at (codes "DS") directive.Ds e (body.Ds e) refl refl refl (λ n. refl) (λ n. refl) refl is h
-said_read line tokens at (body.Dbit e) is h = value_here line tokens at (codes "DBIT") directive.Dbit e (body.Dbit e) refl refl refl (λ n. refl) (λ n. refl) refl is h
-said_read line tokens at (body.Org e) is h = value_here line tokens at (codes "ORG") directive.Org e (body.Org e) refl refl refl (λ n. refl) (λ n. refl) refl is h
-said_read line tokens at (body.Using e) is h = value_here line tokens at (codes "USING") directive.Using e (body.Using e) refl refl refl (λ n. refl) (λ n. refl) refl is h
+said_read line tokens at (body.Ds e) is h = value_here line tokens at (codes "DS") directive.Ds e (body.Ds e) refl refl (λ n. refl) (λ n. refl) refl is h
+said_read line tokens at (body.Dbit e) is h = value_here line tokens at (codes "DBIT") directive.Dbit e (body.Dbit e) refl refl (λ n. refl) (λ n. refl) refl is h
+said_read line tokens at (body.Org e) is h = value_here line tokens at (codes "ORG") directive.Org e (body.Org e) refl refl (λ n. refl) (λ n. refl) refl is h
+said_read line tokens at (body.Using e) is h = value_here line tokens at (codes "USING") directive.Using e (body.Using e) refl refl (λ n. refl) (λ n. refl) refl is h
 said_read line tokens at (body.Segment name k r b) is h = segment_here line tokens at name k r b is.0 is.1 h
 said_read line tokens at (body.Rseg name) is h = rseg_here line tokens at name is h
 said_read line tokens at (body.Select k e) is h = select_here line tokens at k e is.0 is.1 h

@@ -1,5 +1,5 @@
 -- Printed lists of names and of items read back.
-use Rattle.std.proofs.Common.{◌≡◌, ℕ, zero, suc, ◌+◌, ◌-◌, ◌<◌, ◌≤◌, ◌==◌, ◌&&◌, ◌||◌, Bool, true, false, cond, not, max, nat_le, List, [], ◌∷◌, ◌++◌, length, take, Option, Some, None, Result, Ok, Err, refl, sym, ap, ◌∙◌, arith, subst, append_assoc, append-nil, length-append, slice_get}
+use Rattle.std.proofs.Common.{◌≡◌, ℕ, zero, suc, ◌+◌, ◌-◌, ◌<◌, ◌≤◌, ◌==◌, ◌&&◌, ◌||◌, Bool, true, false, cond, max, nat_le, List, [], ◌∷◌, ◌++◌, length, take, Option, Some, None, Result, Ok, Err, refl, sym, ap, ◌∙◌, arith, subst, append_assoc, append-nil, length-append, slice_get}
 use Rattle.std.specs.List.{slice_range}
 use Rattle.std.proofs.lemmas.Grind.{common_steps}
 use Rattle.m51_lex.specs.declared.token.Token.{Token}
@@ -39,7 +39,7 @@ no_infix (Some symbols.Minus) h = absurd (cc h)
 no_infix (Some (symbols.Infix op)) h = absurd (cc h)
 no_infix (Some s) h = refl
 
--- what an item is, with the place behind it
+-- what an item is, with the place after it
 pub record ItemRead {A : Type 0} (line : List ℕ) (tokens : List Token) (item : ℕ → Result (A × ℕ) ℕ) (at : ℕ) (a : A) (rest : List Word) : Type 0 where
   pub next : ℕ
   pub reads : item at ≡ Ok (a, next)
@@ -50,7 +50,7 @@ pub record PartsRead {A : Type 0} (line : List ℕ) (tokens : List Token) (item 
   pub longer : (a : A) (rest : List Word) → suc (length rest) ≤ length (words a rest)
   pub part : (at : ℕ) (a : A) (rest : List Word) → P a → ends_part (first rest) ≡ true → Stands line tokens at (words a rest) → ItemRead line tokens item at a rest
 
--- the words of the parts behind the first
+-- the words of the parts after the first
 abbrev pub more_words : {A : Type 0} → (A → List Word → List Word) → List A → List Word
 more_words words [] = []
 more_words words (a ∷ more) = comma_word ∷ list_words words (a ∷ more)
@@ -237,10 +237,10 @@ no_operator (Some symbols.Minus) h = absurd (cc h)
 no_operator (Some (symbols.Infix op)) h = absurd (cc h)
 no_operator (Some s) h = refl
 
--- a text wants nothing behind it but that no operator stands there
+-- a text wants nothing after it but that no operator stands there
 text_step_by : (line : List ℕ) (tokens : List Token) (at : ℕ) (cs : List ℕ) (rest : List Word) (o : Option ℕ) → symbol (text_word cs) ≡ number_or_text o → infix_operator (first rest) ≡ None → Stands line tokens at (text_word cs ∷ rest) → step_by line tokens want.Item at (step_of (Some (number_or_text o))) ≡ Ok (at + 1)
 text_step_by line tokens at cs rest (Some n) is end h = ap place_behind (leaf_read line tokens at (tree.Number n) (text_word cs) rest (ap (λ s. leaf_of (Some s)) is) end h)
-text_step_by line tokens at cs rest None is end h = ap (λ s. cond (not (is_operator s)) (Ok (at + 1)) (Err 6)) (symbol_here (behind h)) ∙ ap (λ b. cond (not b) (Ok (at + 1)) (Err 6)) (no_operator (first rest) end)
+text_step_by line tokens at cs rest None is end h = ap (λ s. cond (is_operator s) (Err 6) (Ok (at + 1))) (symbol_here (behind h)) ∙ ap (λ b. cond b (Err 6) (Ok (at + 1))) (no_operator (first rest) end)
 
 item_met : (line : List ℕ) (tokens : List Token) (at : ℕ) (i : ItemTree) (rest : List Word) → IsItem want.Item i → infix_operator (first rest) ≡ None → Stands line tokens at (item_words i rest) → MetBehind line tokens want.Item rest → AllMet line tokens want.Item at
 item_met line tokens at (Value e) rest is end h more = expr_met line tokens want.Item at e rest is end h more

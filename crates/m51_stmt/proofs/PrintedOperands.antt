@@ -95,7 +95,7 @@ operand_cut (Imm e) rest is more = (hash_cut, expr_cut e rest is more)
 operand_cut (Plain e) rest is more = expr_cut e rest is more
 operand_cut (NotBit e) rest is more = (over_cut, expr_cut e rest is more)
 
--- an operand that stands at a place, with the place behind it
+-- an operand that stands at a place, with the place after it
 pub record OperandRead (line : List ℕ) (tokens : List Token) (at : ℕ) (o : OperandTree) (rest : List Word) : Type 0 where
   pub next : ℕ
   pub reads : operand_at line tokens at ≡ Ok (o, next)
@@ -148,7 +148,7 @@ start_at : (line : List ℕ) (tokens : List Token) (at : ℕ) (rest : List Word)
 unfolding operand_at
 start_at line tokens at rest h = ap (λ s. by_start line tokens at (start_of s)) (symbol_here h)
 
--- the operand of two words behind an @
+-- the operand of two words after an @
 two : (line : List ℕ) (tokens : List Token) (at : ℕ) (w : List ℕ) (b : Behind) (o : OperandTree) (rest : List Word) → behind_symbol (Some (symbol (name_word w))) ≡ b → ((x y : Behind) → indirect b x y ≡ Some (o, 2)) → Stands line tokens at (sign_word 0x40 ∷ name_word w ∷ rest) → OperandRead line tokens at o rest
 two line tokens at w b o rest is gives h = record {
   next = at + 2;
@@ -210,7 +210,7 @@ behind_r1 : behind_symbol (Some (symbol (name_word (codes "R1")))) ≡ behinds.R
 unfolding operator_of is_language_word behind_word
 behind_r1 = refl
 
--- a printed operand is read, where no operator stands behind it
+-- a printed operand is read, where no operator stands after it
 pub operand_read : (line : List ℕ) (tokens : List Token) (at : ℕ) (o : OperandTree) (rest : List Word) → IsOperand o → infix_operator (first rest) ≡ None → Stands line tokens at (operand_words o rest) → OperandRead line tokens at o rest
 operand_read line tokens at A rest is end h = alone line tokens at (codes "A") A rest alone_a h
 operand_read line tokens at Ab rest is end h = alone line tokens at (codes "AB") Ab rest alone_ab h
@@ -255,7 +255,7 @@ register_step : (n : ℕ) → n < 8 → step_of (Some (symbol (name_word (regist
 unfolding operator_of is_language_word
 register_step n h = by_register (λ n. step_of (Some (symbol (name_word (register_word n)))) ≡ step_is.Nothing) refl refl refl refl refl refl refl refl n h
 
--- a word behind an @ that is no A is passed over with it
+-- a word after an @ that is no A is passed over with it
 two_met : (line : List ℕ) (tokens : List Token) (at : ℕ) (w : List ℕ) (b : Behind) (rest : List Word) → behind_symbol (Some (symbol (name_word w))) ≡ b → ((x : Behind) → after_at b x ≡ 1) → step_of (Some (symbol (name_word w))) ≡ step_is.Nothing → Stands line tokens at (sign_word 0x40 ∷ name_word w ∷ rest) → MetBehind line tokens want.Operand rest → AllMet line tokens want.Operand at
 two_met line tokens at w b rest is one step h more =
     let second : AllMet line tokens want.Operand (at + 1) = word_met step (behind h) (more.at_next (at + 1 + 1) (behind (behind h))) in

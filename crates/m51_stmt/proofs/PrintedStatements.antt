@@ -46,7 +46,7 @@ IsControl (body.Include name) = (0 < length name) × (list_all is_inside name �
 IsControl (body.Mod51 on) = Unit {0}
 IsControl b = ⊥
 
--- a statement that can be read: a control without a label, or a body at its place behind the label
+-- a statement that can be read: a control without a label, or a body at its place after the label
 abbrev pub IsLine : Option (List ℕ) → BodyTree → Type 0
 IsLine None b = IsControl b ⊎ IsBody 0 b
 IsLine (Some name) b = IsLabel name × IsBody 2 b
@@ -67,7 +67,7 @@ no_colon_expr : (s : Option Symbol) → begins_expression s ≡ true → is_colo
 no_colon_expr (Some symbols.Colon) h = absurd (cc h)
 no_colon_expr s h = refl
 
--- the words behind the first
+-- the words after the first
 abbrev behind_first : List Word → List Word
 behind_first [] = []
 behind_first (w ∷ ws) = ws
@@ -220,7 +220,7 @@ bare_printed b is (inl empty) = let P : BodyTree → Type 0 = λ b. any_line (st
 bare_printed b is (inr begins) =
     ap any_line (sym (body_laid 0 b is)) ∙ begun_line (body_words b) begins ∙ tokens_line (body_words b) (body_cut 0 b is) (bare b) (bare_statement b is begins)
 
--- behind a label
+-- after a label
 abbrev labelled_words : List ℕ → BodyTree → List Word
 labelled_words name b = name_word name ∷ sign_word 0x3A ∷ body_words b
 

@@ -183,7 +183,7 @@ written line tokens at (tree.Two op left right) rest is h =
     let ranked : Writes s r (at + 1) (tree.Two op left right) m.next = Between (looser 8 r (omega (arith, low)) (omega arith) l.writes) sign (looser 8 (r + 1) low (omega arith) m.writes) in
     record { next = m.next + 1; writes = Parens refl (ap is_open (symbol_here h)) (looser r 0 (omega arith) (omega (arith, low)) ranked) (ap is_close (symbol_here m.then)) refl; then = behind m.then }
 
--- an expression that stands at a place, with the place behind it
+-- an expression that stands at a place, with the place after it
 pub record IsRead (line : List ℕ) (tokens : List Token) (at : ℕ) (e : Tree) (rest : List Word) : Type 0 where
   pub next : ℕ
   pub reads : expression_at line tokens at ≡ Some (e, next)
@@ -192,7 +192,7 @@ pub record IsRead (line : List ℕ) (tokens : List Token) (at : ℕ) (e : Tree) 
 no_operator : (s : Option Symbol) (r : ℕ) → infix_operator s ≡ None → infix_of s r ≡ None
 no_operator s r h = ap (of_rank infix_rank r) h
 
--- a printed expression is read, where no operator stands behind it
+-- a printed expression is read, where no operator stands after it
 pub expr_read : (line : List ℕ) (tokens : List Token) (at : ℕ) (e : Tree) (rest : List Word) → IsTree e → infix_operator (first rest) ≡ None → Stands line tokens at (expr_words e rest) → IsRead line tokens at e rest
 expr_read line tokens at e rest is end h =
     let w = written line tokens at e rest is h in
@@ -202,7 +202,7 @@ expr_read line tokens at e rest is end h =
       then = w.then;
     }
 
--- a word that is a tree alone is read, where no operator stands behind it
+-- a word that is a tree alone is read, where no operator stands after it
 pub leaf_read : (line : List ℕ) (tokens : List Token) (at : ℕ) (e : Tree) (w : Word) (rest : List Word) → leaf_of (Some (symbol w)) ≡ Some e → infix_operator (first rest) ≡ None → Stands line tokens at (w ∷ rest) → expression_at line tokens at ≡ Some (e, at + 1)
 leaf_read line tokens at e w rest leaf end h =
     let s = symbol_at line tokens in

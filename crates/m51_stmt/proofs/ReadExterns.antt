@@ -15,11 +15,10 @@ use Rattle.m51_expr.specs.Symbol.{symbol_at, symbol_of, symbol_by, word_or_other
 use Rattle.m51_expr.specs.Words.{is_reserved}
 use Rattle.m51_expr.specs.Ranks.{is_open, is_close}
 use Rattle.m51_stmt.specs.declared.externs.Region.{Region}
-use Rattle.m51_stmt.specs.declared.externs.Region.TheVariants as region
 use Rattle.m51_stmt.specs.Answer.{or_fault}
 use Rattle.m51_stmt.specs.Words.{is_comma, word_by, word_of, word_at}
 use Rattle.m51_stmt.specs.Lists.{name_in, name_at, name_or_12}
-use Rattle.m51_stmt.specs.Externs.{group_at, group_or_nothing, after_group, after_name, go_on, more_externs, first_group, externs_at, region_after, is_reserved_word, is_reserved_token, is_at_name, defines_reserved}
+use Rattle.m51_stmt.specs.Externs.{group_at, group_or_nothing, after_group, after_name, go_on, more_externs, first_group, externs_at, region_after, is_reserved_word, is_reserved_token, outside, inside, naming, defines_reserved}
 use Rattle.m51_stmt.specs.Kinds.{extern_kind_of}
 use Rattle.m51_stmt.proofs.AllMet.{Each}
 use Rattle.m51_stmt.proofs.PrintedExterns.{IsFree, IsExtern}
@@ -187,7 +186,7 @@ front_of (x ∷ xs) zero t h = ap (λ y. y ∷ xs) (some_token x t h)
 front_of (x ∷ xs) (suc at) t h = let same : suc (at + 1) ≡ suc at + 1 = omega arith in front_of xs at t h ∙ ap (λ n. t ∷ drop n (x ∷ xs)) same
 
 record Onward (line : List ℕ) (tokens : List Token) (r : Region) (at : ℕ) (t : Token) : Type 0 where
-  free : (is_at_name r && is_reserved_token line t) ≡ false
+  free : (r.at_name && is_reserved_token line t) ≡ false
   more : Unreserved line tokens (region_after r t.what) (at + 1)
 
 cond_false : (b x : Bool) → cond b true x ≡ false → (b ≡ false) × (x ≡ false)
@@ -197,7 +196,7 @@ cond_false false x h = (refl, h)
 onward : (line : List ℕ) (tokens : List Token) (r : Region) (at : ℕ) (t : Token) → slice_get tokens at ≡ Some t → Unreserved line tokens r at → Onward line tokens r at t
 onward line tokens r at t got h =
     let e : defines_reserved line (t ∷ drop (at + 1) tokens) r ≡ false = ap (λ ts. defines_reserved line ts r) (sym (front_of tokens at t got)) ∙ h in
-    let both = cond_false (is_at_name r && is_reserved_token line t) (defines_reserved line (drop (at + 1) tokens) (region_after r t.what)) e in
+    let both = cond_false (r.at_name && is_reserved_token line t) (defines_reserved line (drop (at + 1) tokens) (region_after r t.what)) e in
     record { free = both.0; more = both.1 }
 
 onward_to : (line : List ℕ) (tokens : List Token) (r next : Region) (at : ℕ) (t : Token) (w : What) → slice_get tokens at ≡ Some t → t.what ≡ w → region_after r w ≡ next → Unreserved line tokens r at → Unreserved line tokens next (at + 1)
@@ -270,12 +269,12 @@ reserved_name line tokens at name w = ap (λ (x : What). is_reserved_word (word_
 -- a name that is to be defined is no reserved word
 record FreeName (line : List ℕ) (tokens : List Token) (at : ℕ) (name : List ℕ) : Type 0 where
   free : is_reserved name ≡ false
-  more : Unreserved line tokens region.Inside (at + 1)
+  more : Unreserved line tokens inside (at + 1)
 
-free_name : (line : List ℕ) (tokens : List Token) (at : ℕ) (name : List ℕ) → name_at line tokens at ≡ Some name → Unreserved line tokens region.AtName at → FreeName line tokens at name
+free_name : (line : List ℕ) (tokens : List Token) (at : ℕ) (name : List ℕ) → name_at line tokens at ≡ Some name → Unreserved line tokens naming at → FreeName line tokens at name
 free_name line tokens at name is h =
     let w = name_token line tokens at name is in
-    record { free = sym (reserved_name line tokens at name w) ∙ (onward line tokens region.AtName at w.token w.got h).free; more = onward_to line tokens region.AtName region.Inside at w.token what.Name w.got w.is refl h }
+    record { free = sym (reserved_name line tokens at name w) ∙ (onward line tokens naming at w.token w.got h).free; more = onward_to line tokens naming inside at w.token what.Name w.got w.is refl h }
 
 fault_name : (o : Option (List ℕ)) (name : List ℕ) → or_fault 12 o ≡ Ok name → o ≡ Some name
 fault_name None name h = absurd (cc h)
@@ -289,38 +288,38 @@ kind_word_is : (o : Option (List ℕ)) (k : Kind) → option_and_then extern_kin
 kind_word_is None k h = absurd (cc h)
 kind_word_is (Some w) k h = (w, refl)
 
--- behind the word and the parenthesis of a group a name is to stand
-group_on : (line : List ℕ) (tokens : List Token) (at : ℕ) (k : Kind) → group_at line tokens at ≡ Some k → Unreserved line tokens region.Outside at → Unreserved line tokens region.AtName (at + 1 + 1)
+-- after the word and the parenthesis of a group a name is to stand
+group_on : (line : List ℕ) (tokens : List Token) (at : ℕ) (k : Kind) → group_at line tokens at ≡ Some k → Unreserved line tokens outside at → Unreserved line tokens naming (at + 1 + 1)
 group_on line tokens at k h free =
     let both = some_kind (is_open (symbol_at line tokens (at + 1))) (option_and_then extern_kind_of (word_at line tokens at)) k h in
     let word = kind_word_is (word_at line tokens at) k both.1 in
     let w = word_token line tokens at word.0 word.1 in
-    on_sign line tokens is_open 0x28 open_test region.Outside region.AtName (at + 1) both.0 refl
-    (onward_to line tokens region.Outside region.Outside at w.token what.Name w.got w.is refl free)
+    on_sign line tokens is_open 0x28 open_test outside naming (at + 1) both.0 refl
+    (onward_to line tokens outside outside at w.token what.Name w.got w.is refl free)
 
 moved_to : (line : List ℕ) (tokens : List Token) (r : Region) (at next : ℕ) → at ≡ next → Unreserved line tokens r at → Unreserved line tokens r next
 moved_to line tokens r at next same h = subst (Unreserved line tokens r) same h
 
 -- what reads on from a place where a name is to stand
 abbrev ReadsOn : List ℕ → List Token → (List (List ℕ × Kind) → Kind → ℕ → Result (List (List ℕ × Kind)) ℕ) → Type 0
-ReadsOn line tokens more = (done : List (List ℕ × Kind)) (k : Kind) (at : ℕ) → Each IsExtern done → Unreserved line tokens region.AtName at → IfRead (more done k at) (OneOrMore IsExtern)
+ReadsOn line tokens more = (done : List (List ℕ × Kind)) (k : Kind) (at : ℕ) → Each IsExtern done → Unreserved line tokens naming at → IfRead (more done k at) (OneOrMore IsExtern)
 
-group_good : (line : List ℕ) (tokens : List Token) (more : List (List ℕ × Kind) → Kind → ℕ → Result (List (List ℕ × Kind)) ℕ) → ReadsOn line tokens more → (done : List (List ℕ × Kind)) (k : Kind) (at : ℕ) (o : Option Kind) → group_at line tokens (at + 1 + 1 + 1) ≡ o → OneOrMore IsExtern done → Unreserved line tokens region.Outside (at + 1 + 1 + 1) → IfRead (go_on done k at (more done) (group_or_nothing o)) (OneOrMore IsExtern)
+group_good : (line : List ℕ) (tokens : List Token) (more : List (List ℕ × Kind) → Kind → ℕ → Result (List (List ℕ × Kind)) ℕ) → ReadsOn line tokens more → (done : List (List ℕ × Kind)) (k : Kind) (at : ℕ) (o : Option Kind) → group_at line tokens (at + 1 + 1 + 1) ≡ o → OneOrMore IsExtern done → Unreserved line tokens outside (at + 1 + 1 + 1) → IfRead (go_on done k at (more done) (group_or_nothing o)) (OneOrMore IsExtern)
 group_good line tokens more reads done k at None is some free = err_is
 group_good line tokens more reads done k at (Some other) is some free =
-    reads done other (at + 5) (all_of IsExtern done some) (moved_to line tokens region.AtName (at + 1 + 1 + 1 + 1 + 1) (at + 5) (omega arith) (group_on line tokens (at + 1 + 1 + 1) other is free))
+    reads done other (at + 5) (all_of IsExtern done some) (moved_to line tokens naming (at + 1 + 1 + 1 + 1 + 1) (at + 5) (omega arith) (group_on line tokens (at + 1 + 1 + 1) other is free))
 
-after_good : (line : List ℕ) (tokens : List Token) (more : List (List ℕ × Kind) → Kind → ℕ → Result (List (List ℕ × Kind)) ℕ) → ReadsOn line tokens more → (done : List (List ℕ × Kind)) (k : Kind) (at : ℕ) → OneOrMore IsExtern done → Unreserved line tokens region.Inside (at + 1) → IfRead (go_on done k at (more done) (after_name line tokens (at + 1))) (OneOrMore IsExtern)
+after_good : (line : List ℕ) (tokens : List Token) (more : List (List ℕ × Kind) → Kind → ℕ → Result (List (List ℕ × Kind)) ℕ) → ReadsOn line tokens more → (done : List (List ℕ × Kind)) (k : Kind) (at : ℕ) → OneOrMore IsExtern done → Unreserved line tokens inside (at + 1) → IfRead (go_on done k at (more done) (after_name line tokens (at + 1))) (OneOrMore IsExtern)
 after_good line tokens more reads done k at some free =
     let f = go_on done k at (more done) in
     read_cond f (OneOrMore IsExtern) (is_comma (symbol_at line tokens (at + 1))) after.Name (cond (is_close (symbol_at line tokens (at + 1))) (after_group line tokens (at + 1 + 1)) after.Nothing)
-    (λ h. reads done k (at + 2) (all_of IsExtern done some) (moved_to line tokens region.AtName (at + 1 + 1) (at + 2) (omega arith) (on_sign line tokens is_comma 0x2C comma_test region.Inside region.AtName (at + 1) h refl free)))
+    (λ h. reads done k (at + 2) (all_of IsExtern done some) (moved_to line tokens naming (at + 1 + 1) (at + 2) (omega arith) (on_sign line tokens is_comma 0x2C comma_test inside naming (at + 1) h refl free)))
     (λ _. read_cond f (OneOrMore IsExtern) (is_close (symbol_at line tokens (at + 1))) (after_group line tokens (at + 1 + 1)) after.Nothing
-    (λ h. let outside = on_sign line tokens is_close 0x29 close_test region.Inside region.Outside (at + 1) h refl free in
+    (λ h. let left = on_sign line tokens is_close 0x29 close_test inside outside (at + 1) h refl free in
     read_cond f (OneOrMore IsExtern) (nat_le (length tokens) (at + 1 + 1)) after.End (cond (is_comma (symbol_at line tokens (at + 1 + 1))) (group_or_nothing (group_at line tokens (at + 1 + 1 + 1))) after.Nothing)
     (λ _. ok_is some)
     (λ _. read_cond f (OneOrMore IsExtern) (is_comma (symbol_at line tokens (at + 1 + 1))) (group_or_nothing (group_at line tokens (at + 1 + 1 + 1))) after.Nothing
-    (λ c. group_good line tokens more reads done k at (group_at line tokens (at + 1 + 1 + 1)) refl some (on_sign line tokens is_comma 0x2C comma_test region.Outside region.Outside (at + 1 + 1) c refl outside))
+    (λ c. group_good line tokens more reads done k at (group_at line tokens (at + 1 + 1 + 1)) refl some (on_sign line tokens is_comma 0x2C comma_test outside outside (at + 1 + 1) c refl left))
     (λ _. err_is)))
     (λ _. err_is))
 
@@ -333,10 +332,10 @@ more_good line tokens good (suc n) done k at all free =
     let x : IsFree name = record { leaf = (name_good line tokens good at).holds name read; free = is.free } in
     after_good line tokens (more_externs n line tokens) (more_good line tokens good n) (done ++ (name, k) ∷ []) k at (some_pushed IsExtern done (name, k) all x) is.more)
 
-first_group_good : (line : List ℕ) (tokens : List Token) → IsTokenLine line tokens → (at : ℕ) (o : Option Kind) → group_at line tokens at ≡ o → Unreserved line tokens region.Outside at → IfRead (first_group line tokens at o) (OneOrMore IsExtern)
+first_group_good : (line : List ℕ) (tokens : List Token) → IsTokenLine line tokens → (at : ℕ) (o : Option Kind) → group_at line tokens at ≡ o → Unreserved line tokens outside at → IfRead (first_group line tokens at o) (OneOrMore IsExtern)
 first_group_good line tokens good at None is free = err_is
-first_group_good line tokens good at (Some k) is free = more_good line tokens good (length tokens - at + 1) [] k (at + 2) tt (moved_to line tokens region.AtName (at + 1 + 1) (at + 2) (omega arith) (group_on line tokens at k is free))
+first_group_good line tokens good at (Some k) is free = more_good line tokens good (length tokens - at + 1) [] k (at + 2) tt (moved_to line tokens naming (at + 1 + 1) (at + 2) (omega arith) (group_on line tokens at k is free))
 
 -- the names of EXTRN, where no reserved word is defined
-pub externs_good : (line : List ℕ) (tokens : List Token) → IsTokenLine line tokens → (at : ℕ) → Unreserved line tokens region.Outside at → IfRead (externs_at line tokens at) (OneOrMore IsExtern)
+pub externs_good : (line : List ℕ) (tokens : List Token) → IsTokenLine line tokens → (at : ℕ) → Unreserved line tokens outside at → IfRead (externs_at line tokens at) (OneOrMore IsExtern)
 externs_good line tokens good at free = first_group_good line tokens good at (group_at line tokens at) refl free

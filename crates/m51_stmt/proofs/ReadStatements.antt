@@ -1,5 +1,5 @@
 -- What a line of bytes can say: the statements that can be read.
-use Rattle.std.proofs.Common.{◌≡◌, ℕ, suc, ◌+◌, ◌-◌, ◌<◌, ◌≤◌, ◌==◌, ◌&&◌, Bool, true, false, cond, nat_le, nat_lt, List, [], ◌∷◌, length, take, drop, Option, Some, None, Result, Ok, Err, refl, sym, ap, ◌∙◌, arith, inl, inr, slice_index}
+use Rattle.std.proofs.Common.{◌≡◌, ℕ, ◌+◌, ◌-◌, ◌<◌, ◌≤◌, ◌==◌, ◌&&◌, Bool, true, false, cond, nat_le, nat_lt, List, [], ◌∷◌, length, take, drop, Option, Some, None, Result, Ok, Err, refl, sym, ap, ◌∙◌, arith, inl, inr, slice_index}
 use Rattle.std.specs.Prelude.{codes, option_and_then}
 use Rattle.std.specs.Str.{bytes_eq}
 use Rattle.std.specs.List.{list_all, prefix_len, AllByRecursion}
@@ -10,6 +10,7 @@ use Rattle.m51_cells.specs.Name.{name_of}
 use Rattle.m51_cells.specs.declared.kind.Kind.{Kind}
 use Rattle.m51_cells.specs.declared.kind.Reloc.{Reloc}
 use Rattle.m51_cells.specs.declared.kind.Reloc.TheVariants as reloc
+use Rattle.m51_cells.proofs.Passing.{front_passes}
 use Rattle.m51_lex.specs.declared.token.Token.{Token}
 use Rattle.m51_lex.specs.Tokens.{tokens_at}
 use Rattle.m51_expr.specs.Symbol.{symbol_at}
@@ -18,7 +19,6 @@ use Rattle.m51_expr.specs.Tree.{Tree}
 use Rattle.m51_expr.specs.Reading.{expression_at}
 use Rattle.std.specs.Char.{is_ascii_alphanumeric}
 use Rattle.m51_stmt.specs.declared.lack.Want.TheVariants as want
-use Rattle.m51_stmt.specs.declared.externs.Region.TheVariants as region
 use Rattle.m51_stmt.specs.declared.definitions.Definition.{Definition}
 use Rattle.m51_stmt.specs.declared.definitions.Definition.TheVariants as definition
 use Rattle.m51_stmt.specs.declared.directives.Directive.{Directive}
@@ -26,18 +26,20 @@ use Rattle.m51_stmt.specs.declared.directives.Directive.TheVariants as directive
 use Rattle.m51_stmt.specs.Answer.{or_fault}
 use Rattle.m51_stmt.specs.Words.{is_colon, word_at}
 use Rattle.m51_stmt.specs.Kinds.{kind_of, reloc_of}
-use Rattle.m51_stmt.specs.Shapes.{has_form}
+use Rattle.m51_isa.specs.Mnemonics.{is_mnemonic}
+use Rattle.m51_stmt.specs.Looks.{has_form}
 use Rattle.m51_stmt.specs.Lack.{met, all_closed}
 use Rattle.m51_stmt.specs.Operands.{operands_at, instruction}
 use Rattle.m51_stmt.specs.Lists.{name_at, name_or_12, names_at, items_at}
-use Rattle.m51_stmt.specs.Externs.{externs_at, defines_reserved}
-use Rattle.m51_stmt.specs.Definitions.{definition_of, beside_extrn, definition_at, expression_line, reloc_at, reloc_or_unit, overlayable_at, may_be, segment, is_segment, valued, definition_met, definition_form, defined}
+use Rattle.m51_stmt.specs.Externs.{externs_at, outside, defines_reserved}
+use Rattle.m51_stmt.specs.Definitions.{definition_of, beside_extrn, definition_at, expression_line, reloc_at, reloc_or_unit, overlayable_at, is_allowed, segment, is_segment, valued, definition_met, definition_form, defined}
 use Rattle.m51_stmt.specs.Directives.{select_of, directive_of, is_at, name_line, select, directive_met, directive_form}
 use Rattle.m51_stmt.specs.Control as control
 use Rattle.m51_stmt.specs.Control.{is_inside, is_blank, ends, behind_sign, if_ended, closed_at, parenthesized, alone, include, include_of, title, ignored_if, is_ignored_word, by_name}
-use Rattle.m51_stmt.specs.Lines.{is_mnemonic, spoken, or_no_directive, by_definition, by_word, said, label_at, by_label, statement, any_line}
+use Rattle.m51_stmt.specs.Lines.{spoken, or_no_directive, by_definition, by_word, said, label_at, by_label, statement, any_line}
 use Rattle.m51_stmt.specs.Printing.{reloc_word, stmt_text}
-use Rattle.m51_stmt.specs.Laws.{IsByte, PrintedReadsBack}
+use Rattle.m51_stmt.specs.Statement.{StmtTree}
+use Rattle.m51_stmt.specs.Laws.{IsByte, WritesStatement, PrintedReadsBack}
 use Rattle.m51_stmt.proofs.WordCuts.{right}
 use Rattle.m51_stmt.proofs.PrintedTrees.{IsLeafName, IsTree}
 use Rattle.m51_stmt.proofs.AllMet.{Each}
@@ -142,8 +144,8 @@ module _ (line : List ℕ) (tokens : List Token) (good : IsTokenLine line tokens
       let kinds = (ok_or 12 IsKind (option_and_then kind_of (word_at line tokens at)) (some_then kind_of IsKind (word_at line tokens at) (λ w is. kind_good w))).holds k read in
       let r = reloc_at line tokens (at + 1) in
       let o = overlayable_at line tokens r.1 in
-      ok_if 12 (nat_le (length tokens) o.1 && may_be k r.0 o.0) (λ h.
-      ok_is (begin, record { name_is = free; kind_is = kinds; reloc_is = word_reloc (at + 1); allowed = right (nat_le (length tokens) o.1) (may_be k r.0 o.0) h })))
+      ok_if 12 (nat_le (length tokens) o.1 && is_allowed k r.0 o.0) (λ h.
+      ok_is (begin, record { name_is = free; kind_is = kinds; reloc_is = word_reloc (at + 1); allowed = right (nat_le (length tokens) o.1) (is_allowed k r.0 o.0) h })))
 
   valued_good : (place : ℕ) (d : Definition) (name : List ℕ) (e : Tree) → place ≡ 0 → IsDefinition d → IsFree name → IsTree e → is_segment d ≡ false → IsBody place (valued d name e)
   valued_good place definition.Segment name e begin is free tree' no_segment = absurd (cc no_segment)
@@ -198,7 +200,7 @@ module _ (line : List ℕ) (tokens : List Token) (good : IsTokenLine line tokens
   directive_form_good at place directive.Rseg is u all = ok_then _ (IsBody place) (name_line line tokens at) (λ name read. ok_is ((name_line_good at).holds name read))
   directive_form_good at place directive.Name is u all = ok_then _ (IsBody place) (name_line line tokens at) (λ name read. ok_is ((name_line_good at).holds name read))
   directive_form_good at place directive.Public is u all = ok_then _ (IsBody place) (names_at line tokens at) (λ names read. ok_is ((names_good line tokens good at).holds names read))
-  directive_form_good at place directive.Extrn is u all = ok_then _ (IsBody place) (externs_at line tokens at) (λ externs read. ok_is ((externs_good line tokens good at (not_defined (defines_reserved line (drop at tokens) region.Outside) (all_closed (length tokens - at) line tokens at) u all)).holds externs read))
+  directive_form_good at place directive.Extrn is u all = ok_then _ (IsBody place) (externs_at line tokens at) (λ externs read. ok_is ((externs_good line tokens good at (not_defined (defines_reserved line (drop at tokens) outside) (all_closed (length tokens - at) line tokens at) u all)).holds externs read))
   directive_form_good at place directive.End is u all = ok_if 12 (nat_le (length tokens) at) (λ _. ok_is tt)
 
   no_directive_good : (at place : ℕ) (o : Option Directive) → IfSome o IsDirective → IfRead (or_no_directive line tokens at o) (IsBody place)
@@ -208,7 +210,7 @@ module _ (line : List ℕ) (tokens : List Token) (good : IsTokenLine line tokens
   spoken_good : (at place : ℕ) (w : List ℕ) → name_of w ≡ Some w → IfRead (spoken line tokens w at) (IsBody place)
   spoken_good at place w written =
       ok_cond (is_mnemonic w)
-      (λ _. ok_then _ (IsBody place) (met line tokens want.Nothing want.Operand at) (λ u all. code_good at place w written))
+      (λ _. ok_then _ (IsBody place) (met line tokens want.First want.Operand at) (λ u all. code_good at place w written))
       (λ _. no_directive_good at place (directive_of w) (directive_good w))
 
   beside_good : (o : Option Definition) → IfSome o IsDefinition → IfSome (beside_extrn o) IsDefinition
@@ -251,14 +253,6 @@ module _ (line : List ℕ) (tokens : List Token) (good : IsTokenLine line tokens
   statement_good = by_label_good (label_at line tokens) refl
 
 -- controls
-front_by : (p : ℕ → Bool) (x : ℕ) (xs : List ℕ) (b : Bool) → p x ≡ b → list_all p (take (prefix_len p xs) xs) ≡ true → list_all p (take (cond b (1 + prefix_len p xs) 0) (x ∷ xs)) ≡ true
-front_by p x xs true is h = let same : 1 + prefix_len p xs ≡ suc (prefix_len p xs) = omega arith in ap (λ n. list_all p (take n (x ∷ xs))) same ∙ ap (λ b. b && list_all p (take (prefix_len p xs) xs)) is ∙ h
-front_by p x xs false is h = refl
-
-front_passes : (p : ℕ → Bool) (xs : List ℕ) → list_all p (take (prefix_len p xs) xs) ≡ true
-front_passes p [] = refl
-front_passes p (x ∷ xs) = front_by p x xs (p x) refl (front_passes p xs)
-
 abbrev IsIncluded : List ℕ → Type 0
 IsIncluded name = (0 < length name) × (list_all is_inside name ≡ true)
 
@@ -321,10 +315,13 @@ each_of (x ∷ xs) h = (h.0, each_of xs h.1)
 long_enough : (n : ℕ) → n ≤ 255 → nat_lt 255 n ≡ false
 long_enough n h = grind (arith, common_steps)
 
+-- a statement that a line of bytes writes can be read
+pub written_is_good : (line : List ℕ) (s : StmtTree) → WritesStatement line s → IsStatement s
+written_is_good line s writes = (any_good line (each_of line (recursion_from_All IsByte line writes.bytes))).holds s writes.reads
+
 pub printed_reads_back : PrintedReadsBack
 printed_reads_back line s writes =
-    let is = (any_good line (each_of line (recursion_from_All IsByte line writes.bytes))).holds s writes.reads in
-    let again = printed s is in
+    let again = printed s (written_is_good line s writes) in
     record {
       printed = again;
       short = λ few. ap (λ b. cond b (Err 5) (any_line (stmt_text s))) (long_enough (length (stmt_text s)) few) ∙ again;

@@ -1,13 +1,12 @@
 -- What the words and the expressions of a line of bytes can be.
-use Rattle.std.proofs.Common.{◌≡◌, ℕ, zero, suc, ◌+◌, ◌-◌, ◌*◌, ◌<◌, ◌==◌, ◌&&◌, ◌||◌, Bool, true, false, cond, not, max, nat_le, nat_lt, map, List, [], ◌∷◌, length, take, drop, Option, Some, None, Ok, Err, refl, sym, ap, ◌∙◌, arith, subst, slice_get, slice_index}
+use Rattle.std.proofs.Common.{◌≡◌, ℕ, zero, suc, ◌+◌, ◌-◌, ◌*◌, ◌<◌, ◌==◌, ◌||◌, Bool, true, false, cond, max, nat_le, nat_lt, map, List, [], ◌∷◌, length, take, drop, Option, Some, None, Ok, Err, refl, sym, ap, ◌∙◌, arith, subst, slice_get, slice_index}
 use Rattle.std.specs.Prelude.{codes}
 use Rattle.std.specs.Str.{bytes_eq}
 use Rattle.std.specs.Char.{is_ascii_digit, is_ascii_alphanumeric, to_ascii_uppercase}
-use Rattle.std.specs.List.{list_all, prefix_len, slice_range}
+use Rattle.std.specs.List.{prefix_len, slice_range}
 use Rattle.std.proofs.lemmas.Grind.{common_steps}
-use Rattle.std.proofs.lemmas.Str.Ascii.{uppercase-uppercase}
-use Rattle.m51_cells.specs.Name as cells
 use Rattle.m51_cells.specs.Name.{name_of, is_name}
+use Rattle.m51_cells.proofs.NameLaws.{upper_again, name_upper}
 use Rattle.m51_lex.specs.declared.token.Token.{Token}
 use Rattle.m51_lex.specs.declared.token.What.{What}
 use Rattle.m51_lex.specs.declared.token.What.TheVariants as what
@@ -28,7 +27,7 @@ use Rattle.m51_expr.proofs.Sound.{sound}
 use Rattle.m51_stmt.specs.Words.{word_by, word_of, word_at}
 use Rattle.m51_stmt.specs.Lists.{name_in, name_at}
 use Rattle.m51_stmt.specs.Laws.{IsByte}
-use Rattle.m51_stmt.proofs.WordCuts.{left, right, passed}
+use Rattle.m51_stmt.proofs.WordCuts.{passed}
 use Rattle.m51_stmt.proofs.PrintedTrees.{IsLeafName, IsTree}
 use Rattle.m51_stmt.proofs.AllMet.{Each}
 use Rattle.m51_stmt.proofs.IfRead.{IfSome, some_is, none_is, some_cond, some_map, some_then, IfRead, ok_is, err_is, read_cond, flip}
@@ -47,35 +46,6 @@ pub record IsTokenLine (line : List ℕ) (tokens : List Token) : Type 0 where
   pub numbers : Each IsToken tokens
 
 -- names
-upper_digit : (c : ℕ) → is_ascii_digit (to_ascii_uppercase c) ≡ is_ascii_digit c
-upper_digit c = grind (arith, common_steps)
-
-upper_name : (c : ℕ) → cells.is_name_byte c ≡ true → cells.is_name_byte (to_ascii_uppercase c) ≡ true
-upper_name c h = grind (arith, common_steps, h)
-
-upper_all : (cs : List ℕ) → list_all cells.is_name_byte cs ≡ true → list_all cells.is_name_byte (map to_ascii_uppercase cs) ≡ true
-upper_all [] h = refl
-upper_all (c ∷ cs) h =
-    ap (λ b. b && list_all cells.is_name_byte (map to_ascii_uppercase cs)) (upper_name c (left (cells.is_name_byte c) (list_all cells.is_name_byte cs) h))
-    ∙ upper_all cs (right (cells.is_name_byte c) (list_all cells.is_name_byte cs) h)
-
-upper_long : (cs : List ℕ) → length (map to_ascii_uppercase cs) ≡ length cs
-upper_long [] = refl
-upper_long (c ∷ cs) = ap suc (upper_long cs)
-
-upper_twice : (cs : List ℕ) → map to_ascii_uppercase (map to_ascii_uppercase cs) ≡ map to_ascii_uppercase cs
-upper_twice [] = refl
-upper_twice (c ∷ cs) = ap (λ x. x ∷ map to_ascii_uppercase (map to_ascii_uppercase cs)) (uppercase-uppercase c) ∙ ap (λ l. to_ascii_uppercase c ∷ l) (upper_twice cs)
-
-upper_is_name : (text : List ℕ) → is_name text ≡ true → is_name (map to_ascii_uppercase text) ≡ true
-upper_is_name [] h = absurd (cc h)
-upper_is_name (c ∷ more) h =
-    let front = left (not (is_ascii_digit c) && nat_le (length (c ∷ more)) 31) (list_all cells.is_name_byte (c ∷ more)) h in
-    let all = upper_all (c ∷ more) (right (not (is_ascii_digit c) && nat_le (length (c ∷ more)) 31) (list_all cells.is_name_byte (c ∷ more)) h) in
-    ap (λ b. not b && nat_le (length (map to_ascii_uppercase (c ∷ more))) 31 && list_all cells.is_name_byte (map to_ascii_uppercase (c ∷ more))) (upper_digit c)
-    ∙ ap (λ n. not (is_ascii_digit c) && nat_le n 31 && list_all cells.is_name_byte (map to_ascii_uppercase (c ∷ more))) (upper_long (c ∷ more))
-    ∙ ap (λ b. b && list_all cells.is_name_byte (map to_ascii_uppercase (c ∷ more))) front ∙ all
-
 some_same : {A : Type 0} (a b : A) → Some a ≡ Some b → a ≡ b
 some_same a b h = cc h
 
@@ -90,8 +60,8 @@ written_again text word h =
     let is : upper ≡ word = kept (is_name text) upper word h in
     let P : List ℕ → Type 0 = λ w. name_of w ≡ Some w in
     subst P is (
-    ap (λ b. cond b (Some (map to_ascii_uppercase upper)) None) (upper_is_name text (passed (is_name text) upper word h))
-    ∙ ap Some (upper_twice text))
+    ap (λ b. cond b (Some (map to_ascii_uppercase upper)) None) (name_upper text (passed (is_name text) upper word h))
+    ∙ ap Some (upper_again text))
 
 -- P of the name, or Q of the number, that a symbol is
 pub record IsSymbol (P : List ℕ → Type 0) (Q : ℕ → Type 0) (s : Symbol) : Type 0 where

@@ -61,7 +61,7 @@ are_behind : (line : List ℕ) (ts : List Token) (w : Word) (ws : List Word) →
 are_behind line [] w ws h = absurd h
 are_behind line (t ∷ ts) w ws h = h.2
 
--- behind a word the others stand
+-- after a word the others stand
 pub behind : {line : List ℕ} {tokens : List Token} {at : ℕ} {w : Word} {ws : List Word} → Stands line tokens at (w ∷ ws) → Stands line tokens (at + 1) ws
 behind {line} {tokens} {at} {w} {ws} h = record { are = subst (λ ts. AreWords line ts ws) (sym (next_drop tokens at)) (are_behind line (drop at tokens) w ws h.are) }
 

@@ -1,5 +1,6 @@
 -- Control lines (the assembler's rules of controls): $ and a word in either case, blanks, and a comment.
-use Rattle.std.specs.Prelude.{ℕ, ◌==◌, ◌&&◌, ◌||◌, not, Bool, true, false, if◌then◌else◌, List, [], ◌∷◌, take, drop, codes, Option, Some, None, Result, Ok, Err, option_and_then}
+use Rattle.std.specs.Prelude.{ℕ, ◌==◌, ◌&&◌, ◌||◌, not, Bool, true, false, if◌then◌else◌, List, [], ◌∷◌, take, drop}
+use Rattle.std.specs.Prelude.{codes, Option, Some, None, Result, Ok, Err, option_and_then}
 use Rattle.std.specs.Char.{is_ascii_alphanumeric}
 use Rattle.std.specs.List.{prefix_len}
 use Rattle.std.specs.Str.{bytes_eq}
@@ -26,7 +27,7 @@ is_comment (c ∷ rest) = c == semicolon
 abbrev pub ends : List ℕ → Bool
 ends rest = is_comment (behind_blanks rest)
 
--- what stands behind this sign, where it comes first
+-- what stands after this sign, where it comes first
 abbrev pub behind_sign : ℕ → List ℕ → Option (List ℕ)
 behind_sign sign [] = None
 behind_sign sign (c ∷ rest) = if c == sign then Some rest else None
@@ -35,11 +36,13 @@ abbrev pub if_ended : List ℕ → List ℕ → Option (List ℕ)
 if_ended inner behind = if ends behind then Some inner else None
 
 abbrev pub closed_at : List ℕ → ℕ → Option (List ℕ)
-closed_at inner len = if len == 0 then None else option_and_then (if_ended (take len inner)) (behind_sign 0x29 (drop len inner))
+closed_at inner len =
+    if len == 0 then None else option_and_then (if_ended (take len inner)) (behind_sign 0x29 (drop len inner))
 
--- one or more bytes between parentheses, behind which blanks and a comment alone stand
+-- one or more bytes between parentheses, after which blanks and a comment alone stand
 abbrev pub parenthesized : List ℕ → Option (List ℕ)
-parenthesized rest = option_and_then (λ inner. closed_at inner (prefix_len is_inside inner)) (behind_sign 0x28 (behind_blanks rest))
+parenthesized rest =
+    option_and_then (λ inner. closed_at inner (prefix_len is_inside inner)) (behind_sign 0x28 (behind_blanks rest))
 
 -- a control that stands alone
 abbrev pub alone : List ℕ → BodyTree → Result BodyTree ℕ
@@ -61,7 +64,8 @@ abbrev pub title : List ℕ → Result BodyTree ℕ
 title rest = if ends rest then Ok Ignored else ignored_if (parenthesized rest)
 
 unfoldable pub is_ignored_word : List ℕ → Bool
-is_ignored_word word = is_among word (codes "LIST" ∷ codes "NOLIST" ∷ codes "DEBUG" ∷ codes "NODEBUG" ∷ codes "EJECT" ∷ [])
+is_ignored_word word =
+    is_among word (codes "LIST" ∷ codes "NOLIST" ∷ codes "DEBUG" ∷ codes "NODEBUG" ∷ codes "EJECT" ∷ [])
 
 -- what the word and what follows it say
 unfoldable pub by_word : List ℕ → List ℕ → Result BodyTree ℕ

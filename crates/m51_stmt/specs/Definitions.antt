@@ -1,8 +1,8 @@
 -- Definitions: `name SEGMENT kind [type] [OVERLAYABLE]` and `name word expr`.
-use Rattle.std.specs.Prelude.{ℕ, ◌+◌, ◌-◌, ◌&&◌, not, Bool, true, false, nat_le, nat_lt, if◌then◌else◌, List, length, codes, Option, Some, None, Result, Ok, Err, option_and_then, option_map}
+use Rattle.std.specs.Prelude.{ℕ, ◌+◌, ◌-◌, ◌&&◌, ◌||◌, not, Bool, true, false, nat_le, nat_lt, if◌then◌else◌, List}
+use Rattle.std.specs.Prelude.{length, codes, Option, Some, None, Result, Ok, Err, option_and_then, option_map}
 use Rattle.std.specs.Str.{bytes_eq}
 use Rattle.m51_cells.specs.declared.kind.Kind.{Kind}
-use Rattle.m51_cells.specs.declared.kind.Kind.TheVariants as kind
 use Rattle.m51_cells.specs.declared.kind.Reloc.{Reloc}
 use Rattle.m51_cells.specs.declared.kind.Reloc.TheVariants as reloc
 use Rattle.m51_lex.specs.declared.token.Token.{Token}
@@ -16,7 +16,8 @@ use Rattle.m51_stmt.specs.Statement as body
 use Rattle.m51_stmt.specs.Statement.{BodyTree}
 use Rattle.m51_stmt.specs.Answer.{and_then, or_fault}
 use Rattle.m51_stmt.specs.Words.{word_at}
-use Rattle.m51_stmt.specs.Kinds.{kind_of, reloc_of, allows}
+use Rattle.m51_cells.specs.Kinds.{allows, may_overlay}
+use Rattle.m51_stmt.specs.Kinds.{kind_of, reloc_of}
 use Rattle.m51_stmt.specs.Lack.{met, all_closed}
 use Rattle.m51_stmt.specs.Lists.{name_or_12}
 
@@ -28,18 +29,21 @@ definition_of word =
     else if bytes_eq word (codes "SET") then Some Set
     else option_map Address (kind_of word)
 
--- a kind behind EXTRN is no word of definitions
+-- a kind after EXTRN is no word of definitions
 abbrev pub beside_extrn : Option Definition → Option Definition
 beside_extrn (Some (Address k)) = None
 beside_extrn d = d
 
--- the word of definitions behind a first word, if there is one
+-- the word of definitions after a first word, if there is one
 abbrev pub definition_at : List ℕ → List Token → List ℕ → ℕ → Option Definition
-definition_at line tokens first at = let d = option_and_then definition_of (word_at line tokens at) in if bytes_eq first (codes "EXTRN") then beside_extrn d else d
+definition_at line tokens first at =
+    let d = option_and_then definition_of (word_at line tokens at) in
+    if bytes_eq first (codes "EXTRN") then beside_extrn d else d
 
 -- an expression that ends the line
 abbrev pub expression_line : List ℕ → List Token → ℕ → Result Tree ℕ
-expression_line line tokens at = and_then (or_fault 12 (expression_at line tokens at)) (λ r. if nat_le (length tokens) r.1 then Ok r.0 else Err 12)
+expression_line line tokens at =
+    and_then (or_fault 12 (expression_at line tokens at)) (λ r. if nat_le (length tokens) r.1 then Ok r.0 else Err 12)
 
 abbrev pub reloc_or_unit : ℕ → Option Reloc → Reloc × ℕ
 reloc_or_unit at (Some r) = (r, at + 1)
@@ -57,23 +61,24 @@ is_overlayable None = false
 abbrev pub overlayable_at : List ℕ → List Token → ℕ → Bool × ℕ
 overlayable_at line tokens at = if is_overlayable (word_at line tokens at) then (true, at + 1) else (false, at)
 
-abbrev pub is_code : Kind → Bool
-is_code kind.Code = true
-is_code k = false
-
--- OVERLAYABLE is not allowed for CODE
-abbrev pub may_be : Kind → Reloc → Bool → Bool
-may_be k r overlayable = allows k r && not (overlayable && is_code k)
+-- a segment of the kind may have the type, and be OVERLAYABLE where that stands
+abbrev pub is_allowed : Kind → Reloc → Bool → Bool
+is_allowed k r overlayable = allows k r && (not overlayable || may_overlay k r)
 
 abbrev pub segment_of : List ℕ → List Token → List ℕ → Kind → Reloc → Bool × ℕ → Result BodyTree ℕ
-segment_of line tokens name k r overlayable = if nat_le (length tokens) overlayable.1 && may_be k r overlayable.0 then Ok (body.Segment name k r overlayable.0) else Err 12
+segment_of line tokens name k r overlayable =
+    if nat_le (length tokens) overlayable.1 && is_allowed k r overlayable.0
+    then Ok (body.Segment name k r overlayable.0)
+    else Err 12
 
 abbrev pub segment_with : List ℕ → List Token → List ℕ → Kind → Reloc × ℕ → Result BodyTree ℕ
 segment_with line tokens name k r = segment_of line tokens name k r.0 (overlayable_at line tokens r.1)
 
 -- the kind, type and OVERLAYABLE of a segment of this name, from a place to the end of the line
 abbrev pub segment : List ℕ → List Token → List ℕ → ℕ → Result BodyTree ℕ
-segment line tokens name at = and_then (or_fault 12 (option_and_then kind_of (word_at line tokens at))) (λ k. segment_with line tokens name k (reloc_at line tokens (at + 1)))
+segment line tokens name at =
+    and_then (or_fault 12 (option_and_then kind_of (word_at line tokens at)))
+    (λ k. segment_with line tokens name k (reloc_at line tokens (at + 1)))
 
 -- what a definition by an expression makes
 abbrev pub valued : Definition → List ℕ → Tree → BodyTree
@@ -86,7 +91,7 @@ abbrev pub is_segment : Definition → Bool
 is_segment Segment = true
 is_segment d = false
 
--- all stands that a definition wants behind its word
+-- all stands that a definition wants after its word
 abbrev pub definition_met : List ℕ → List Token → Definition → ℕ → Result (Unit {0}) ℕ
 definition_met line tokens d at =
     if is_segment d then all_closed (length tokens - at) line tokens at

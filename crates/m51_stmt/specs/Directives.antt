@@ -1,5 +1,6 @@
--- Directives, and what each wants behind its word.
-use Rattle.std.specs.Prelude.{ℕ, ◌+◌, ◌-◌, Bool, false, nat_le, if◌then◌else◌, List, length, drop, codes, Option, Some, None, Result, Ok, Err}
+-- Directives, and what each wants after its word.
+use Rattle.std.specs.Prelude.{ℕ, ◌+◌, ◌-◌, Bool, false, nat_le, if◌then◌else◌, List, length, drop, codes, Option}
+use Rattle.std.specs.Prelude.{Some, None, Result, Ok, Err}
 use Rattle.std.specs.Str.{bytes_eq}
 use Rattle.m51_cells.specs.declared.kind.Kind.{Kind}
 use Rattle.m51_cells.specs.declared.kind.Kind.TheVariants as kind
@@ -7,15 +8,15 @@ use Rattle.m51_lex.specs.declared.token.Token.{Token}
 use Rattle.m51_expr.specs.Tree.{Tree}
 use Rattle.m51_stmt.specs.declared.lack.Want.{Want}
 use Rattle.m51_stmt.specs.declared.lack.Want.TheVariants as want
-use Rattle.m51_stmt.specs.declared.externs.Region.TheVariants as region
 use Rattle.m51_stmt.specs.declared.directives.Directive.{Directive}
 use Rattle.m51_stmt.specs.declared.directives.Directive.TheVariants as word
-use Rattle.m51_stmt.specs.Statement.{ItemTree, BodyTree, End, Db, Dw, Ds, Dbit, Org, Using, Rseg, Select, Public, Extrn, ModuleName}
+use Rattle.m51_stmt.specs.Statement.{ItemTree, BodyTree, End, Db, Dw, Ds, Dbit, Org, Using, Rseg, Select, Public}
+use Rattle.m51_stmt.specs.Statement.{Extrn, ModuleName}
 use Rattle.m51_stmt.specs.Answer.{and_then}
 use Rattle.m51_stmt.specs.Words.{word_at}
 use Rattle.m51_stmt.specs.Lack.{is_item, met, all_closed}
 use Rattle.m51_stmt.specs.Lists.{name_or_12, names_at, items_at}
-use Rattle.m51_stmt.specs.Externs.{externs_at, defines_reserved}
+use Rattle.m51_stmt.specs.Externs.{externs_at, outside, defines_reserved}
 use Rattle.m51_stmt.specs.Definitions.{expression_line}
 
 -- CSEG and its kin
@@ -48,7 +49,7 @@ abbrev pub is_at : Option (List ℕ) → Bool
 is_at (Some w) = bytes_eq w (codes "AT")
 is_at None = false
 
--- behind CSEG and its kin an expression is wanted where AT stands
+-- after CSEG and its kin an expression is wanted where AT stands
 abbrev pub select_met : List ℕ → List Token → ℕ → Result (Unit {0}) ℕ
 select_met line tokens at =
     if is_at (word_at line tokens at) then met line tokens want.Expression want.Nothing (at + 1)
@@ -56,9 +57,10 @@ select_met line tokens at =
 
 -- EXTRN defines no reserved word, or fault 12
 abbrev pub extern_met : List ℕ → List Token → ℕ → Result (Unit {0}) ℕ
-extern_met line tokens at = if defines_reserved line (drop at tokens) region.Outside then Err 12 else all_closed (length tokens - at) line tokens at
+extern_met line tokens at =
+    if defines_reserved line (drop at tokens) outside then Err 12 else all_closed (length tokens - at) line tokens at
 
--- all stands that a directive wants behind its word
+-- all stands that a directive wants after its word
 abbrev pub directive_met : List ℕ → List Token → Directive → ℕ → Result (Unit {0}) ℕ
 directive_met line tokens word.Using at = met line tokens want.Expression want.Nothing at
 directive_met line tokens word.Ds at = met line tokens want.Expression want.Nothing at
@@ -72,7 +74,8 @@ directive_met line tokens other at = all_closed (length tokens - at) line tokens
 
 -- a name that ends the line
 abbrev pub name_line : List ℕ → List Token → ℕ → Result (List ℕ) ℕ
-name_line line tokens at = and_then (name_or_12 line tokens at) (λ name. if nat_le (length tokens) (at + 1) then Ok name else Err 12)
+name_line line tokens at =
+    and_then (name_or_12 line tokens at) (λ name. if nat_le (length tokens) (at + 1) then Ok name else Err 12)
 
 abbrev pub end_line : List Token → ℕ → Result BodyTree ℕ
 end_line tokens at = if nat_le (length tokens) at then Ok End else Err 12
@@ -80,7 +83,8 @@ end_line tokens at = if nat_le (length tokens) at then Ok End else Err 12
 abbrev pub select : List ℕ → List Token → Kind → ℕ → Result BodyTree ℕ
 select line tokens k at =
     if nat_le (length tokens) at then Ok (Select k None)
-    else if is_at (word_at line tokens at) then and_then (expression_line line tokens (at + 1)) (λ e. Ok (Select k (Some e)))
+    else if is_at (word_at line tokens at) then and_then (expression_line line tokens (at + 1))
+    (λ e. Ok (Select k (Some e)))
     else Err 12
 
 abbrev pub with_value : Directive → Tree → BodyTree

@@ -1,4 +1,4 @@
--- What stands behind an @.
+-- What stands after an @.
 use Rattle.std.specs.Prelude.{ℕ, if◌then◌else◌, List, codes, Option, Some, None}
 use Rattle.std.specs.Str.{bytes_eq}
 use Rattle.m51_lex.specs.declared.token.Token.{Token}
@@ -24,11 +24,11 @@ behind_symbol (Some symbol.Plus) = behind.Plus
 behind_symbol (Some (symbol.Word word)) = behind_word word
 behind_symbol _ = behind.Other
 
--- what stands at a place, behind an @
+-- what stands at a place, after an @
 abbrev pub behind_at : List ℕ → List Token → ℕ → Behind
 behind_at line tokens at = behind_symbol (symbol_at line tokens at)
 
--- the operand of an @ and what stands behind it, and how many tokens it has: @A+PC, @A+DPTR, @DPTR, @R0, @R1
+-- the operand of an @ and what stands after it, and how many tokens it has: @A+PC, @A+DPTR, @DPTR, @R0, @R1
 abbrev pub indirect : Behind → Behind → Behind → Option (OperandTree × ℕ)
 indirect behind.A behind.Plus behind.Pc = Some (APc, 4)
 indirect behind.A behind.Plus behind.Dptr = Some (ADptr, 4)

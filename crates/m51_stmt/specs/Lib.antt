@@ -2,8 +2,7 @@ pub mod Statement
 pub mod Answer
 pub mod Words
 pub mod Indirect
-pub mod Forms
-pub mod Shapes
+pub mod Looks
 pub mod Operands
 pub mod Lack
 pub mod Kinds
@@ -15,4 +14,3 @@ pub mod Control
 pub mod Lines
 pub mod Printing
 pub mod Laws
-pub mod Rows

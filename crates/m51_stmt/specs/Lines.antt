@@ -1,29 +1,22 @@
 -- The grammar of lines: the statement that a line writes, or its fault.
-use Rattle.std.specs.Prelude.{ℕ, ◌+◌, ◌==◌, Bool, true, false, nat_le, nat_lt, if◌then◌else◌, List, length, drop, Option, Some, None, Result, Ok, Err, slice_index}
+use Rattle.std.specs.Prelude.{ℕ, ◌+◌, ◌==◌, nat_le, nat_lt, if◌then◌else◌, List, length, drop}
+use Rattle.std.specs.Prelude.{Option, Some, None, Result, Ok, Err, slice_index}
 use Rattle.m51_lex.specs.declared.token.Token.{Token}
 use Rattle.m51_lex.specs.Tokens.{tokens_at}
+use Rattle.m51_isa.specs.Mnemonics.{is_mnemonic}
 use Rattle.m51_expr.specs.Words.{is_reserved}
 use Rattle.m51_expr.specs.Symbol.{symbol_at}
-use Rattle.m51_stmt.specs.declared.groups.Group.{Group}
 use Rattle.m51_stmt.specs.declared.lack.Want.TheVariants as want
 use Rattle.m51_stmt.specs.declared.definitions.Definition.{Definition}
 use Rattle.m51_stmt.specs.declared.directives.Directive.{Directive}
 use Rattle.m51_stmt.specs.Statement.{BodyTree, Empty, StmtTree}
 use Rattle.m51_stmt.specs.Answer.{and_then}
 use Rattle.m51_stmt.specs.Words.{word_at, is_colon}
-use Rattle.m51_stmt.specs.Forms.{group_of}
 use Rattle.m51_stmt.specs.Lack.{met}
 use Rattle.m51_stmt.specs.Operands.{instruction}
 use Rattle.m51_stmt.specs.Definitions.{definition_at, defined}
 use Rattle.m51_stmt.specs.Directives.{directive_of, directed}
 use Rattle.m51_stmt.specs.Control.{control}
-
-abbrev pub is_a_group : Option Group → Bool
-is_a_group (Some group) = true
-is_a_group None = false
-
-abbrev pub is_mnemonic : List ℕ → Bool
-is_mnemonic word = is_a_group (group_of word)
 
 abbrev pub or_no_directive : List ℕ → List Token → ℕ → Option Directive → Result BodyTree ℕ
 or_no_directive line tokens at (Some d) = directed line tokens d at
@@ -32,7 +25,8 @@ or_no_directive line tokens at None = Err 11
 -- the instruction or the directive that a word begins which stands before a place; fault 11 where it begins none
 abbrev pub spoken : List ℕ → List Token → List ℕ → ℕ → Result BodyTree ℕ
 spoken line tokens word at =
-    if is_mnemonic word then and_then (met line tokens want.Nothing want.Operand at) (λ _. instruction line tokens word at)
+    if is_mnemonic word
+    then and_then (met line tokens want.First want.Operand at) (λ _. instruction line tokens word at)
     else or_no_directive line tokens at (directive_of word)
 
 abbrev pub by_definition : List ℕ → List Token → List ℕ → ℕ → Option Definition → Result BodyTree ℕ
@@ -51,7 +45,7 @@ said line tokens at = if nat_le (length tokens) at then Ok Empty else by_word li
 abbrev pub label_at : List ℕ → List Token → Option (List ℕ)
 label_at line tokens = if is_colon (symbol_at line tokens 1) then word_at line tokens 0 else None
 
--- a statement behind its label, which is no reserved word
+-- a statement after its label, which is no reserved word
 abbrev pub behind_label : List ℕ → List Token → List ℕ → Result StmtTree ℕ
 behind_label line tokens label =
     if is_reserved label then Err 12

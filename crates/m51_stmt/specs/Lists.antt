@@ -1,5 +1,7 @@
 -- Lists of names and of items (the assembler's rules of PUBLIC, DB and DW).
-use Rattle.std.specs.Prelude.{ℕ, zero, suc, ◌+◌, ◌-◌, ◌==◌, ◌&&◌, ◌||◌, Bool, true, false, nat_le, max, if◌then◌else◌, List, [], ◌∷◌, ◌++◌, length, map, Option, Some, None, Result, Ok, Err, slice_get, slice_range}
+use Rattle.std.specs.Prelude.{ℕ, zero, suc, ◌+◌, ◌-◌, ◌==◌, ◌&&◌, ◌||◌, Bool, true, false, nat_le, max, if◌then◌else◌}
+use Rattle.std.specs.Prelude.{List, [], ◌∷◌, ◌++◌, length, map, Option, Some, None, Result, Ok, Err, slice_get}
+use Rattle.std.specs.Prelude.{slice_range}
 use Rattle.m51_lex.specs.declared.token.What.{What}
 use Rattle.m51_lex.specs.declared.token.What.TheVariants as what
 use Rattle.m51_lex.specs.declared.token.Token.{Token}
@@ -47,7 +49,8 @@ more_names n line tokens done at = more_of (name_and_place line tokens) (comma_a
 
 -- names with commas between them, from a place to the end of the line
 abbrev pub names_at : List ℕ → List Token → ℕ → Result (List (List ℕ)) ℕ
-names_at line tokens at = and_then (name_or_12 line tokens at) (λ name. more_names (length tokens - at) line tokens (name ∷ []) (at + 1))
+names_at line tokens at =
+    and_then (name_or_12 line tokens at) (λ name. more_names (length tokens - at) line tokens (name ∷ []) (at + 1))
 
 -- The characters of what stands between quotes. Two quotes stand for one.
 abbrev pub characters : List ℕ → List ℕ
@@ -63,9 +66,10 @@ abbrev pub is_text_here : Option Token → Bool
 is_text_here (Some t) = is_text_token t.what
 is_text_here None = false
 
--- a text stands at a place, and nothing or a comma behind it
+-- a text stands at a place, and nothing or a comma after it
 abbrev pub is_text_alone : List ℕ → List Token → ℕ → Bool
-is_text_alone line tokens at = is_text_here (slice_get tokens at) && (nat_le (length tokens) (at + 1) || comma_at line tokens (at + 1))
+is_text_alone line tokens at =
+    is_text_here (slice_get tokens at) && (nat_le (length tokens) (at + 1) || comma_at line tokens (at + 1))
 
 abbrev pub between_quotes : List ℕ → List ℕ
 between_quotes text = slice_range text 1 (max (length text) 2 - 1)
@@ -87,7 +91,9 @@ value_item line tokens at = value_of (or_fault 12 (expression_at line tokens at)
 
 -- the item at a place: a text of DB that stands alone, or a value
 abbrev pub item_at : List ℕ → List Token → Want → ℕ → Result (ItemTree × ℕ) ℕ
-item_at line tokens w at = if is_item w && is_text_alone line tokens at then Ok (text_item line tokens at, at + 1) else value_item line tokens at
+item_at line tokens w at =
+    if is_item w && is_text_alone line tokens at then Ok (text_item line tokens at, at + 1)
+    else value_item line tokens at
 
 abbrev pub item_and_place : Item × ℕ → ItemTree × ℕ
 item_and_place r = (item_tree r.0, r.1)
@@ -100,4 +106,5 @@ more_items n line tokens w done at = more_of (item_at line tokens w) (comma_at l
 
 -- items with commas between them, from a place to the end of the line
 abbrev pub items_at : List ℕ → List Token → Want → ℕ → Result (List ItemTree) ℕ
-items_at line tokens w at = and_then (item_at line tokens w at) (λ r. more_items (length tokens - at) line tokens w (r.0 ∷ []) r.1)
+items_at line tokens w at =
+    and_then (item_at line tokens w at) (λ r. more_items (length tokens - at) line tokens w (r.0 ∷ []) r.1)

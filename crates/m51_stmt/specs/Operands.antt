@@ -1,5 +1,6 @@
 -- The operands of an instruction (the assembler's rules of operands).
-use Rattle.std.specs.Prelude.{ℕ, ◌+◌, nat_le, if◌then◌else◌, List, [], ◌∷◌, length, map, codes, Option, Some, Result, Ok, Err, option_map, option_and_then}
+use Rattle.std.specs.Prelude.{ℕ, ◌+◌, nat_le, if◌then◌else◌, List, [], ◌∷◌, length, map, codes, Option, Some, Result}
+use Rattle.std.specs.Prelude.{Ok, Err, option_map, option_and_then}
 use Rattle.std.specs.Str.{bytes_eq}
 use Rattle.m51_lex.specs.declared.token.Token.{Token}
 use Rattle.m51_expr.specs.declared.tree.Binary.TheVariants as binary
@@ -15,7 +16,7 @@ use Rattle.m51_stmt.specs.Statement.{OperandTree, A, Ab, C, Dptr, R, Imm, Plain,
 use Rattle.m51_stmt.specs.Answer.{and_then, or_fault}
 use Rattle.m51_stmt.specs.Words.{word_at, is_comma, register_number}
 use Rattle.m51_stmt.specs.Indirect.{behind_at, indirect}
-use Rattle.m51_stmt.specs.Shapes.{has_form}
+use Rattle.m51_stmt.specs.Looks.{has_form}
 
 -- the operand that a register is alone
 unfoldable pub register : List ℕ → Option OperandTree
@@ -38,10 +39,13 @@ moved at r = (r.0, at + r.1)
 
 -- a register that is a word alone
 abbrev pub register_at : List ℕ → List Token → ℕ → Result (OperandTree × ℕ) ℕ
-register_at line tokens at = or_fault 11 (option_map (λ a. (a, at + 1)) (option_and_then register (word_at line tokens at)))
+register_at line tokens at =
+    or_fault 11 (option_map (λ a. (a, at + 1)) (option_and_then register (word_at line tokens at)))
 
 abbrev pub indirect_at : List ℕ → List Token → ℕ → Result (OperandTree × ℕ) ℕ
-indirect_at line tokens at = or_fault 11 (option_map (moved at) (indirect (behind_at line tokens (at + 1)) (behind_at line tokens (at + 2)) (behind_at line tokens (at + 3))))
+indirect_at line tokens at =
+    or_fault 11 (option_map (moved at) (indirect (behind_at line tokens (at + 1)) (behind_at line tokens (at + 2))
+    (behind_at line tokens (at + 3))))
 
 abbrev pub with_operand : (Tree → OperandTree) → Result (Tree × ℕ) ℕ → Result (OperandTree × ℕ) ℕ
 with_operand make (Ok (e, next)) = Ok (make e, next)
@@ -67,20 +71,26 @@ abbrev pub after_second : List ℕ → List Token → OperandTree → OperandTre
 after_second line tokens a b at =
     if nat_le (length tokens) at then Ok (a ∷ b ∷ [])
     else if is_comma (symbol_at line tokens at) then
-    and_then (operand_at line tokens (at + 1)) (λ c. if nat_le (length tokens) c.1 then Ok (a ∷ b ∷ c.0 ∷ []) else Err 11)
+    and_then (operand_at line tokens (at + 1))
+    (λ c. if nat_le (length tokens) c.1 then Ok (a ∷ b ∷ c.0 ∷ []) else Err 11)
     else Err 11
 
 -- the operands of which one is read
 abbrev pub after_first : List ℕ → List Token → OperandTree → ℕ → Result (List OperandTree) ℕ
 after_first line tokens a at =
     if nat_le (length tokens) at then Ok (a ∷ [])
-    else if is_comma (symbol_at line tokens at) then and_then (operand_at line tokens (at + 1)) (λ b. after_second line tokens a b.0 b.1)
+    else if is_comma (symbol_at line tokens at)
+    then and_then (operand_at line tokens (at + 1)) (λ b. after_second line tokens a b.0 b.1)
     else Err 11
 
 -- up to three operands with commas between them, from a place to the end of the line
 abbrev pub operands_at : List ℕ → List Token → ℕ → Result (List OperandTree) ℕ
-operands_at line tokens at = if nat_le (length tokens) at then Ok [] else and_then (operand_at line tokens at) (λ a. after_first line tokens a.0 a.1)
+operands_at line tokens at =
+    if nat_le (length tokens) at then Ok []
+    else and_then (operand_at line tokens at) (λ a. after_first line tokens a.0 a.1)
 
 -- the instruction of this mnemonic, where it has such a form
 abbrev pub instruction : List ℕ → List Token → List ℕ → ℕ → Result BodyTree ℕ
-instruction line tokens mnemonic at = and_then (operands_at line tokens at) (λ operands. if has_form mnemonic operands then Ok (Code mnemonic operands) else Err 11)
+instruction line tokens mnemonic at =
+    and_then (operands_at line tokens at)
+    (λ operands. if has_form mnemonic operands then Ok (Code mnemonic operands) else Err 11)

@@ -1,4 +1,4 @@
--- The text that is printed of a statement: each token with a blank behind it, and each operator with its operands in
+-- The text that is printed of a statement: each token with a blank after it, and each operator with its operands in
 -- parentheses.
 use Rattle.std.specs.Prelude.{ℕ, ◌==◌, Bool, true, false, if◌then◌else◌, List, [], ◌∷◌, ◌++◌, codes, Option, Some, None}
 use Rattle.m51_cells.specs.declared.kind.Kind.{Kind}
@@ -14,7 +14,8 @@ use Rattle.m51_expr.specs.declared.tree.Binary.TheVariants as op2
 use Rattle.m51_expr.specs.Tree as tree
 use Rattle.m51_expr.specs.Tree.{Tree}
 use Rattle.m51_stmt.specs.Statement as body
-use Rattle.m51_stmt.specs.Statement.{BodyTree, StmtTree, OperandTree, A, Ab, C, Dptr, APc, ADptr, AtDptr, R, AtR, Imm, Plain, NotBit, ItemTree, Value, Text}
+use Rattle.m51_stmt.specs.Statement.{BodyTree, StmtTree, OperandTree, A, Ab, C, Dptr, APc, ADptr, AtDptr, R, AtR, Imm}
+use Rattle.m51_stmt.specs.Statement.{Plain, NotBit, ItemTree, Value, Text}
 
 -- a word and a blank
 abbrev pub word_text : List ℕ → List ℕ
@@ -56,7 +57,8 @@ expr_text (tree.Number n) = word_text (number_text n)
 expr_text (tree.Name name) = word_text name
 expr_text tree.Here = word_text (codes "$")
 expr_text (tree.One op e) = word_text (codes "(") ++ word_text (unary_word op) ++ expr_text e ++ word_text (codes ")")
-expr_text (tree.Two op left right) = word_text (codes "(") ++ expr_text left ++ word_text (binary_word op) ++ expr_text right ++ word_text (codes ")")
+expr_text (tree.Two op left right) =
+    word_text (codes "(") ++ expr_text left ++ word_text (binary_word op) ++ expr_text right ++ word_text (codes ")")
 
 -- the register of a number
 abbrev pub register_word : ℕ → List ℕ
@@ -163,7 +165,9 @@ overlayable_text false = []
 
 -- a segment, with its type where it is UNIT too
 abbrev pub segment_text : List ℕ → Kind → Reloc → Bool → List ℕ
-segment_text name k r overlayable = word_text name ++ word_text (codes "SEGMENT") ++ word_text (kind_word k) ++ word_text (reloc_word r) ++ overlayable_text overlayable
+segment_text name k r overlayable =
+    word_text name ++ word_text (codes "SEGMENT") ++ word_text (kind_word k) ++ word_text
+    (reloc_word r) ++ overlayable_text overlayable
 
 abbrev pub at_text : Option Tree → List ℕ
 at_text (Some e) = directive_text (codes "AT") e

@@ -1,5 +1,6 @@
 -- The words of a line, and what begins an operand or an expression (the assembler's rules of statements).
-use Rattle.std.specs.Prelude.{ℕ, Bool, true, false, if◌then◌else◌, List, [], ◌∷◌, codes, Option, Some, None, slice_get, slice_range, option_and_then}
+use Rattle.std.specs.Prelude.{ℕ, Bool, true, false, if◌then◌else◌, List, [], ◌∷◌, codes, Option, Some, None}
+use Rattle.std.specs.Prelude.{slice_get, slice_range, option_and_then}
 use Rattle.std.specs.Str.{bytes_eq}
 use Rattle.m51_cells.specs.Name.{name_of}
 use Rattle.m51_lex.specs.declared.token.What.{What}
@@ -57,7 +58,9 @@ register_number word =
 
 -- a register that is an operand alone
 unfoldable pub is_register : List ℕ → Bool
-is_register word = is_among word (codes "A" ∷ codes "AB" ∷ codes "C" ∷ codes "DPTR" ∷ codes "R0" ∷ codes "R1" ∷ codes "R2" ∷ codes "R3" ∷ codes "R4" ∷ codes "R5" ∷ codes "R6" ∷ codes "R7" ∷ [])
+is_register word =
+    is_among word (codes "A" ∷ codes "AB" ∷ codes "C" ∷ codes "DPTR" ∷ codes "R0" ∷ codes "R1" ∷ codes "R2" ∷
+    codes "R3" ∷ codes "R4" ∷ codes "R5" ∷ codes "R6" ∷ codes "R7" ∷ [])
 
 -- an expression may begin with it
 abbrev pub begins_expression : Option Symbol → Bool

@@ -5,16 +5,14 @@ ghost use Rattle.std.specs.List.{prefix_len};
 ghost use Rattle.m51_cells.specs.Outcome.{Gives};
 ghost use Rattle.m51_stmt.specs.Statement.{body_tree};
 ghost use Rattle.m51_stmt.specs.Answer.{fault_of};
-ghost use Rattle.m51_stmt.specs.Control.{is_blank, is_inside, behind_blanks, ends, behind_sign, parenthesized, alone, include, title, is_ignored_word, by_word, control};
+ghost use Rattle.m51_stmt.specs.Control.{is_blank, is_inside, behind_blanks, ends, behind_sign, parenthesized, alone};
+ghost use Rattle.m51_stmt.specs.Control.{include, title, is_ignored_word, by_word, control};
 
-use crate::fault::StmtError;
+use crate::fault::{OUT_OF_FORM, StmtError};
 use crate::statement::Body;
 use crate::words::is_among;
 use m51_cells::{Bytes, Name};
 use std::alloc::Global;
-
-// The line is out of its form.
-const OUT_OF_FORM: StmtError = StmtError::Fault { number: 12 };
 
 fn is_blank(byte: u8) -> bool
     ensures { result ≡ is_blank byte }
@@ -68,7 +66,7 @@ fn ends(rest: &[u8]) -> bool
     }
 }
 
-// What stands behind this sign, where it comes first.
+// What stands after this sign, where it comes first.
 fn behind_sign(sign: u8, rest: &[u8]) -> Option<&[u8]>
     ensures { option_map (λ s. s.now) result ≡ behind_sign sign rest.now }
 {

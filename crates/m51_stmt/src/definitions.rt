@@ -7,24 +7,23 @@ ghost use Rattle.m51_stmt.specs.Kinds.{kind_of};
 ghost use Rattle.m51_stmt.specs.Statement.{body_tree};
 ghost use Rattle.m51_stmt.specs.Answer.{fault_of};
 ghost use Rattle.m51_stmt.specs.Lack.{same};
-ghost use Rattle.m51_stmt.specs.Definitions.{definition_of, beside_extrn, definition_at, expression_line, reloc_at, overlayable_at, segment, is_segment, definition_met, valued, definition_form, defined, is_code, may_be};
+ghost use Rattle.m51_stmt.specs.Definitions.{definition_of, beside_extrn, definition_at, expression_line, reloc_at};
+ghost use Rattle.m51_stmt.specs.Definitions.{overlayable_at, segment, is_segment, definition_met, valued};
+ghost use Rattle.m51_stmt.specs.Definitions.{definition_form, defined, is_allowed};
 
-use crate::fault::StmtError;
-use crate::kinds::{allows, kind_of, reloc_of};
+use crate::fault::{OUT_OF_FORM, StmtError};
+use crate::kinds::{kind_of, reloc_of};
 use crate::lack::{Want, all_closed, met};
 use crate::lists::name_or_12;
 use crate::operands::expression;
 use crate::statement::Body;
 use crate::words::word_at;
-use m51_cells::{Kind, Name, Reloc};
+use m51_cells::{BAD_FORM, Kind, Name, Reloc, allows, may_overlay};
 use m51_expr::{Expr, is_reserved};
 use m51_lex::Token;
 use std::alloc::Global;
 
-// The line is out of its form.
-const OUT_OF_FORM: StmtError = StmtError::Fault { number: 12 };
-
-/// A word of definitions, which stands behind the name that it defines.
+/// A word of definitions, which stands after the name that it defines.
 #[derive(Clone, Copy)]
 pub(crate) enum Definition {
     Segment,
@@ -60,7 +59,7 @@ fn definition_word(word: Option<Name>) -> Option<Definition>
     }
 }
 
-// A kind behind EXTRN is no word of definitions.
+// A kind after EXTRN is no word of definitions.
 fn beside_extrn(definition: Option<Definition>) -> Option<Definition>
     ensures { result ≡ beside_extrn definition }
 {
@@ -70,7 +69,7 @@ fn beside_extrn(definition: Option<Definition>) -> Option<Definition>
     }
 }
 
-/// The word of definitions behind a first word, if there is one. A kind behind EXTRN is none.
+/// The word of definitions after a first word, if there is one. A kind after EXTRN is none.
 pub(crate) fn definition_at(
     line: &[u8],
     tokens: &[Token],
@@ -97,7 +96,7 @@ pub(crate) fn expression_line(
     requires { All (IsWithin (length line.now)) tokens.now }
     ensures { Gives tree_of fault_of result (expression_line line.now tokens.now at) }
 {
-    match expression(alloc, line, tokens, at, 12) {
+    match expression(alloc, line, tokens, at, BAD_FORM) {
         Ok((value, next)) if next >= tokens.len() => Ok(value),
         Ok(_) => Err(OUT_OF_FORM),
         Err(error) => Err(error),
@@ -132,20 +131,11 @@ fn overlayable_at(line: &[u8], tokens: &[Token], at: usize) -> (bool, usize)
     }
 }
 
-fn is_code(kind: Kind) -> bool
-    ensures { result ≡ is_code kind }
+// Whether a segment of the kind may have the type, and be OVERLAYABLE where that stands.
+fn is_allowed(kind: Kind, reloc: Reloc, overlayable: bool) -> bool
+    ensures { result ≡ is_allowed kind reloc overlayable }
 {
-    match kind {
-        Kind::Code => true,
-        _ => false,
-    }
-}
-
-// Whether a segment of the kind and type may be OVERLAYABLE, where that stands.
-fn may_be(kind: Kind, reloc: Reloc, overlayable: bool) -> bool
-    ensures { result ≡ may_be kind reloc overlayable }
-{
-    allows(kind, reloc) && !(overlayable && is_code(kind))
+    allows(kind, reloc) && (!overlayable || may_overlay(kind, reloc))
 }
 
 // The kind that a word names.
@@ -169,7 +159,7 @@ fn segment(line: &[u8], tokens: &[Token], name: Name, at: usize) -> Result<Body,
     };
     let (reloc, next) = reloc_at(line, tokens, at + 1);
     let (overlayable, next) = overlayable_at(line, tokens, next);
-    if next >= tokens.len() && may_be(kind, reloc, overlayable) {
+    if next >= tokens.len() && is_allowed(kind, reloc, overlayable) {
         Ok(Body::Segment(name, kind, reloc, overlayable))
     } else {
         Err(OUT_OF_FORM)
@@ -185,7 +175,7 @@ fn is_segment(definition: Definition) -> bool
     }
 }
 
-// E6 where a definition wants an expression behind its word that does not stand.
+// E6 where a definition wants an expression after its word that does not stand.
 fn definition_met(
     alloc: Global,
     line: &str,

@@ -6,12 +6,14 @@ ghost use Rattle.m51_expr.specs.Tree.{tree_of};
 ghost use Rattle.m51_stmt.specs.Statement.{item_tree, body_tree};
 ghost use Rattle.m51_stmt.specs.Answer.{fault_of};
 ghost use Rattle.m51_stmt.specs.Lack.{same};
-ghost use Rattle.m51_stmt.specs.Directives.{name_line, end_line, select, with_value, value_form, list_of_items, items_form, with_name, name_form, public_form, extern_form, directive_form, directed};
+ghost use Rattle.m51_stmt.specs.Directives.{name_line, end_line, select, with_value, value_form, list_of_items};
+ghost use Rattle.m51_stmt.specs.Directives.{items_form, with_name, name_form, public_form, extern_form};
+ghost use Rattle.m51_stmt.specs.Directives.{directive_form, directed};
 
 use crate::definitions::expression_line;
 use crate::directives::{Directive, directive_met, is_at};
 use crate::externs::externs_at;
-use crate::fault::StmtError;
+use crate::fault::{OUT_OF_FORM, StmtError};
 use crate::lack::{Want, is_item};
 use crate::lists::{items_at, name_or_12, names_at};
 use crate::statement::{Body, Items};
@@ -20,9 +22,6 @@ use m51_cells::{Kind, Name};
 use m51_expr::Expr;
 use m51_lex::Token;
 use std::alloc::Global;
-
-// The line is out of its form.
-const OUT_OF_FORM: StmtError = StmtError::Fault { number: 12 };
 
 // The name from a place to the end of the line, or E12.
 fn name_line(line: &[u8], tokens: &[Token], at: usize) -> Result<Name, StmtError>

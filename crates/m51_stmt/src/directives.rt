@@ -1,4 +1,4 @@
-//! The words of directives, and what each wants behind it.
+//! The words of directives, and what each wants after it.
 ghost use Rattle.std.specs.Prelude.{◌≡◌, ◌≤◌, All, length};
 ghost use Rattle.m51_cells.specs.Outcome.{Gives};
 ghost use Rattle.m51_lex.specs.Tokens.{IsWithin};
@@ -7,15 +7,12 @@ ghost use Rattle.m51_stmt.specs.Lack.{same};
 ghost use Rattle.m51_stmt.specs.Directives.{directive_of, select_of, is_at, select_met, extern_met, directive_met};
 
 use crate::externs::{Region, defines_reserved};
-use crate::fault::StmtError;
+use crate::fault::{OUT_OF_FORM, StmtError};
 use crate::lack::{Want, all_closed, met};
 use crate::words::word_at;
 use m51_cells::{Kind, Name};
 use m51_lex::Token;
 use std::alloc::Global;
-
-// The line is out of its form.
-const OUT_OF_FORM: StmtError = StmtError::Fault { number: 12 };
 
 /// A directive.
 #[derive(Clone, Copy)]
@@ -114,7 +111,7 @@ fn extern_met(alloc: Global, line: &str, tokens: &[Token], at: usize) -> Result<
     requires within { at ≤ length tokens.now }
     ensures { Gives same fault_of result (extern_met line.now tokens.now at) }
 {
-    if defines_reserved(line.as_bytes(), &tokens[at..], Region::Outside) {
+    if defines_reserved(line.as_bytes(), &tokens[at..], Region::OUTSIDE) {
         return Err(OUT_OF_FORM);
     }
     all_closed(alloc, line, tokens, at)

@@ -1,24 +1,21 @@
 //! Reads EXTRN.
-ghost use Rattle.std.specs.Prelude.{◌≡◌, ◌≤◌, ◌<◌, ◌-◌, ◌+◌, ℕ, All, length};
+ghost use Rattle.std.specs.Prelude.{◌≡◌, ◌≤◌, ◌<◌, ◌-◌, ◌+◌, ◌^◌, ℕ, All, length};
 ghost use Rattle.m51_cells.specs.Outcome.{Gives};
 ghost use Rattle.m51_lex.specs.Tokens.{IsWithin};
-ghost use Rattle.m51_expr.specs.Ranks.{is_close};
 ghost use Rattle.m51_stmt.specs.Answer.{fault_of};
 ghost use Rattle.m51_stmt.specs.Lack.{same};
-ghost use Rattle.m51_stmt.specs.Externs.{group_at, after_group, after_name, more_externs, externs_at, region_after, is_reserved_token, is_at_name, defines_reserved};
+ghost use Rattle.m51_stmt.specs.Externs.{group_at, after_group, after_name, more_externs, externs_at, region_after};
+ghost use Rattle.m51_stmt.specs.Externs.{is_reserved_token, defines_reserved};
 
-use crate::fault::StmtError;
+use crate::fault::{OUT_OF_FORM, StmtError};
 use crate::kinds::extern_kind_of;
 use crate::lists::name_or_12;
 use crate::statement::Externs;
-use crate::words::{is_comma, is_open, word_at, word_of};
+use crate::words::{is_close, is_comma, is_open, word_at, word_of};
 use m51_cells::{Kind, ListOf, Name};
-use m51_expr::{Symbol, is_reserved, symbol_at};
+use m51_expr::{is_reserved, symbol_at};
 use m51_lex::{Token, What};
 use std::alloc::Global;
-
-// The line is out of its form.
-const OUT_OF_FORM: StmtError = StmtError::Fault { number: 12 };
 
 /// What follows a name of EXTRN: another one of its group, the first one of a group of this kind, or the line's end.
 #[derive(Clone, Copy)]
@@ -29,21 +26,19 @@ pub(crate) enum AfterName {
     Nothing,
 }
 
-/// Where a place of EXTRN lies: outside parentheses, inside them, or where a name is to stand.
+/// Where a token of EXTRN lies: how many parentheses are open, and whether a name is to stand.
 #[derive(Clone, Copy)]
-pub(crate) enum Region {
-    Outside,
-    Inside,
-    AtName,
+pub(crate) struct Region {
+    depth: usize,
+    at_name: bool,
 }
 
-fn is_closing(symbol: &Option<Symbol>) -> bool
-    ensures { result ≡ is_close symbol.now }
-{
-    match symbol {
-        Some(Symbol::Close) => true,
-        _ => false,
-    }
+impl Region {
+    /// Outside parentheses.
+    pub(crate) const OUTSIDE: Region = Region {
+        depth: 0,
+        at_name: false,
+    };
 }
 
 // The kind at a place, if an opening parenthesis follows it.
@@ -87,7 +82,7 @@ fn after_name(line: &[u8], tokens: &[Token], at: usize) -> AfterName
     let symbol = symbol_at(line, tokens, at);
     if is_comma(&symbol) {
         AfterName::Name
-    } else if is_closing(&symbol) {
+    } else if is_close(&symbol) {
         after_group(line, tokens, at + 1)
     } else {
         AfterName::Nothing
@@ -103,7 +98,8 @@ fn more_externs(
     at: usize,
 ) -> Result<Externs, StmtError>
     requires { All (IsWithin (length line.now)) tokens.now }
-    ensures gives { (n : ℕ) → length tokens.now - at < n → Gives same fault_of result (more_externs n line.now tokens.now done.items kind at) }
+    ensures gives { (n : ℕ) → length tokens.now - at < n →
+        Gives same fault_of result (more_externs n line.now tokens.now done.items kind at) }
 {
     match name_or_12(line, tokens, at) {
         Ok(name) => {
@@ -136,20 +132,28 @@ pub(crate) fn externs_at(
     }
 }
 
-// The region behind a token.
+// The region after a token.
 fn region_after(region: Region, what: What) -> Region
+    requires { region.depth + 1 < 2 ^ 64 }
     ensures { result ≡ region_after region what }
 {
+    let Region { depth, .. } = region;
     match what {
-        What::Sign(b'(') => Region::AtName,
-        What::Sign(b')') => Region::Outside,
-        What::Sign(b',') => match region {
-            Region::Outside => Region::Outside,
-            Region::Inside | Region::AtName => Region::AtName,
+        What::Sign(b'(') => Region {
+            depth: depth + 1,
+            at_name: true,
         },
-        _ => match region {
-            Region::Outside => Region::Outside,
-            Region::Inside | Region::AtName => Region::Inside,
+        What::Sign(b')') => Region {
+            depth: depth.saturating_sub(1),
+            at_name: false,
+        },
+        What::Sign(b',') => Region {
+            depth,
+            at_name: 0 < depth,
+        },
+        _ => Region {
+            depth,
+            at_name: false,
         },
     }
 }
@@ -164,24 +168,16 @@ fn is_reserved_token(line: &[u8], token: &Token) -> bool
     }
 }
 
-fn is_at_name(region: Region) -> bool
-    ensures { result ≡ is_at_name region }
-{
-    match region {
-        Region::AtName => true,
-        Region::Outside | Region::Inside => false,
-    }
-}
-
 /// Whether a reserved word stands in EXTRN where a name is to stand.
 pub(crate) fn defines_reserved(line: &[u8], tokens: &[Token], region: Region) -> bool
-    requires { All (IsWithin (length line.now)) tokens.now }
+    requires tokens { All (IsWithin (length line.now)) tokens.now }
+    requires depth { region.depth + length tokens.now < 2 ^ 64 }
     ensures { result ≡ defines_reserved line.now tokens.now region }
 {
     match tokens {
         [] => false,
         [token, more @ ..] => {
-            if is_at_name(region) && is_reserved_token(line, token) {
+            if region.at_name && is_reserved_token(line, token) {
                 return true;
             }
             defines_reserved(line, more, region_after(region, token.what))

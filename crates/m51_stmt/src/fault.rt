@@ -1,7 +1,7 @@
 //! What may be wrong with a line.
 ghost use Rattle.std.specs.Prelude.{◌≡◌};
 
-use m51_cells::NoMemory;
+use m51_cells::{BAD_FORM, NO_EXPRESSION, NO_INSTRUCTION, NoMemory};
 use std::alloc::{AllocError, AllocFailed};
 
 /// What is wrong with a line.
@@ -12,9 +12,22 @@ pub enum StmtError {
     /// The fault E`number`: 1 to 5 as of tokens, 6 where no expression stands, 11 for no instruction or a form that it
     /// has not, 12 for a directive, definition or control line out of its form, or a reserved word.
     Fault { number: u8 },
-    /// Want of memory.
+    /// Out of memory.
     Memory,
 }
+
+// No expression or operand stands where one is wanted.
+pub(crate) const LACKING: StmtError = StmtError::Fault {
+    number: NO_EXPRESSION,
+};
+
+// There is no such instruction, or it has no such operands.
+pub(crate) const NO_SUCH_INSTRUCTION: StmtError = StmtError::Fault {
+    number: NO_INSTRUCTION,
+};
+
+// A directive, a definition or a control is out of its form, or a reserved word is defined.
+pub(crate) const OUT_OF_FORM: StmtError = StmtError::Fault { number: BAD_FORM };
 
 impl From<AllocError> for StmtError {
     ghost use Rattle.m51_stmt.specs.declared.fault.StmtError.TheVariants.{Memory};

@@ -1,4 +1,4 @@
-//! What stands behind an @.
+//! What stands after an @.
 ghost use Rattle.std.specs.Prelude.{◌≡◌, ◌≤◌, All, IfSome, length, option_map};
 ghost use Rattle.m51_lex.specs.Tokens.{IsWithin};
 ghost use Rattle.m51_stmt.specs.Statement.{operand_tree};
@@ -8,7 +8,7 @@ use crate::statement::Operand;
 use m51_expr::{Symbol, symbol_at};
 use m51_lex::Token;
 
-/// What may stand behind an @.
+/// What may stand after an @.
 #[derive(Clone, Copy)]
 pub(crate) enum Behind {
     A,
@@ -49,7 +49,7 @@ fn behind_symbol(symbol: &Option<Symbol>) -> Behind
     }
 }
 
-/// What stands at a place, behind an @.
+/// What stands at a place, after an @.
 pub(crate) fn behind_at(line: &[u8], tokens: &[Token], at: usize) -> Behind
     requires { All (IsWithin (length line.now)) tokens.now }
     ensures { result ≡ behind_at line.now tokens.now at }
@@ -57,7 +57,7 @@ pub(crate) fn behind_at(line: &[u8], tokens: &[Token], at: usize) -> Behind
     behind_symbol(&symbol_at(line, tokens, at))
 }
 
-/// The operand of an @ and what stands behind it, and how many tokens it has.
+/// The operand of an @ and what stands after it, and how many tokens it has.
 pub(crate) fn indirect(a: Behind, b: Behind, c: Behind) -> Option<(Operand, usize)>
     ensures operand { option_map operand_and_count result ≡ indirect a b c }
     ensures few { IfSome result (λ r. r.1 ≤ 4) }

@@ -1,6 +1,6 @@
 //! The words for kinds and types.
 ghost use Rattle.std.specs.Prelude.{◌≡◌};
-ghost use Rattle.m51_stmt.specs.Kinds.{kind_of, extern_kind_of, reloc_of, allows};
+ghost use Rattle.m51_stmt.specs.Kinds.{kind_of, extern_kind_of, reloc_of};
 
 use m51_cells::{Kind, Reloc};
 
@@ -51,21 +51,5 @@ pub(crate) fn reloc_of(word: &[u8]) -> Option<Reloc>
         Some(Reloc::Page)
     } else {
         None
-    }
-}
-
-/// Whether a segment of the kind may be of the type.
-pub(crate) fn allows(kind: Kind, reloc: Reloc) -> bool
-    ensures { result ≡ allows kind reloc }
-{
-    match (kind, reloc) {
-        (_, Reloc::Unit) => true,
-        (Kind::Code, Reloc::Inpage) => true,
-        (Kind::Xdata, Reloc::Inpage) => true,
-        (Kind::Code, Reloc::Page) => true,
-        (Kind::Xdata, Reloc::Page) => true,
-        (Kind::Code, Reloc::Inblock) => true,
-        (Kind::Direct, Reloc::Bitaddressable) => true,
-        _ => false,
     }
 }

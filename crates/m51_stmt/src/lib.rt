@@ -7,17 +7,15 @@ mod directive_forms;
 mod directives;
 mod externs;
 mod fault;
-mod forms;
-mod groups;
 mod indirect;
 mod kinds;
 mod lack;
 mod laws;
 mod lists;
+mod looks;
 mod operands;
 mod printing;
 mod reading;
-mod shape;
 mod statement;
 mod statement_printing;
 #[cfg(test)]
@@ -25,7 +23,8 @@ mod tests;
 mod words;
 
 pub use fault::StmtError;
-pub use laws::{forms_are_rows, printed_reads_back};
+pub use laws::printed_reads_back;
+pub use looks::look_of;
 pub use reading::read_line;
 pub use statement::{Body, Externs, Item, Items, Operand, Operands, Stmt};
 pub use statement_printing::print_stmt;

@@ -5,20 +5,19 @@ ghost use Rattle.m51_lex.specs.Tokens.{IsWithin};
 ghost use Rattle.m51_stmt.specs.Statement.{item_tree};
 ghost use Rattle.m51_stmt.specs.Answer.{fault_of};
 ghost use Rattle.m51_stmt.specs.Lack.{same, is_item};
-ghost use Rattle.m51_stmt.specs.Lists.{characters, is_text_alone, name_at, name_or_12, more_names, names_at, item_and_place, text_item, value_item, item_at, item_trees, more_items, items_at};
+ghost use Rattle.m51_stmt.specs.Lists.{characters, is_text_alone, name_at, name_or_12, more_names, names_at};
+ghost use Rattle.m51_stmt.specs.Lists.{item_and_place, text_item, value_item, item_at, item_trees, more_items};
+ghost use Rattle.m51_stmt.specs.Lists.{items_at};
 
-use crate::fault::StmtError;
+use crate::fault::{OUT_OF_FORM, StmtError};
 use crate::lack::{Want, is_item};
 use crate::operands::expression;
 use crate::statement::{Item, Items};
 use crate::words::is_comma;
-use m51_cells::{Bytes, ListOf, Name, Names, NoMemory};
+use m51_cells::{BAD_FORM, Bytes, ListOf, Name, Names, NoMemory};
 use m51_expr::{Symbol, symbol_at};
 use m51_lex::{Token, What};
 use std::alloc::Global;
-
-// The line is out of its form.
-const OUT_OF_FORM: StmtError = StmtError::Fault { number: 12 };
 
 /// The name at a place, if one stands there.
 pub(crate) fn name_at(line: &[u8], tokens: &[Token], at: usize) -> Option<Name>
@@ -52,7 +51,8 @@ fn more_names(
     at: usize,
 ) -> Result<Names, StmtError>
     requires { All (IsWithin (length line.now)) tokens.now }
-    ensures gives { (n : ℕ) → length tokens.now - at ≤ n → Gives same fault_of result (more_names n line.now tokens.now done.items at) }
+    ensures gives { (n : ℕ) → length tokens.now - at ≤ n →
+        Gives same fault_of result (more_names n line.now tokens.now done.items at) }
 {
     if at >= tokens.len() {
         return Ok(ListOf::of(done));
@@ -89,7 +89,7 @@ pub(crate) fn names_at(
     }
 }
 
-// The characters of what stands between quotes, behind some that are read. Two quotes stand for one.
+// The characters of what stands between quotes, after some that are read. Two quotes stand for one.
 fn characters(text: &[u8], mut done: Bytes) -> Result<Bytes, NoMemory>
     ensures { IfOk result (λ all. all ≡ done ++ characters text.now) }
 {
@@ -106,7 +106,7 @@ fn characters(text: &[u8], mut done: Bytes) -> Result<Bytes, NoMemory>
     }
 }
 
-// Whether a text stands at a place, and nothing or a comma behind it.
+// Whether a text stands at a place, and nothing or a comma after it.
 fn is_text_alone(line: &[u8], tokens: &[Token], at: usize) -> bool
     requires { All (IsWithin (length line.now)) tokens.now }
     ensures { result ≡ is_text_alone line.now tokens.now at }
@@ -142,7 +142,7 @@ fn value_item(
     ensures gives { Gives item_and_place fault_of result (value_item line.now tokens.now at) }
     ensures within { IfOk result (λ r. (at < r.1) × (r.1 ≤ length tokens.now)) }
 {
-    match expression(alloc, line, tokens, at, 12) {
+    match expression(alloc, line, tokens, at, BAD_FORM) {
         Ok((value, next)) => Ok((Item::Value(value), next)),
         Err(error) => Err(error),
     }
@@ -181,7 +181,8 @@ fn more_items(
     at: usize,
 ) -> Result<Items, StmtError>
     requires { All (IsWithin (length line.now)) tokens.now }
-    ensures gives { (n : ℕ) → length tokens.now - at ≤ n → Gives item_trees fault_of result (more_items n line.now tokens.now want (map item_tree done.items) at) }
+    ensures gives { (n : ℕ) → length tokens.now - at ≤ n →
+        Gives item_trees fault_of result (more_items n line.now tokens.now want (map item_tree done.items) at) }
 {
     if at >= tokens.len() {
         return Ok(ListOf::of(done));

@@ -1,19 +1,21 @@
 //! Reads the operands of instructions.
-ghost use Rattle.std.specs.Prelude.{◌≡◌, ◌≤◌, ◌<◌, ◌+◌, [], ◌∷◌, All, IfOk, length, map, option_map, option_and_then, Ok};
+ghost use Rattle.std.specs.Prelude.{◌≡◌, ◌≤◌, ◌<◌, ◌+◌, [], ◌∷◌, All, IfOk, length, map, option_map, option_and_then};
+ghost use Rattle.std.specs.Prelude.{Ok};
 ghost use Rattle.m51_cells.specs.Outcome.{Gives};
 ghost use Rattle.m51_lex.specs.Tokens.{IsWithin};
 ghost use Rattle.m51_expr.specs.Reading.{tree_and_place, expression_at};
 ghost use Rattle.m51_stmt.specs.Statement.{Imm, Plain, NotBit, operand_tree, body_tree};
 ghost use Rattle.m51_stmt.specs.Answer.{or_fault, fault_of};
 ghost use Rattle.m51_stmt.specs.Indirect.{operand_and_count};
-ghost use Rattle.m51_stmt.specs.Operands.{register, start_of, register_at, indirect_at, with_operand, operand_at, after_first, after_second, operands_at, trees, instruction};
+ghost use Rattle.m51_stmt.specs.Operands.{register, start_of, register_at, indirect_at, with_operand, operand_at};
+ghost use Rattle.m51_stmt.specs.Operands.{after_first, after_second, operands_at, trees, instruction};
 
-use crate::fault::StmtError;
+use crate::fault::{NO_SUCH_INSTRUCTION, StmtError};
 use crate::indirect::{behind_at, indirect};
-use crate::shape::has_form;
+use crate::looks::has_form;
 use crate::statement::{Body, Operand, Operands};
 use crate::words::{is_comma, register_number, word_at};
-use m51_cells::{ListOf, Name};
+use m51_cells::{ListOf, NO_INSTRUCTION, Name};
 use m51_expr::{Binary, Expr, ReadError, Symbol, read_expr, symbol_at};
 use m51_lex::Token;
 use std::alloc::Global;
@@ -27,9 +29,6 @@ pub(crate) enum Start {
     Slash,
     Expression,
 }
-
-// The instruction is out of its form.
-const OUT_OF_FORM: StmtError = StmtError::Fault { number: 11 };
 
 /// The expression that begins at a place, and the place after it, or this fault.
 pub(crate) fn expression(
@@ -101,7 +100,7 @@ fn register_at(line: &[u8], tokens: &[Token], at: usize) -> Result<(Operand, usi
 {
     match register_of(word_at(line, tokens, at)) {
         Some(operand) => Ok((operand, at + 1)),
-        None => Err(OUT_OF_FORM),
+        None => Err(NO_SUCH_INSTRUCTION),
     }
 }
 
@@ -116,7 +115,7 @@ fn indirect_at(line: &[u8], tokens: &[Token], at: usize) -> Result<(Operand, usi
     let c = behind_at(line, tokens, at + 3);
     match indirect(a, b, c) {
         Some((operand, count)) => Ok((operand, at + count)),
-        None => Err(OUT_OF_FORM),
+        None => Err(NO_SUCH_INSTRUCTION),
     }
 }
 
@@ -127,10 +126,11 @@ fn immediate(
     at: usize,
 ) -> Result<(Operand, usize), StmtError>
     requires { All (IsWithin (length line.now)) tokens.now }
-    ensures gives { Gives operand_and_count fault_of result (with_operand Imm (or_fault 11 (expression_at line.now tokens.now at))) }
+    ensures gives { Gives operand_and_count fault_of result
+        (with_operand Imm (or_fault 11 (expression_at line.now tokens.now at))) }
     ensures most { IfOk result (λ r. r.1 ≤ length tokens.now + 4) }
 {
-    match expression(alloc, line, tokens, at, 11) {
+    match expression(alloc, line, tokens, at, NO_INSTRUCTION) {
         Ok((value, next)) => Ok((Operand::Imm(value), next)),
         Err(error) => Err(error),
     }
@@ -143,10 +143,11 @@ fn not_bit(
     at: usize,
 ) -> Result<(Operand, usize), StmtError>
     requires { All (IsWithin (length line.now)) tokens.now }
-    ensures gives { Gives operand_and_count fault_of result (with_operand NotBit (or_fault 11 (expression_at line.now tokens.now at))) }
+    ensures gives { Gives operand_and_count fault_of result
+        (with_operand NotBit (or_fault 11 (expression_at line.now tokens.now at))) }
     ensures most { IfOk result (λ r. r.1 ≤ length tokens.now + 4) }
 {
-    match expression(alloc, line, tokens, at, 11) {
+    match expression(alloc, line, tokens, at, NO_INSTRUCTION) {
         Ok((value, next)) => Ok((Operand::NotBit(value), next)),
         Err(error) => Err(error),
     }
@@ -159,10 +160,11 @@ fn plain(
     at: usize,
 ) -> Result<(Operand, usize), StmtError>
     requires { All (IsWithin (length line.now)) tokens.now }
-    ensures gives { Gives operand_and_count fault_of result (with_operand Plain (or_fault 11 (expression_at line.now tokens.now at))) }
+    ensures gives { Gives operand_and_count fault_of result
+        (with_operand Plain (or_fault 11 (expression_at line.now tokens.now at))) }
     ensures most { IfOk result (λ r. r.1 ≤ length tokens.now + 4) }
 {
-    match expression(alloc, line, tokens, at, 11) {
+    match expression(alloc, line, tokens, at, NO_INSTRUCTION) {
         Ok((value, next)) => Ok((Operand::Plain(value), next)),
         Err(error) => Err(error),
     }
@@ -226,11 +228,11 @@ fn after_second(
         return two(alloc, a, b);
     }
     if !is_comma(&symbol_at(line.as_bytes(), tokens, at)) {
-        return Err(OUT_OF_FORM);
+        return Err(NO_SUCH_INSTRUCTION);
     }
     match operand(alloc, line, tokens, at + 1) {
         Ok((c, next)) if next >= tokens.len() => three(alloc, a, b, c),
-        Ok(_) => Err(OUT_OF_FORM),
+        Ok(_) => Err(NO_SUCH_INSTRUCTION),
         Err(error) => Err(error),
     }
 }
@@ -250,7 +252,7 @@ fn after_first(
         return one(alloc, a);
     }
     if !is_comma(&symbol_at(line.as_bytes(), tokens, at)) {
-        return Err(OUT_OF_FORM);
+        return Err(NO_SUCH_INSTRUCTION);
     }
     match operand(alloc, line, tokens, at + 1) {
         Ok((b, next)) => after_second(alloc, line, tokens, a, b, next),
@@ -287,7 +289,7 @@ pub(crate) fn instruction(
         Ok(operands) if has_form(mnemonic.bytes(), operands.as_slice()) => {
             Ok(Body::Code(mnemonic, operands))
         }
-        Ok(_) => Err(OUT_OF_FORM),
+        Ok(_) => Err(NO_SUCH_INSTRUCTION),
         Err(error) => Err(error),
     }
 }

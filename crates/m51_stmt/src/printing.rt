@@ -1,12 +1,13 @@
-//! Prints statements: each token with a blank behind it, and each operator with its operands in parentheses.
-ghost use Rattle.std.specs.Prelude.{◌≡◌, ◌<◌, ◌++◌, true, IfOk, OnOk, map};
-ghost use Rattle.std.specs.Fmt.{digit_glyph};
+//! Prints statements: each token with a blank after it, and each operator with its operands in parentheses.
+ghost use Rattle.std.specs.Prelude.{◌≡◌, ◌++◌, IfOk, OnOk, map};
 ghost use Rattle.m51_expr.specs.Tree.{tree_of};
 ghost use Rattle.m51_stmt.specs.Statement.{operand_tree, item_tree};
-ghost use Rattle.m51_stmt.specs.Printing.{word_text, number_text, unary_word, binary_word, expr_text, register_word, marked_text, indirect_text, sum_text, operand_text, separated, doubled, text_text, item_text, kind_word, extern_text};
+ghost use Rattle.m51_stmt.specs.Printing.{word_text, number_text, unary_word, binary_word, expr_text, register_word};
+ghost use Rattle.m51_stmt.specs.Printing.{marked_text, indirect_text, sum_text, operand_text, separated, doubled};
+ghost use Rattle.m51_stmt.specs.Printing.{text_text, item_text, kind_word, extern_text};
 
 use crate::statement::{Item, Operand};
-use m51_cells::{Kind, Name, NoMemory};
+use m51_cells::{Kind, Name, NoMemory, hex4};
 use m51_expr::{Binary, Expr, Unary};
 
 /// A word and a blank.
@@ -18,33 +19,12 @@ pub(crate) fn put(out: &mut Vec<u8>, word: &[u8]) -> Result<(), NoMemory>
     Ok(())
 }
 
-// The hexadecimal digit of a number below 16.
-fn digit(number: u16) -> u8
-    requires { number < 16 }
-    ensures { result ≡ digit_glyph true number }
-{
-    if number < 10 {
-        b'0' + number as u8
-    } else {
-        b'A' + (number - 10) as u8
-    }
-}
-
 // A number: a 0, its four hexadecimal digits, and H.
 fn put_number(out: &mut Vec<u8>, number: u16) -> Result<(), NoMemory>
     ensures { OnOk result (out.new.items ≡ out.old.items ++ word_text (number_text number)) }
 {
-    let high = number / 256;
-    let low = number % 256;
-    let text = [
-        b'0',
-        digit(high / 16),
-        digit(high % 16),
-        digit(low / 16),
-        digit(low % 16),
-        b'H',
-    ];
-    put(out, &text)
+    let [a, b, c, d] = hex4(number);
+    put(out, &[b'0', a, b, c, d, b'H'])
 }
 
 fn unary_word(op: Unary) -> &'static [u8]

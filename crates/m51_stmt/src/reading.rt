@@ -4,31 +4,23 @@ ghost use Rattle.m51_cells.specs.Outcome.{Gives};
 ghost use Rattle.m51_lex.specs.Tokens.{IsWithin, tokens_at};
 ghost use Rattle.m51_stmt.specs.Statement.{body_tree, stmt_tree};
 ghost use Rattle.m51_stmt.specs.Answer.{fault_of};
-ghost use Rattle.m51_stmt.specs.Lines.{is_mnemonic, spoken, said, label_at, behind_label, statement, control_line, token_line, any_line, statement_of};
+ghost use Rattle.m51_stmt.specs.Lines.{spoken, said, label_at, behind_label, statement, control_line, token_line};
+ghost use Rattle.m51_stmt.specs.Lines.{any_line, statement_of};
 
 use crate::control::control;
 use crate::definitions::{defined, definition_at};
 use crate::directive_forms::directed;
 use crate::directives::directive_of;
-use crate::fault::StmtError;
-use crate::groups::group_of;
+use crate::fault::{NO_SUCH_INSTRUCTION, OUT_OF_FORM, StmtError};
 use crate::lack::{Want, met};
 use crate::operands::instruction;
 use crate::statement::{Body, Stmt};
 use crate::words::{is_colon, word_at};
 use m51_cells::Name;
 use m51_expr::{is_reserved, symbol_at};
-use m51_lex::{LexError, Token, tokens};
+use m51_isa::is_mnemonic;
+use m51_lex::{LONG_LINE, LexError, Token, tokens};
 use std::alloc::Global;
-
-fn is_mnemonic(word: &[u8]) -> bool
-    ensures { result ≡ is_mnemonic word.now }
-{
-    match group_of(word) {
-        Some(_) => true,
-        None => false,
-    }
-}
 
 // The instruction or the directive that a word begins, or E11 where it begins none.
 fn spoken(
@@ -43,14 +35,14 @@ fn spoken(
     ensures { Gives body_tree fault_of result (spoken line.now tokens.now word at) }
 {
     if is_mnemonic(word.bytes()) {
-        return match met(alloc, line, tokens, Want::Nothing, Want::Operand, at) {
+        return match met(alloc, line, tokens, Want::First, Want::Operand, at) {
             Ok(()) => instruction(alloc, line, tokens, word, at),
             Err(error) => Err(error),
         };
     }
     match directive_of(word.bytes()) {
         Some(directive) => directed(alloc, line, tokens, directive, at),
-        None => Err(StmtError::Fault { number: 11 }),
+        None => Err(NO_SUCH_INSTRUCTION),
     }
 }
 
@@ -64,7 +56,7 @@ fn said(alloc: Global, line: &str, tokens: &[Token], at: usize) -> Result<Body, 
     }
     let bytes = line.as_bytes();
     let Some(word) = word_at(bytes, tokens, at) else {
-        return Err(StmtError::Fault { number: 11 });
+        return Err(NO_SUCH_INSTRUCTION);
     };
     match definition_at(bytes, tokens, word.bytes(), at + 1) {
         Some(definition) => defined(alloc, line, tokens, definition, word.bytes(), at),
@@ -83,13 +75,13 @@ fn label_at(line: &[u8], tokens: &[Token]) -> Option<Name>
     word_at(line, tokens, 0)
 }
 
-// The statement behind a label, which is no reserved word, or E12.
+// The statement after a label, which is no reserved word, or E12.
 fn behind_label(alloc: Global, line: &str, tokens: &[Token], label: Name) -> Result<Stmt, StmtError>
     requires { All (IsWithin (length line.now)) tokens.now }
     ensures { Gives stmt_tree fault_of result (behind_label line.now tokens.now label) }
 {
     if is_reserved(label.bytes()) {
-        return Err(StmtError::Fault { number: 12 });
+        return Err(OUT_OF_FORM);
     }
     match said(alloc, line, tokens, 2) {
         Ok(body) => Ok(Stmt {
@@ -178,7 +170,7 @@ fn any_line(alloc: Global, line: &str) -> Result<Stmt, StmtError>
     if first == b'$' {
         control_line(alloc, behind_first(bytes))
     } else if first == b'%' {
-        Err(StmtError::Fault { number: 12 })
+        Err(OUT_OF_FORM)
     } else {
         token_line(alloc, line)
     }
@@ -196,7 +188,7 @@ pub fn read_line(alloc: Global, line: &str) -> Result<Stmt, StmtError>
     ensures { Gives stmt_tree fault_of result (statement_of line.now) }
 {
     if line.len() > 255 {
-        return Err(StmtError::Fault { number: 5 });
+        return Err(StmtError::Fault { number: LONG_LINE });
     }
     any_line(alloc, line)
 }

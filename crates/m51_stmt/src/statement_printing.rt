@@ -2,7 +2,10 @@
 ghost use Rattle.std.specs.Prelude.{◌≡◌, ◌++◌, IfOk, OnOk, codes, map, option_map};
 ghost use Rattle.m51_expr.specs.Tree.{tree_of};
 ghost use Rattle.m51_stmt.specs.Statement.{operand_tree, item_tree, body_tree, stmt_tree};
-ghost use Rattle.m51_stmt.specs.Printing.{word_text, operand_text, item_text, extern_text, separated, select_word, reloc_word, directive_text, named_text, definition_text, include_text, mod51_text, overlayable_text, segment_text, at_text, select_text, list_text, label_text, body_text, stmt_text};
+ghost use Rattle.m51_stmt.specs.Printing.{word_text, operand_text, item_text, extern_text, separated, select_word};
+ghost use Rattle.m51_stmt.specs.Printing.{reloc_word, directive_text, named_text, definition_text, include_text};
+ghost use Rattle.m51_stmt.specs.Printing.{mod51_text, overlayable_text, segment_text, at_text, select_text};
+ghost use Rattle.m51_stmt.specs.Printing.{list_text, label_text, body_text, stmt_text};
 
 use crate::printing::{kind_word, put, put_expr, put_externs, put_items, put_names, put_operands};
 use crate::statement::{Body, Item, Operand, Stmt};
@@ -120,28 +123,32 @@ fn put_select(out: &mut Vec<u8>, kind: Kind, at: &Option<Expr>) -> Result<(), No
 }
 
 fn put_code(out: &mut Vec<u8>, mnemonic: &[u8], operands: &[Operand]) -> Result<(), NoMemory>
-    ensures { OnOk result (out.new.items ≡ out.old.items ++ list_text mnemonic.now (separated operand_text (map operand_tree operands.now))) }
+    ensures { OnOk result (out.new.items ≡ out.old.items
+        ++ list_text mnemonic.now (separated operand_text (map operand_tree operands.now))) }
 {
     put(out, mnemonic)?;
     put_operands(out, operands)
 }
 
 fn put_data(out: &mut Vec<u8>, word: &[u8], items: &[Item]) -> Result<(), NoMemory>
-    ensures { OnOk result (out.new.items ≡ out.old.items ++ list_text word.now (separated item_text (map item_tree items.now))) }
+    ensures { OnOk result (out.new.items ≡ out.old.items
+        ++ list_text word.now (separated item_text (map item_tree items.now))) }
 {
     put(out, word)?;
     put_items(out, items)
 }
 
 fn put_public(out: &mut Vec<u8>, names: &[Name]) -> Result<(), NoMemory>
-    ensures { OnOk result (out.new.items ≡ out.old.items ++ list_text (codes "PUBLIC") (separated word_text names.now)) }
+    ensures { OnOk result (out.new.items ≡ out.old.items
+        ++ list_text (codes "PUBLIC") (separated word_text names.now)) }
 {
     put(out, b"PUBLIC")?;
     put_names(out, names)
 }
 
 fn put_extrn(out: &mut Vec<u8>, externs: &[(Name, Kind)]) -> Result<(), NoMemory>
-    ensures { OnOk result (out.new.items ≡ out.old.items ++ list_text (codes "EXTRN") (separated extern_text externs.now)) }
+    ensures { OnOk result (out.new.items ≡ out.old.items
+        ++ list_text (codes "EXTRN") (separated extern_text externs.now)) }
 {
     put(out, b"EXTRN")?;
     put_externs(out, externs)
@@ -190,7 +197,7 @@ fn put_label(out: &mut Vec<u8>, label: &Option<Name>) -> Result<(), NoMemory>
     }
 }
 
-/// The line of a statement: each token with a blank behind it, numbers in hexadecimal, and each operator with its
+/// The line of a statement: each token with a blank after it, numbers in hexadecimal, and each operator with its
 /// operands in parentheses. That `read_line` gives the statement back is only tested.
 ///
 /// Errors: want of memory.

@@ -161,8 +161,14 @@ LJMP 'abc'\n\
 DB 'abc'+1\n\
 CSEG AT\n\
 L: X EQU\n\
+NOP ''\n\
+MOV A,B ''+1\n\
 EXTRN DATA ()\n\
 EXTRN DATA (X\n\
+EXTRN DATA (+)\n\
+END (AND)\n\
+END (-NOT X)\n\
+END ((X Y))\n\
 ";
 
 // Lines of fault 11: no instruction, or out of its form.
@@ -181,6 +187,8 @@ MOV A,R0+1\n\
 MOV A,@R2\n\
 MOVC A,@A+\n\
 CJNE A,#1,L,M\n\
+MOV A ''\n\
+MOV A,B ''\n\
 ";
 
 // Lines of fault 12: out of their form, or a reserved word is to be defined.
@@ -198,6 +206,15 @@ RSEG MOV\n\
 NAME ADD\n\
 RSEG\n\
 END +\n\
+DS 5 'abc'\n\
+DW 5 ''\n\
+CSEG AT 5 'abc'\n\
+PUBLIC (X+)\n\
+CSEG (1+)\n\
+END (20H AND)\n\
+END (NOT -X)\n\
+EXTRN ((X),A\n\
+EXTRN ) ( AR3 X\n\
 PUBLIC X,+\n\
 DB 'abc' 5\n\
 EXTRN DATA (X,)\n\
@@ -212,7 +229,7 @@ $INCLUDE()\n\
 $INCLUDE(a)b\n\
 ";
 
-// The printed line of a line's statement, or the number of the fault; 0 is want of memory.
+// The printed line of a line's statement, or the number of the fault; 0 is out of memory.
 fn answer(alloc: Global, line: &str) -> Result<Vec<u8>, u8> {
     match read_line(alloc, line) {
         Ok(statement) => print_stmt(alloc, &statement).map_err(|_| 0),

@@ -3,8 +3,9 @@ ghost use Rattle.std.specs.Prelude.{◌≡◌, ◌<◌, All, IsSome, length};
 ghost use Rattle.std.specs.List.{list_any};
 ghost use Rattle.std.specs.Str.{bytes_eq};
 ghost use Rattle.m51_lex.specs.Tokens.{IsWithin};
-ghost use Rattle.m51_expr.specs.Ranks.{is_open};
-ghost use Rattle.m51_stmt.specs.Words.{word_of, word_at, is_comma, is_colon, is_text, is_operator, register_number, is_register, begins_expression, begins_operand};
+ghost use Rattle.m51_expr.specs.Ranks.{is_open, is_close};
+ghost use Rattle.m51_stmt.specs.Words.{word_of, word_at, is_comma, is_colon, is_text, is_operator, register_number};
+ghost use Rattle.m51_stmt.specs.Words.{is_register, begins_expression, begins_operand};
 
 use m51_cells::Name;
 use m51_expr::{Binary, Symbol};
@@ -65,8 +66,8 @@ pub(crate) fn is_open(symbol: &Option<Symbol>) -> bool
     ensures { result ≡ is_open symbol.now }
 {
     match symbol {
-        Some(Symbol::Open) => true,
-        _ => false,
+        Some(symbol) => symbol.is_open(),
+        None => false,
     }
 }
 
@@ -77,6 +78,16 @@ pub(crate) fn is_text(symbol: &Option<Symbol>) -> bool
     match symbol {
         Some(Symbol::Text) => true,
         _ => false,
+    }
+}
+
+/// Whether it is a closing parenthesis.
+pub(crate) fn is_close(symbol: &Option<Symbol>) -> bool
+    ensures { result ≡ is_close symbol.now }
+{
+    match symbol {
+        Some(symbol) => symbol.is_close(),
+        None => false,
     }
 }
 

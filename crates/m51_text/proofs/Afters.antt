@@ -1,7 +1,7 @@
 -- Lines that are read one after another.
 use Rattle.std.proofs.Common.{◌≡◌, ℕ, ◌+◌, Bool, true, false, cond, nat_le, List, [], ◌∷◌, ◌++◌, length, refl, sym, ap, ◌∙◌}
 use Rattle.m51_module.specs.declared.source.SourceFile.{SourceFile}
-use Rattle.m51_lines.specs.Lines.{lines_of}
+use Rattle.std.specs.Str.Lines.{lines}
 use Rattle.m51_text.specs.declared.inclusion.Inclusion.{Inclusion}
 use Rattle.m51_text.specs.declared.reading.Reading.{Reading}
 use Rattle.m51_text.specs.Said.{said}
@@ -35,16 +35,16 @@ after_full includes s (x ∷ xs) full = ap (λ t. after includes t xs) (next_ful
 
 -- a line is read, and then what it brings in
 pub after_line : (includes : List SourceFile) (levels file number : ℕ) (bytes : List ℕ) (rest behind : List ℕ) (s s1 s2 whole : State) (found : Inclusion)
-    → lines_of rest ≡ bytes ∷ lines_of behind
+    → lines rest ≡ bytes ∷ lines behind
     → s1 ≡ next includes s (record { file = file; line = number; levels = levels; bytes = bytes })
     → found ≡ inclusion_of includes levels (said bytes)
     → s2 ≡ after includes s1 (inserted includes levels found)
-    → after includes s (lines_with (brought includes levels) levels file number (lines_of rest)) ≡ whole
-    → after includes s2 (lines_with (brought includes levels) levels file (number + 1) (lines_of behind)) ≡ whole
+    → after includes s (lines_with (brought includes levels) levels file number (lines rest)) ≡ whole
+    → after includes s2 (lines_with (brought includes levels) levels file (number + 1) (lines behind)) ≡ whole
 unfolding after
 after_line includes levels file number bytes rest behind s s1 s2 whole found cut read given inserts so_far =
     let line : TextLine = record { file = file; line = number; levels = levels; bytes = bytes } in
-    let more = lines_with (brought includes levels) levels file (number + 1) (lines_of behind) in
+    let more = lines_with (brought includes levels) levels file (number + 1) (lines behind) in
     ap (λ t. after includes t more) inserts
     ∙ ap (λ i. after includes (after includes s1 (inserted includes levels i)) more) given
     ∙ ap (λ l. after includes (after includes s1 l) more) (sym (brought_is includes levels bytes))
@@ -59,9 +59,9 @@ unfolding after
 after_last includes s = refl
 
 pub after_end : (includes : List SourceFile) (levels file number : ℕ) (rest : List ℕ) (s whole : State) → rest ≡ []
-    → after includes s (lines_with (brought includes levels) levels file number (lines_of rest)) ≡ whole → s ≡ whole
-unfolding after lines_of
-after_end includes levels file number rest s whole none so_far = ap (λ r. after includes s (lines_with (brought includes levels) levels file number (lines_of r))) (sym none) ∙ so_far
+    → after includes s (lines_with (brought includes levels) levels file number (lines rest)) ≡ whole → s ≡ whole
+unfolding after
+after_end includes levels file number rest s whole none so_far = ap (λ r. after includes s (lines_with (brought includes levels) levels file number (lines r))) (sym none) ∙ so_far
 
 -- reading has stopped
 pub after_stop : (includes : List SourceFile) (r : Reading) (xs : List TextLine) (whole : State) → nat_le 65536 (length r.entries.items) ≡ true → after includes (state_of r) xs ≡ whole → state_of r ≡ whole

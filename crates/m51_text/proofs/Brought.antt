@@ -19,7 +19,7 @@ some_inserted includes levels (Given index) = ap (λ n. file_lines includes n (i
 some_inserted includes levels Nothing = refl
 some_inserted includes levels Refused = refl
 
--- what a line brings in is what is inserted behind it
+-- what a line brings in is what is inserted after it
 pub brought_is : (includes : List SourceFile) (levels : ℕ) (line : List ℕ) → brought includes levels line ≡ inserted includes levels (inclusion_of includes levels (said line))
 unfolding brought
 brought_is includes zero line = none_inserted includes (asked (said line))

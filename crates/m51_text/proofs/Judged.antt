@@ -4,7 +4,8 @@ use Rattle.std.specs.Option.{option_map}
 use Rattle.std.specs.List.{list_any, filter_map, cons_option}
 use Rattle.m51_module.specs.declared.source.SourceFile.{SourceFile}
 use Rattle.m51_stmt.specs.Statement.{StmtTree}
-use Rattle.m51_text.specs.declared.fault.Fault.{Fault}
+use Rattle.m51_module.specs.declared.source.Fault.{Fault}
+use Rattle.m51_cells.specs.declared.fault.TheConstants.{MISPLACED_END}
 use Rattle.m51_text.specs.Said.{said}
 use Rattle.m51_text.specs.Text.{TextLine, inclusion_of}
 use Rattle.m51_text.specs.Faults as text
@@ -19,7 +20,7 @@ entries_from includes above [] = []
 entries_from includes above (line ∷ below) = entry_of includes (length above) (list_any ends_source above) line ∷ entries_from includes (above ++ line ∷ []) below
 
 by_said : (includes : List SourceFile) (above : List TextLine) (line : TextLine) (missing : Bool) (r : Result StmtTree ℕ)
-    → fault_said line.file line.line (cond missing (Some 16) (fault_above (length above) (list_any ends_source above) line.file (inclusion_of includes line.levels r) r)) r
+    → fault_said line.file line.line (cond missing (Some MISPLACED_END) (fault_above (length above) (list_any ends_source above) line.file (inclusion_of includes line.levels r) r)) r
     ≡ option_map (fault_at line.file line.line) (fault_with includes above line missing r)
 by_said includes above line true (Ok statement) = refl
 by_said includes above line false (Ok statement) = refl

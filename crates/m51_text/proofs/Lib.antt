@@ -5,3 +5,4 @@ pub mod Afters
 pub mod Judged
 pub mod Telling
 pub mod Whole
+pub mod Numbered

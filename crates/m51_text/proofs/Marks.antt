@@ -4,21 +4,10 @@ use Rattle.std.specs.List.{list_any}
 use Rattle.std.proofs.Math.ListN.{set}
 use Rattle.std.proofs.Math.Seq.{drop-cons}
 use Rattle.std.proofs.lemmas.List.{map-set, get_or-map, get_or_default, drop-map}
+use Rattle.std.proofs.lemmas.Bool.{or_parts, or_left, or_right}
 use Rattle.std.proofs.lemmas.Bool.Decides.{nat_tests}
 use Rattle.m51_text.specs.declared.entry.Entry.{Entry}
 use Rattle.m51_text.specs.Entries.{EntryTree, entry_tree, is_of_source, with_missing_end, marked}
-
-neither : (a b : Bool) → (a || b) ≡ false → (a ≡ false) × (b ≡ false)
-neither true b h = absurd (cc)
-neither false b h = (refl, h)
-
-any_head : (a b : Bool) → a ≡ true → (a || b) ≡ true
-any_head true b h = refl
-any_head false b h = absurd (cc)
-
-any_tail : (a b : Bool) → b ≡ true → (a || b) ≡ true
-any_tail true b h = refl
-any_tail false b h = h
 
 mark_head : (e : EntryTree) (a b : Bool) → (a && not b) ≡ false → with_missing_end (a && not b) e ≡ e
 mark_head e a b h = ap (λ m. with_missing_end m e) h
@@ -41,14 +30,14 @@ last_here false b h k = absurd (cc)
 marked_none : (entries : List EntryTree) → list_any is_of_source entries ≡ false → marked entries ≡ entries
 marked_none [] h = refl
 marked_none (e ∷ entries) h =
-    let parts = neither (is_of_source e) (list_any is_of_source entries) h in
+    let parts = or_parts (is_of_source e) (list_any is_of_source entries) h in
     ap (λ x. x ∷ marked entries) (mark_head e (is_of_source e) (list_any is_of_source entries) (not_here (is_of_source e) (not (list_any is_of_source entries)) parts.0))
     ∙ ap (λ l. e ∷ l) (marked_none entries parts.1)
 
 any_at : (entries : List EntryTree) (at : ℕ) (d : EntryTree) → at < length entries → is_of_source (get_or entries at d) ≡ true → list_any is_of_source entries ≡ true
 any_at [] at d inside h = absurd (omega (arith, inside))
-any_at (e ∷ entries) zero d inside h = any_head (is_of_source e) (list_any is_of_source entries) h
-any_at (e ∷ entries) (suc at) d inside h = any_tail (is_of_source e) (list_any is_of_source entries) (any_at entries at d (omega (arith, inside)) h)
+any_at (e ∷ entries) zero d inside h = or_left (is_of_source e) (list_any is_of_source entries) h
+any_at (e ∷ entries) (suc at) d inside h = or_right (is_of_source e) (list_any is_of_source entries) (any_at entries at d (omega (arith, inside)) h)
 
 -- the last line of the source is marked
 marked_at : (entries : List EntryTree) (at : ℕ) (d : EntryTree) → at < length entries → is_of_source (get_or entries at d) ≡ true → list_any is_of_source (drop (suc at) entries) ≡ false

@@ -3,7 +3,8 @@ use Rattle.std.proofs.Common.{◌≡◌, ℕ, suc, true, false, ◌==◌, List, 
 use Rattle.std.specs.List.{filter_map, cons_option}
 use Rattle.std.proofs.lemmas.Bool.Decides.{nat_tests}
 use Rattle.m51_stmt.specs.declared.statement.Stmt.{Stmt}
-use Rattle.m51_text.specs.declared.fault.Fault.{Fault}
+use Rattle.m51_module.specs.declared.source.Fault.{Fault}
+use Rattle.m51_cells.specs.declared.fault.TheConstants.{MISPLACED_END}
 use Rattle.m51_text.specs.declared.text.Line.{Line}
 use Rattle.m51_text.specs.declared.entry.Entry.{Entry}
 use Rattle.m51_text.specs.Answer.{Lines, Faults, LineTree, line_tree, faults_or_lines}
@@ -56,7 +57,7 @@ faults_told entries faults some kept =
     ∙ ap (λ f. faults_or_lines f (filter_map tree_of_entry (map entry_tree entries))) (kept ∙ sym (same_faults entries))
 
 -- of no lines
-pub nothing_told : (entries : List Entry) → (length entries == 0) ≡ true → Faults (fault_at 0 1 16 ∷ []) ≡ told (map entry_tree entries)
+pub nothing_told : (entries : List Entry) → (length entries == 0) ≡ true → Faults (fault_at 0 1 MISPLACED_END ∷ []) ≡ told (map entry_tree entries)
 nothing_told entries h = ap (λ l. told (map entry_tree l)) (sym (none entries h))
 
 -- of lines

@@ -2,7 +2,7 @@
 use Rattle.std.specs.Prelude.{ℕ, List, [], ◌∷◌, map, Result, Ok, Err}
 use Rattle.m51_module.specs.declared.source.SourceFile.{SourceFile}
 use Rattle.m51_stmt.specs.Statement.{StmtTree, stmt_tree}
-use Rattle.m51_text.specs.declared.fault.Fault.{Fault}
+use Rattle.m51_module.specs.declared.source.Fault.{Fault}
 use Rattle.m51_text.specs.declared.text.Line.{Line}
 use Rattle.m51_text.specs.declared.text.Text.{Text}
 use Rattle.m51_text.specs.declared.text.Text.TheVariants as text

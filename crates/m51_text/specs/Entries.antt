@@ -1,9 +1,11 @@
 -- Lines that were read.
-use Rattle.std.specs.Prelude.{ℕ, ◌==◌, ◌&&◌, not, Bool, if◌then◌else◌, List, [], ◌∷◌, Option, Some, None, option_map, Result, Ok, Err}
+use Rattle.std.specs.Prelude.{ℕ, ◌==◌, ◌&&◌, not, Bool, if◌then◌else◌, List, [], ◌∷◌, Option, Some, None, option_map}
+use Rattle.std.specs.Prelude.{Result, Ok, Err}
 use Rattle.std.specs.List.{list_any}
 use Rattle.m51_stmt.specs.declared.statement.Stmt.{Stmt}
 use Rattle.m51_stmt.specs.Statement.{StmtTree}
-use Rattle.m51_text.specs.declared.fault.Fault.{Fault}
+use Rattle.m51_module.specs.declared.source.Fault.{Fault}
+use Rattle.m51_cells.specs.declared.fault.TheConstants.{MISPLACED_END}
 use Rattle.m51_text.specs.declared.text.Line.{Line}
 use Rattle.m51_text.specs.declared.entry.Entry.{Entry}
 use Rattle.m51_text.specs.Said.{said_tree}
@@ -59,11 +61,16 @@ tree_of_entry e = tree_said e.file e.line e.said
 abbrev pub is_of_source : EntryTree → Bool
 is_of_source e = e.file == 0
 
--- fault 16 of a line at which END is missing
+-- the fault of a line at which END is missing
 abbrev pub with_missing_end : Bool → EntryTree → EntryTree
-with_missing_end missing e = record { file = e.file; line = e.line; said = e.said; by_place = if missing then Some 16 else e.by_place }
+with_missing_end missing e = record {
+  file = e.file;
+  line = e.line;
+  said = e.said;
+  by_place = if missing then Some MISPLACED_END else e.by_place;
+}
 
--- these lines with fault 16 at the last line of the source
+-- these lines with that fault at the last line of the source
 abbrev pub marked : List EntryTree → List EntryTree
 marked [] = []
 marked (e ∷ entries) = with_missing_end (is_of_source e && not (list_any is_of_source entries)) e ∷ marked entries

@@ -2,5 +2,6 @@ pub mod Said
 pub mod Text
 pub mod Faults
 pub mod Answer
+pub mod Laws
 pub mod Entries
 pub mod Reading

@@ -1,8 +1,11 @@
--- What is kept while a text is read: what each line says, and its fault by what stands above it.
-use Rattle.std.specs.Prelude.{ℕ, ◌+◌, ◌-◌, ◌==◌, ◌&&◌, ◌||◌, not, Bool, false, nat_le, nat_lt, if◌then◌else◌, List, [], ◌∷◌, ◌++◌, length, map, slice_get, Option, None, Result, Ok, Err}
+-- Words of the code, over which it is proved. What is kept while a text is read: what each line says, and its fault by
+-- what stands above it.
+use Rattle.std.specs.Prelude.{ℕ, ◌+◌, ◌-◌, ◌==◌, ◌&&◌, ◌||◌, not, Bool, false, nat_le, nat_lt, if◌then◌else◌, List, []}
+use Rattle.std.specs.Prelude.{◌∷◌, ◌++◌, length, map, slice_get, Option, None, Result, Ok, Err}
 use Rattle.std.specs.List.{filter_map}
 use Rattle.m51_module.specs.declared.source.SourceFile.{SourceFile}
 use Rattle.m51_stmt.specs.Statement.{StmtTree}
+use Rattle.m51_cells.specs.declared.fault.TheConstants.{MISPLACED_END}
 use Rattle.m51_text.specs.declared.inclusion.Inclusion.{Inclusion}
 use Rattle.m51_text.specs.declared.inclusion.Inclusion.TheVariants.{Given}
 use Rattle.m51_text.specs.declared.reading.Place.{Place}
@@ -28,19 +31,29 @@ text_line place bytes = record { file = place.file; line = place.line; levels = 
 
 -- the fault by its place of a line with so many lines above it, of which one is the END of the source or not
 abbrev pub fault_above : ℕ → Bool → ℕ → Inclusion → Result StmtTree ℕ → Option ℕ
-fault_above above ended file inclusion (Ok statement) = fault_by_place (is_misplaced ended (file == 0) statement) inclusion above
+fault_above above ended file inclusion (Ok statement) =
+    fault_by_place (is_misplaced ended (file == 0) statement) inclusion above
 fault_above above ended file inclusion (Err number) = None
 
 -- a line with its fault by its place
 abbrev pub entry_of : List SourceFile → ℕ → Bool → TextLine → EntryTree
 entry_of includes above ended line =
-    record { file = line.file; line = line.line; said = said line.bytes; by_place = fault_above above ended line.file (inclusion_of includes line.levels (said line.bytes)) (said line.bytes) }
+    record {
+      file = line.file;
+      line = line.line;
+      said = said line.bytes;
+      by_place =
+          fault_above above ended line.file (inclusion_of includes line.levels (said line.bytes)) (said line.bytes);
+    }
 
 -- after one line more, of which there are at most 65,536
 abbrev pub next : List SourceFile → State → TextLine → State
 next includes s line =
     if nat_le 65536 (length s.entries) then s
-    else record { entries = s.entries ++ entry_of includes (length s.entries) s.ended line ∷ []; ended = s.ended || ends_source line }
+    else record {
+      entries = s.entries ++ entry_of includes (length s.entries) s.ended line ∷ [];
+      ended = s.ended || ends_source line;
+    }
 
 -- after these lines
 unfoldable pub after : List SourceFile → State → List TextLine → State
@@ -49,7 +62,8 @@ after includes s (line ∷ lines) = after includes (next includes s line) lines
 
 -- the lines of the include that a line brings in, below which so many levels may stand
 abbrev pub inserted : List SourceFile → ℕ → Inclusion → List TextLine
-inserted includes levels (Given index) = file_lines includes (levels - 1) (index + 1) (bytes_of (slice_get includes index))
+inserted includes levels (Given index) =
+    file_lines includes (levels - 1) (index + 1) (bytes_of (slice_get includes index))
 inserted includes levels inclusion = []
 
 -- before the first line
@@ -66,5 +80,5 @@ settled s = if lacks_end s then marked s.entries else s.entries
 
 -- the faults of lines, or where there are none the lines
 abbrev pub told : List EntryTree → TextTree
-told [] = Faults (fault_at 0 1 16 ∷ [])
+told [] = Faults (fault_at 0 1 MISPLACED_END ∷ [])
 told (e ∷ entries) = faults_or_lines (filter_map fault_of_entry (e ∷ entries)) (filter_map tree_of_entry (e ∷ entries))

@@ -1,6 +1,8 @@
 -- What a line of a source says.
-use Rattle.std.specs.Prelude.{ℕ, ◌==◌, ◌&&◌, ◌||◌, not, Bool, true, false, nat_le, if◌then◌else◌, List, Option, Some, None, is_some, Result, Ok, Err}
+use Rattle.std.specs.Prelude.{ℕ, ◌==◌, ◌&&◌, ◌||◌, not, Bool, true, false, nat_le, if◌then◌else◌, List, Option, Some}
+use Rattle.std.specs.Prelude.{None, is_some, Result, Ok, Err}
 use Rattle.std.specs.List.{list_all}
+use Rattle.m51_cells.specs.declared.fault.TheConstants.{BAD_BYTE}
 use Rattle.m51_lex.specs.Characters.{tab}
 use Rattle.m51_stmt.specs.declared.statement.Stmt.{Stmt}
 use Rattle.m51_stmt.specs.Statement.{BodyTree, Empty, End, Include, StmtTree, stmt_tree}
@@ -10,10 +12,10 @@ use Rattle.m51_stmt.specs.Lines.{statement_of}
 abbrev pub is_character : ℕ → Bool
 is_character byte = byte == tab || nat_le 0x20 byte && nat_le byte 0x7E
 
--- What a line says, its end left out: its statement, or fault 18 for a byte that may not stand, or else the first fault by
--- the grammar of lines.
+-- What a line says, its end left out: its statement, or the fault of a byte that may not stand, or else the first fault
+-- by the grammar of lines.
 unfoldable pub said : List ℕ → Result StmtTree ℕ
-said line = if list_all is_character line then statement_of line else Err 18
+said line = if list_all is_character line then statement_of line else Err BAD_BYTE
 
 -- what contracts see of a statement or its fault
 abbrev pub said_tree : Result Stmt ℕ → Result StmtTree ℕ
@@ -30,7 +32,7 @@ abbrev pub is_end : Result StmtTree ℕ → Bool
 is_end (Ok statement) = is_end_body statement.body
 is_end (Err number) = false
 
--- blanks and a comment alone
+-- blanks and a comment only
 abbrev pub is_empty_body : BodyTree → Bool
 is_empty_body Empty = true
 is_empty_body body = false

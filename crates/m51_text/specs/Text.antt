@@ -1,8 +1,9 @@
--- The lines of a text: those of the source in order, each include line with the lines of its include behind it.
-use Rattle.std.specs.Prelude.{ℕ, zero, suc, ◌+◌, ◌<◌, ◌==◌, Bool, if◌then◌else◌, List, [], ◌∷◌, ◌++◌, take, position, slice_get, Option, Some, None, Result}
+-- The lines of a text: those of the source in order, each include line with the lines of its include after it.
+use Rattle.std.specs.Prelude.{ℕ, zero, suc, ◌+◌, ◌<◌, ◌==◌, Bool, if◌then◌else◌, List, [], ◌∷◌, ◌++◌, take, position}
+use Rattle.std.specs.Prelude.{slice_get, Option, Some, None, Result}
 use Rattle.std.specs.Str.{bytes_eq}
 use Rattle.m51_module.specs.declared.source.SourceFile.{SourceFile}
-use Rattle.m51_lines.specs.Lines.{lines_of}
+use Rattle.std.specs.Str.Lines.{lines}
 use Rattle.m51_stmt.specs.Statement.{StmtTree}
 use Rattle.m51_text.specs.declared.inclusion.Inclusion.{Inclusion}
 use Rattle.m51_text.specs.declared.inclusion.Inclusion.TheVariants.{Nothing, Refused, Given}
@@ -20,7 +21,7 @@ pub record TextLine : Type 0 where
 abbrev pub has_name : List ℕ → SourceFile → Bool
 has_name name file = bytes_eq file.name name
 
--- the include at a place, or a refusal where there is none
+-- the include of an index, or a refusal where there is none
 abbrev pub given_at : Option ℕ → Inclusion
 given_at (Some index) = Given index
 given_at None = Refused
@@ -43,11 +44,12 @@ abbrev pub IsAllowed : ℕ → ℕ → Inclusion → Type 0
 IsAllowed count levels (Given index) = (index < count) × (0 < levels)
 IsAllowed count levels inclusion = Unit {0}
 
--- a file's lines from this number on, each with the lines behind it that it brings in
+-- a file's lines from this number on, each with the lines after it that it brings in
 abbrev pub lines_with : (List ℕ → List TextLine) → ℕ → ℕ → ℕ → List (List ℕ) → List TextLine
 lines_with brought levels file number [] = []
 lines_with brought levels file number (line ∷ lines) =
-    record { file = file; line = number; levels = levels; bytes = line } ∷ (brought line ++ lines_with brought levels file (number + 1) lines)
+    record { file = file; line = number; levels = levels; bytes = line }
+    ∷ (brought line ++ lines_with brought levels file (number + 1) lines)
 
 -- the bytes of a file, where there is one
 abbrev pub bytes_of : Option SourceFile → List ℕ
@@ -56,18 +58,20 @@ bytes_of None = []
 
 -- the lines of the include that is brought in, below which so many levels may stand
 abbrev pub include_lines : List SourceFile → (List ℕ → List TextLine) → ℕ → Inclusion → List TextLine
-include_lines includes brought levels (Given index) = lines_with brought levels (index + 1) 1 (lines_of (bytes_of (slice_get includes index)))
+include_lines includes brought levels (Given index) =
+    lines_with brought levels (index + 1) 1 (lines (bytes_of (slice_get includes index)))
 include_lines includes brought levels Refused = []
 include_lines includes brought levels Nothing = []
 
 -- the lines that a line brings in, below which so many levels may stand
 unfoldable pub brought : List SourceFile → ℕ → List ℕ → List TextLine
 brought includes zero line = []
-brought includes (suc levels) line = include_lines includes (brought includes levels) levels (inclusion_of includes (suc levels) (said line))
+brought includes (suc levels) line =
+    include_lines includes (brought includes levels) levels (inclusion_of includes (suc levels) (said line))
 
 -- the lines of a file of these bytes, and those that they bring in
 abbrev pub file_lines : List SourceFile → ℕ → ℕ → List ℕ → List TextLine
-file_lines includes levels file bytes = lines_with (brought includes levels) levels file 1 (lines_of bytes)
+file_lines includes levels file bytes = lines_with (brought includes levels) levels file 1 (lines bytes)
 
 -- the lines of a text, as far as they are read: eight levels of includes, and 65,536 lines
 unfoldable pub text_lines : SourceFile → List SourceFile → List TextLine

@@ -1,18 +1,19 @@
 //! From a source and its includes to the text or its faults.
 ghost use Rattle.std.specs.Prelude.{◌≡◌, ◌≤◌, [], ◌∷◌, IfOk, length, map};
 ghost use Rattle.std.specs.List.{filter_map};
-ghost use Rattle.m51_text.specs.Entries.{entry_tree, fault_at, fault_kept, fault_of_entry, line_of_entry, tree_of_entry};
+ghost use Rattle.m51_cells.specs.declared.fault.TheConstants.{MISPLACED_END};
+ghost use Rattle.m51_text.specs.Entries.{entry_tree, fault_at, fault_kept, fault_of_entry, line_of_entry};
+ghost use Rattle.m51_text.specs.Entries.{tree_of_entry};
 ghost use Rattle.m51_text.specs.Answer.{faults_or_lines, text_of, text_tree};
 ghost use Rattle.m51_text.specs.Reading.{state_of, settled, told};
 
 use crate::entry::Entry;
-use crate::fault::{Fault, Faults};
 use crate::inserting::read_file;
 use crate::missing_end::mark_missing_end;
 use crate::reading::Reading;
 use crate::text::{Line, Lines, Text};
-use m51_cells::NoMemory;
-use m51_module::SourceFile;
+use m51_cells::{MISPLACED_END, NoMemory};
+use m51_module::{Fault, Faults, SourceFile};
 use std::alloc::{AllocError, Global};
 
 /// How many levels of includes may stand below the lines of a source.
@@ -40,20 +41,22 @@ fn lines_of(alloc: Global, entries: Vec<Entry>) -> Result<Vec<Line>, AllocError>
 
 // The faults of a source of no lines: it lacks END.
 fn faults_of_nothing(alloc: Global) -> Result<Vec<Fault>, NoMemory>
-    ensures { IfOk result (λ faults. faults.items ≡ fault_at 0 1 16 ∷ []) }
+    ensures { IfOk result (λ faults. faults.items ≡ fault_at 0 1 MISPLACED_END ∷ []) }
 {
     let mut faults = Vec::new(alloc);
     faults.push(Fault {
         file: 0,
         line: 1,
-        number: 16,
+        number: MISPLACED_END,
     })?;
     Ok(faults)
 }
 
 // The faults of lines, or where there are none the lines.
 fn faults_or_lines(alloc: Global, entries: Vec<Entry>) -> Result<Text, NoMemory>
-    ensures { IfOk result (λ text. text_tree text ≡ faults_or_lines (filter_map fault_of_entry (map entry_tree entries.items)) (filter_map tree_of_entry (map entry_tree entries.items))) }
+    ensures { IfOk result (λ text. text_tree text
+        ≡ faults_or_lines (filter_map fault_of_entry (map entry_tree entries.items))
+        (filter_map tree_of_entry (map entry_tree entries.items))) }
 {
     let faults = faults_of(alloc, &entries)?;
     if faults.is_empty() {
@@ -87,16 +90,16 @@ fn told(alloc: Global, entries: Vec<Entry>) -> Result<Text, NoMemory>
 
 /// The text of a source and its includes, or its faults.
 ///
-/// The lines of the text are those of the source in order, each line `$INCLUDE(name)` with the lines behind it of the first
-/// include of exactly that name, which may bring in others: eight levels deep. Reading stops at line 65,536.
+/// The lines of the text are those of the source in order, each line `$INCLUDE(name)` with the lines after it of the
+/// first include of exactly that name, which may bring in others: eight levels deep. Reading stops at line 65,536.
 ///
-/// A line has at most one fault, the first of these: E18 for a byte other than a tab and 20H to 7EH, in comments too; its
-/// fault as `read_line` gives it, E1 to E6, E11 and E12; E16 for more than blanks and a comment behind the END of the source,
-/// for END in an include, and at the last line of the source where END is missing; E17 for an include that is not given or
-/// stands too deep; E19 for line 65,536. A source of no lines has E16 at line 1. Where reading stopped, END does not count as
-/// missing. Where a line has a fault, the answer is the faults in the order of the lines.
+/// A line has at most one fault, the first of these: E18 for a byte other than a tab and 20H to 7EH, in comments too;
+/// its fault as `read_line` gives it, E1 to E6, E11 and E12; E16 for more than blanks and a comment after the END of
+/// the source, for END in an include, and at the last line of the source where END is missing; E17 for an include that
+/// is not given or stands too deep; E19 for line 65,536. A source of no lines has E16 at line 1. Where reading stopped,
+/// END does not count as missing. Where a line has a fault, the answer is the faults in the order of the lines.
 ///
-/// Errors: want of memory.
+/// Error: out of memory.
 ///
 /// Source: own choice ("The text of a source").
 pub fn read_text(

@@ -1,13 +1,11 @@
 //! Lines that were read.
 ghost use Rattle.std.specs.Prelude.{◌≡◌};
 
-use crate::fault::Fault;
 use crate::saying::Said;
 use crate::text::Line;
+use m51_module::Fault;
 
 /// A line that was read.
-///
-/// Source: own choice ("The text of a source").
 #[derive(Drop)]
 pub(crate) struct Entry {
     pub file: u16,
@@ -31,8 +29,6 @@ impl Entry {
     }
 
     /// The fault of the line.
-    ///
-    /// Source: own choice ("Faults of a source").
     #[tactic(auto, unfolding(crate::specs::Entries::fault_kept))]
     pub(crate) fn fault(&self) -> Option<Fault>
         ensures { result ≡ fault_kept self.now }
@@ -47,8 +43,6 @@ impl Entry {
     }
 
     /// The line with its statement, if it says one.
-    ///
-    /// Source: own choice ("The text of a source").
     pub(crate) fn into_line(self) -> Option<Line>
         ensures { result ≡ line_of_entry self }
     {

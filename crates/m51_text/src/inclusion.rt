@@ -9,18 +9,17 @@ use m51_module::SourceFile;
 use m51_stmt::Body;
 
 /// Which include a line brings in.
-///
-/// Source: own choice ("The text of a source").
 #[derive(Clone, Copy)]
 pub(crate) enum Inclusion {
     /// The line asks for none.
     Nothing,
     /// None has the name, or it would be nested too deep: E17.
     Refused,
-    /// The include at this place of the list.
+    /// The include of this index.
     Given(usize),
 }
 
+// The name in an include line.
 fn include_name(body: &Body) -> Option<&[u8]>
     ensures { option_map (λ name. name.now) result ≡ include_name (body_tree body.now) }
 {
@@ -40,9 +39,9 @@ fn asked(said: &Said) -> Option<&[u8]>
     }
 }
 
-// The place of the first include of a name.
-fn place_of(includes: &[SourceFile], name: &[u8]) -> Option<usize>
-    ensures place { result ≡ position (has_name name.now) includes.now }
+// The index of the first include of a name.
+fn index_of(includes: &[SourceFile], name: &[u8]) -> Option<usize>
+    ensures index { result ≡ position (has_name name.now) includes.now }
     ensures within { IfSome result (λ index. index < length includes.now) }
 {
     includes
@@ -50,19 +49,18 @@ fn place_of(includes: &[SourceFile], name: &[u8]) -> Option<usize>
         .position(|file| file.name.as_slice() == name)
 }
 
+// The first include of a name.
 fn given(includes: &[SourceFile], name: &[u8]) -> Inclusion
     ensures given { result ≡ given includes.now name.now }
     ensures allowed { IsAllowed (length includes.now) 1 result }
 {
-    match place_of(includes, name) {
+    match index_of(includes, name) {
         Some(index) => Inclusion::Given(index),
         None => Inclusion::Refused,
     }
 }
 
 /// Which include a line brings in below which so many levels of includes may stand.
-///
-/// Source: own choice ("The text of a source").
 pub(crate) fn inclusion_of(includes: &[SourceFile], levels: u8, said: &Said) -> Inclusion
     ensures inclusion { result ≡ inclusion_of includes.now levels (said_tree said.now) }
     ensures allowed { IsAllowed (length includes.now) levels result }
@@ -80,8 +78,6 @@ pub(crate) fn inclusion_of(includes: &[SourceFile], levels: u8, said: &Said) -> 
 }
 
 /// The bytes of an include.
-///
-/// Source: own choice ("Files").
 pub(crate) fn bytes_at(includes: &[SourceFile], index: usize) -> &[u8]
     requires { index < length includes.now }
     ensures { result.now ≡ bytes_of (slice_get includes.now index) }

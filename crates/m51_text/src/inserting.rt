@@ -5,17 +5,14 @@ ghost use Rattle.m51_text.specs.Reading.{state_of, after, inserted};
 
 use crate::inclusion::{Inclusion, bytes_at};
 use crate::reading::{Place, Reading};
-use m51_cells::NoMemory;
-use m51_lines::first_line;
+use m51_cells::{NoMemory, first_line};
 use m51_module::SourceFile;
 use std::alloc::Global;
 
-/// Reads a file's lines, each with those behind it that it brings in. So many levels of includes may stand below them.
+/// Reads a file's lines, each with those after it that it brings in. So many levels of includes may stand below them.
 /// Where 65,536 lines are read, nothing more is.
 ///
-/// Errors: want of memory.
-///
-/// Source: own choice ("The text of a source").
+/// Error: out of memory.
 #[cycle(inserting)]
 pub(crate) fn read_file(
     alloc: Global,
@@ -26,12 +23,13 @@ pub(crate) fn read_file(
     reading: &mut Reading,
 ) -> Result<(), NoMemory>
     requires { length includes.now ≤ 65535 }
-    ensures state { OnOk result (state_of reading.new ≡ after includes.now (state_of reading.old) (file_lines includes.now levels file bytes.now)) }
+    ensures state { OnOk result (state_of reading.new
+        ≡ after includes.now (state_of reading.old) (file_lines includes.now levels file bytes.now)) }
     ensures grows { OnOk result (vec_len reading.old.entries ≤ vec_len reading.new.entries) }
 {
     let mut rest = bytes;
     let mut line = 1;
-    while let Some((text, behind)) = first_line(rest) {
+    while let Some((text, after)) = first_line(rest) {
         if reading.is_full() {
             return Ok(());
         }
@@ -39,7 +37,7 @@ pub(crate) fn read_file(
         let inclusion = reading.read_line(alloc, includes, place, text)?;
         insert(alloc, includes, levels, inclusion, reading)?;
         line += 1;
-        rest = behind;
+        rest = after;
     }
     Ok(())
 }
@@ -56,7 +54,8 @@ fn insert(
 ) -> Result<(), NoMemory>
     requires few { length includes.now ≤ 65535 }
     requires allowed { IsAllowed (length includes.now) levels inclusion }
-    ensures state { OnOk result (state_of reading.new ≡ after includes.now (state_of reading.old) (inserted includes.now levels inclusion)) }
+    ensures state { OnOk result (state_of reading.new
+        ≡ after includes.now (state_of reading.old) (inserted includes.now levels inclusion)) }
     ensures grows { OnOk result (vec_len reading.old.entries ≤ vec_len reading.new.entries) }
 {
     match inclusion {

@@ -3,9 +3,9 @@
 
 mod answering;
 mod entry;
-mod fault;
 mod inclusion;
 mod inserting;
+mod laws;
 mod missing_end;
 mod placing;
 mod reading;
@@ -13,7 +13,7 @@ mod saying;
 mod text;
 
 pub use answering::read_text;
-pub use fault::{Fault, Faults};
+pub use laws::lines_are_of_files;
 pub use text::{Line, Lines, Text};
 
 #[cfg(test)]

@@ -3,16 +3,15 @@ ghost use Rattle.std.specs.Prelude.{◌≡◌, map};
 ghost use Rattle.m51_text.specs.Entries.{entry_tree, marked};
 
 use crate::entry::Entry;
+use m51_cells::MISPLACED_END;
 
 /// Gives E16 to the last line of the source itself, where it says a statement.
-///
-/// Source: own choice ("Faults of a source").
 pub(crate) fn mark_missing_end(entries: &mut Vec<Entry>)
     ensures { map entry_tree entries.new.items ≡ marked (map entry_tree entries.old.items) }
 {
     for at in (0..entries.len()).rev() {
         if entries[at].file == 0 {
-            entries[at].by_place = Some(16);
+            entries[at].by_place = Some(MISPLACED_END);
             return;
         }
     }

@@ -6,11 +6,13 @@ ghost use Rattle.m51_text.specs.Faults.{is_misplaced, is_refused, fault_by_place
 
 use crate::inclusion::Inclusion;
 use crate::saying::Said;
+use m51_cells::{BAD_INCLUDE, MISPLACED_END, MOST_SOURCE_LINES, TOO_MANY};
 use m51_stmt::{Body, Stmt};
 
-/// How many lines of a text are read.
-pub(crate) const MOST_LINES: usize = 65_536;
+/// How many lines of a text are read: one more than a source may have.
+pub(crate) const MOST_LINES: usize = MOST_SOURCE_LINES + 1;
 
+// Whether it is the word END.
 fn is_end_body(body: &Body) -> bool
     ensures { result ≡ is_end_body (body_tree body.now) }
 {
@@ -20,6 +22,7 @@ fn is_end_body(body: &Body) -> bool
     }
 }
 
+// Whether it has no statement.
 fn is_empty_body(body: &Body) -> bool
     ensures { result ≡ is_empty_body (body_tree body.now) }
 {
@@ -30,8 +33,6 @@ fn is_empty_body(body: &Body) -> bool
 }
 
 /// Whether a line says END.
-///
-/// Source: own choice ("Faults of a source").
 pub(crate) fn is_end(said: &Said) -> bool
     ensures { result ≡ is_end (said_tree said.now) }
 {
@@ -48,7 +49,7 @@ fn is_text(statement: &Stmt) -> bool
     statement.label.is_some() || !is_empty_body(&statement.body)
 }
 
-// Whether it is text behind the END of the source, or END in an include.
+// Whether it is text after the END of the source, or END in an include.
 fn is_misplaced(ended: bool, file: u16, statement: &Stmt) -> bool
     ensures { result ≡ is_misplaced ended (file == 0) (stmt_tree statement.now) }
 {
@@ -58,6 +59,7 @@ fn is_misplaced(ended: bool, file: u16, statement: &Stmt) -> bool
     file != 0 && is_end_body(&statement.body)
 }
 
+// Whether an include is not given or too deep.
 fn is_refused(inclusion: Inclusion) -> bool
     ensures { result ≡ is_refused inclusion }
 {
@@ -67,10 +69,8 @@ fn is_refused(inclusion: Inclusion) -> bool
     }
 }
 
-/// The first fault by its place of a line that says a statement, with so many lines above it: E16 for text behind the END
-/// of the source and for END in an include, E17 for an include that is refused, E19 for line 65,536.
-///
-/// Source: own choice ("Faults of a source").
+/// The first fault by its place of a line that says a statement, with so many lines above it: E16 for text after the
+/// END of the source and for END in an include, E17 for an include that is refused, E19 for line 65,536.
 pub(crate) fn fault_by_place(
     ended: bool,
     file: u16,
@@ -81,11 +81,11 @@ pub(crate) fn fault_by_place(
     ensures { result ≡ fault_by_place (is_misplaced ended (file == 0) (stmt_tree statement.now)) inclusion above }
 {
     if is_misplaced(ended, file, statement) {
-        Some(16)
+        Some(MISPLACED_END)
     } else if is_refused(inclusion) {
-        Some(17)
-    } else if above == MOST_LINES - 1 {
-        Some(19)
+        Some(BAD_INCLUDE)
+    } else if above == MOST_SOURCE_LINES {
+        Some(TOO_MANY)
     } else {
         None
     }

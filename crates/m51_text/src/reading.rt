@@ -1,5 +1,6 @@
 //! What is kept while a text is read.
-ghost use Rattle.std.specs.Prelude.{◌≡◌, ◌+◌, ◌==◌, ◌&&◌, ◌<◌, [], Bool, false, IfOk, OnOk, length, nat_le, nat_lt, not, vec_len};
+ghost use Rattle.std.specs.Prelude.{◌≡◌, ◌+◌, ◌==◌, ◌&&◌, ◌<◌, [], Bool, false, IfOk, OnOk, length, nat_le, nat_lt};
+ghost use Rattle.std.specs.Prelude.{not, vec_len};
 ghost use Rattle.m51_text.specs.Said.{said, said_tree, is_end};
 ghost use Rattle.m51_text.specs.Text.{inclusion_of, IsAllowed};
 ghost use Rattle.m51_text.specs.Reading.{State, state_of, text_line, fault_above, next};
@@ -13,8 +14,6 @@ use m51_module::SourceFile;
 use std::alloc::Global;
 
 /// Where a line stands.
-///
-/// Source: own choice ("The text of a source").
 #[derive(Clone, Copy)]
 pub(crate) struct Place {
     /// The file: 0 for the source, k for the k-th include.
@@ -26,8 +25,6 @@ pub(crate) struct Place {
 }
 
 /// The lines that were read, and whether the END of the source is among them.
-///
-/// Source: own choice ("The text of a source").
 #[derive(Drop)]
 pub(crate) struct Reading {
     pub entries: Vec<Entry>,
@@ -43,8 +40,6 @@ fn ends_source(file: u16, said: &Said) -> bool
 
 impl Reading {
     /// No line is read yet.
-    ///
-    /// Source: own choice ("The text of a source").
     pub(crate) fn new(alloc: Global) -> Reading
         ensures { state_of result ≡ record { entries = []; ended = false } }
     {
@@ -55,8 +50,6 @@ impl Reading {
     }
 
     /// Whether reading stops here: 65,536 lines are read.
-    ///
-    /// Source: own choice ("Faults of a source").
     pub(crate) fn is_full(&self) -> bool
         ensures { result ≡ nat_le 65536 (vec_len self.now.entries) }
     {
@@ -64,8 +57,6 @@ impl Reading {
     }
 
     /// Whether END is missing: all was read, and no END of the source is among it.
-    ///
-    /// Source: own choice ("Faults of a source").
     pub(crate) fn lacks_end(&self) -> bool
         ensures { result ≡ (nat_lt (vec_len self.now.entries) 65536 && not self.now.ended) }
     {
@@ -90,9 +81,7 @@ impl Reading {
 
     /// Reads the next line, which stands without its end, and says which include it brings in.
     ///
-    /// Errors: want of memory.
-    ///
-    /// Source: own choice ("The text of a source").
+    /// Error: out of memory.
     pub(crate) fn read_line(
         &mut self,
         alloc: Global,
@@ -101,7 +90,8 @@ impl Reading {
         line: &[u8],
     ) -> Result<Inclusion, NoMemory>
         requires { vec_len self.old.entries < 65536 }
-        ensures state { OnOk result (state_of self.new ≡ next includes.now (state_of self.old) (text_line place line.now)) }
+        ensures state { OnOk result (state_of self.new
+            ≡ next includes.now (state_of self.old) (text_line place line.now)) }
         ensures inclusion { IfOk result (λ found. found ≡ inclusion_of includes.now place.levels (said line.now)) }
         ensures more { OnOk result (vec_len self.new.entries ≡ vec_len self.old.entries + 1) }
         ensures allowed { IfOk result (IsAllowed (length includes.now) place.levels) }

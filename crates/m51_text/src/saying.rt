@@ -4,13 +4,11 @@ ghost use Rattle.std.specs.List.{list_all};
 ghost use Rattle.m51_stmt.specs.Lines.{statement_of};
 ghost use Rattle.m51_text.specs.Said.{is_character, said, said_tree};
 
-use m51_cells::NoMemory;
+use m51_cells::{BAD_BYTE, NoMemory};
 use m51_stmt::{Stmt, StmtError, read_line};
 use std::alloc::Global;
 
 /// What a line says: its statement, or the number of its fault.
-///
-/// Source: own choice ("The text of a source").
 pub(crate) type Said = Result<Stmt, u8>;
 
 // Whether each byte may stand in a line: a tab, or 20H to 7EH.
@@ -32,21 +30,19 @@ fn spoken(alloc: Global, line: &str) -> Result<Said, NoMemory>
     }
 }
 
-/// What a line says, which stands without its end: its statement, or E18 for a byte that is neither a tab nor 20H to 7EH,
-/// or else the first fault by the grammar of lines.
+/// What a line says, which stands without its end: its statement, or E18 for a byte that is neither a tab nor 20H to
+/// 7EH, or else the first fault by the grammar of lines.
 ///
-/// Errors: want of memory.
-///
-/// Source: own choice ("Faults of a source").
+/// Error: out of memory.
 #[tactic(auto, unfolding(crate::specs::Said::said))]
 pub(crate) fn said(alloc: Global, line: &[u8]) -> Result<Said, NoMemory>
     ensures { IfOk result (λ s. said_tree s ≡ said line.now) }
 {
     if !are_characters(line) {
-        return Ok(Err(18));
+        return Ok(Err(BAD_BYTE));
     }
     let Ok(text) = str::from_utf8(line) else {
-        return Ok(Err(18));
+        return Ok(Err(BAD_BYTE));
     };
     spoken(alloc, text)
 }

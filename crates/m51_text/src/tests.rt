@@ -1,4 +1,5 @@
-//! Texts with the lines or the faults that the rules give them. A line is seen as `file:line`, a fault with its number before it.
+//! Texts with the lines or the faults that the rules give them. A line is seen as `file:line`, a fault with its number
+//! before it.
 use crate::{Text, read_text};
 use m51_cells::Bytes;
 use m51_module::SourceFile;
@@ -46,7 +47,7 @@ fn told(
 }
 
 #[test]
-fn an_include_line_has_the_lines_of_its_include_behind_it(rt: HostRuntime) -> Result<(), Fail> {
+fn an_include_line_has_the_lines_of_its_include_after_it(rt: HostRuntime) -> Result<(), Fail> {
     let source = "$INCLUDE(A)\n$INCLUDE(B)\n$include (A) ; again\nEND\n";
     let text = told(rt.alloc(), source, "NOP\n", "B", "NOP\n$INCLUDE(A)\n;")?;
     assert!(rt; text.as_str() == "0:1 1:1 0:2 2:1 2:2 1:1 2:3 0:3 1:1 0:4 ");
@@ -68,8 +69,8 @@ fn includes_nest_eight_deep_and_are_given(rt: HostRuntime) -> Result<(), Fail> {
 
 #[test]
 fn text_stands_before_end_and_end_stands_in_the_source(rt: HostRuntime) -> Result<(), Fail> {
-    let behind = "L: END\nNOP\n ; comment\n\nM:\n$LIST\n$INCLUDE(A)\n";
-    let text = told(rt.alloc(), behind, "\n NOP", "B", "")?;
+    let ended = "L: END\nNOP\n ; comment\n\nM:\n$LIST\n$INCLUDE(A)\n";
+    let text = told(rt.alloc(), ended, "\n NOP", "B", "")?;
     assert!(rt; text.as_str() == "E16 0:2 E16 0:5 E16 0:6 E16 0:7 E16 1:2 ");
     let inside = told(rt.alloc(), "$INCLUDE(A)\nNOP\nEND\n", "END\n", "B", "")?;
     assert!(rt; inside.as_str() == "E16 1:1 ");

@@ -1,6 +1,6 @@
 //! Texts: the lines of a source and of its includes.
-use crate::fault::Faults;
 use m51_cells::ListOf;
+use m51_module::Faults;
 use m51_stmt::Stmt;
 
 /// A line of a text, with its statement.
@@ -16,7 +16,7 @@ pub struct Line {
     pub stmt: Stmt,
 }
 
-/// The lines of a text, each include line with the lines of its include behind it.
+/// The lines of a text, each include line with the lines of its include after it.
 ///
 /// Source: own choice ("Lists in types").
 pub type Lines = ListOf<Line>;

@@ -1,7 +1,7 @@
 use Rattle.std.proofs.Common.{arith, ◌+◌}
 use Rattle.std.proofs.lemmas.List.{take_rest}
 use Rattle.m51_control.specs.Parts.{is_sign}
-use Rattle.m51_control.proofs.Cuts.{cut_here, whole}
+use Rattle.m51_control.proofs.CutLaws.{cut_here, whole}
 use Rattle.m51_control.proofs.parts.cut_at.Goals as goal
 
 pub returns-then-place-text-clause-parts : goal.returns-then-place-text-clause-parts

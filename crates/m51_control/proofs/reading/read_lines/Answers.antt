@@ -4,16 +4,16 @@ use Rattle.m51_control.specs.Controls.{IsAllowed}
 use Rattle.m51_control.proofs.Numbered.{Goes, line_step}
 use Rattle.m51_control.proofs.reading.read_lines.Goals as goal
 
-pub loop-rest-preserved : goal.loop-rest-preserved
-loop-rest-preserved c =
-    let line = c.split_line.result.0.now in
-    let behind = lines c.split_line.result.1.now in
+pub loop-line-preserved : goal.loop-line-preserved
+loop-line-preserved c =
+    let line = c.in-Some.line.now in
+    let more = lines c.in-Some.after.now in
     let all = lines c.args.bytes.now in
-    let control = c.in-Some.control in
-    let here : Goes c.loop-rest.controls.items c.loop-rest.number (line ∷ behind) all =
-    subst (λ l. Goes c.loop-rest.controls.items c.loop-rest.number l all) c.split_line.ensures.lines c.loop-rest.invariant in
-    subst (λ l. Goes l (c.loop-rest.number + 1) behind all) (sym c.in_ok-push-in-Some.ensures.items)
-    (line_step c.loop-rest.controls.items c.loop-rest.number line behind all control here
+    let control = c.in-Some-2.control in
+    let here : Goes c.loop-line.controls.items c.loop-line.number (line ∷ more) all =
+    subst (λ l. Goes c.loop-line.controls.items c.loop-line.number l all) c.in-Some.ensures.lines c.loop-line.invariant in
+    subst (λ l. Goes l (c.loop-line.number + 1) more all) (sym c.in_ok-push-in-Some-2.ensures.items)
+    (line_step c.loop-line.controls.items c.loop-line.number line more all control here
     (sym c.is_skipped.ensures ∙ c.if-is_skipped.false)
-    (sym c.in_ok-control.ensures.control ∙ c.in-Some.is)
-    (subst (λ o. IfSome o IsAllowed) c.in-Some.is c.in_ok-control.ensures.allowed))
+    (sym c.in_ok-control.ensures.control ∙ c.in-Some-2.is)
+    (subst (λ o. IfSome o IsAllowed) c.in-Some-2.is c.in_ok-control.ensures.allowed))

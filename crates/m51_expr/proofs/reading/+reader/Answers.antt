@@ -3,12 +3,12 @@ use Rattle.std.proofs.lemmas.Result.{err_from_is_err_and}
 use Rattle.m51_expr.specs.Symbol.{symbol_at}
 use Rattle.m51_expr.specs.Ranks.{infix_of, prefix_of}
 use Rattle.m51_expr.specs.Tree.{tree_of, One, Two}
-use Rattle.m51_expr.specs.Reading.{or_fault_6, and_on, read, more}
+use Rattle.m51_expr.specs.Reading.{or_no_expression, and_on, read, more}
 use Rattle.m51_expr.proofs.Steps.{read_operand, read_prefix, read_plain, more_ends, more_goes, err_step, gives_same, gives_read}
 use Rattle.m51_expr.proofs.reading.+reader.Goals as goal
 
 pub more-returns-in_default-clause-gives : goal.more-returns-in_default-clause-gives
-more-returns-in_default-clause-gives t c = λ n le. ap or_fault_6
+more-returns-in_default-clause-gives t c = λ n le. ap or_no_expression
     (more_ends n (n - 1) (symbol_at c.args.line.now c.args.tokens.now) c.args.rank (tree_of c.args.left) c.args.at (omega (arith, le))
     (ap (λ s. infix_of s c.args.rank) (sym c.symbol_at.ensures.symbol) ∙ sym c.infix_of.ensures.op ∙ c.in_default.is))
 
@@ -47,7 +47,7 @@ read-returns-in_err-inner-in-Some-clause-gives t c = λ n le.
 pub read-returns-in_ok-one-in-Some-clause-gives : goal.read-returns-in_ok-one-in-Some-clause-gives
 read-returns-in_ok-one-in-Some-clause-gives t c = λ n le.
     let inside = c.symbol_at.ensures.within (c.in-Some.ensures.some refl) in
-    ap or_fault_6 (read_prefix n (n - 1) (symbol_at c.args.line.now c.args.tokens.now) c.args.rank c.args.at c.in-Some.op (omega (arith, le, c.requires.rank)) (omega (arith, c.requires.rank, c.if-rank-eq-OPERAND.false))
+    ap or_no_expression (read_prefix n (n - 1) (symbol_at c.args.line.now c.args.tokens.now) c.args.rank c.args.at c.in-Some.op (omega (arith, le, c.requires.rank)) (omega (arith, c.requires.rank, c.if-rank-eq-OPERAND.false))
     (ap (λ s. prefix_of s c.args.rank) (sym c.symbol_at.ensures.symbol) ∙ sym c.prefix_of.ensures.op ∙ c.in-Some.is)
     ∙ ap (λ r. and_on r (λ e next. Some (One c.in-Some.op e, next))) (gives_read c.in_ok-inner-in-Some.inner c.in_ok-inner-in-Some.next _ (c.in_ok-inner-in-Some.ensures.gives (n - 1) (omega (arith, le, inside))))
     ∙ ap (λ e. Some (e, c.in_ok-inner-in-Some.next)) (sym c.in_ok-one-in-Some.ensures))

@@ -1,6 +1,6 @@
 use Rattle.std.proofs.Common.{◌≡◌, ◌∙◌, subst, length, rules}
 use Rattle.m51_flat.specs.Causes.{IsCause}
-use Rattle.m51_flat.proofs.Outcomes.{keeps_control, keeps_parity, over_map}
+use Rattle.m51_flat.proofs.Outcomes.{keeps_control, keeps_levels, keeps_parity, over_map}
 use Rattle.m51_flat.proofs.Whole.{whole_outcome}
 use Rattle.m51_flat.proofs.executing.exec.Goals as goal
 
@@ -29,3 +29,8 @@ returns-clause-control g c =
     let len : length c.args.cpu.now.regs ≡ 128 = search rules in
     keeps_control c.run.result c.args.cpu.now (g.M.CellStore.cells c.args.store.now) (g.M.CellStore.barred c.args.store.now)
     c.args.instr.now c.args.image.now c.args.ext.now c.run.ensures.value len
+
+pub returns-clause-levels : goal.returns-clause-levels
+returns-clause-levels g c =
+    keeps_levels c.run.result c.args.cpu.now (g.M.CellStore.cells c.args.store.now) (g.M.CellStore.barred c.args.store.now)
+    c.args.instr.now c.args.image.now c.args.ext.now c.run.ensures.value

@@ -3,7 +3,7 @@ use Rattle.m51_module.specs.Walks.{Edges}
 use Rattle.m51_resolve.specs.declared.segment.JoinedSegment.{JoinedSegment}
 use Rattle.m51_resolve.specs.Joining.{segments_of}
 use Rattle.m51_graph.specs.Drawing.{fixup_edges}
-use Rattle.m51_graph.specs.Marks.{LeadWithin}
+use Rattle.m51_graph.specs.Graph.{LeadWithin}
 use Rattle.m51_graph.specs.Units.{code_segments, units_of, unit_titles}
 use Rattle.m51_graph.proofs.Within.{count_units, fixups_within, titles_are}
 use Rattle.m51_graph.proofs.building.graph.Goals as goal

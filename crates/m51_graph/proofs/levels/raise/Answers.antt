@@ -1,7 +1,7 @@
 use Rattle.std.proofs.Common.{◌≡◌, ◌<◌, ℕ, ◌+◌, Bool, ◌||◌, length, take, get_or, sym, ap, subst, ◌∙◌, arith}
 use Rattle.m51_module.specs.Walks.{Edges}
-use Rattle.m51_graph.specs.Levels.{IsClimbing}
-use Rattle.m51_graph.specs.Marks.{LeadWithin}
+use Rattle.m51_graph.specs.Climbing.{IsClimbing}
+use Rattle.m51_graph.specs.Graph.{LeadWithin}
 use Rattle.m51_graph.proofs.Climbing.{climbs_none, climbs_more, level_most, ends_within, Ends}
 use Rattle.m51_graph.proofs.levels.raise.Goals as goal
 use Rattle.m51_graph.proofs.levels.raise.Goals.{then-lift, else-lift}

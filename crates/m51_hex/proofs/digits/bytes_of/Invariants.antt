@@ -1,6 +1,7 @@
 use Rattle.std.proofs.Common.{◌≡◌, ◌++◌, true, length}
 use Rattle.std.specs.List.{list_all}
-use Rattle.m51_hex.specs.Line.{is_hex_digit, bytes_of}
+use Rattle.m51_cells.specs.Hex.{is_hex_digit}
+use Rattle.m51_hex.specs.Line.{bytes_of}
 use Rattle.m51_hex.proofs.digits.bytes_of.Given as goal
 
 abbrev pub invariant-loop-rest : goal.invariant-loop-rest

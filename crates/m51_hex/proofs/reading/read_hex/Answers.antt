@@ -18,7 +18,7 @@ loop-text-init c = record {
 pub returns-in_err-read_line : goal.returns-in_err-read_line
 returns-in_err-read_line c =
     let p = err_from_is_err_and c.from_residual-in_err-read_line.result c.from_residual-in_err-read_line.ensures.1 in
-    rw (p.1, p.2) (refused c.in_err-read_line.field-0.0 (memory_in c.loop-text.image) (c.loop-text.line + 1) c.loop-text.rest.now c.in-Some.text.now c.in-Some.behind.now (memory_from c.args.bytes.now) c.in-Some.ensures.first c.in_err-read_line.ensures.gives c.loop-text.invariant.told)
+    rw (p.1, p.2) (refused c.in_err-read_line.field-0.0 (memory_in c.loop-text.image) (c.loop-text.line + 1) c.loop-text.rest.now c.in-Some.text.now c.in-Some.after.now (memory_from c.args.bytes.now) c.in-Some.ensures.lines c.in_err-read_line.ensures.gives c.loop-text.invariant.told)
 
 pub loop-text-preserved : goal.loop-text-preserved
 loop-text-preserved c =
@@ -30,7 +30,7 @@ loop-text-preserved c =
     record {
       whole = c.in_ok-read_line.ensures.whole;
       passed = omega (arith, c.in-Some.ensures.shorter, c.loop-text.invariant.passed);
-      told = goes_on memory new number c.loop-text.rest.now text c.in-Some.behind.now (memory_from c.args.bytes.now) c.in-Some.ensures.first read c.loop-text.invariant.told;
+      told = goes_on memory new number c.loop-text.rest.now text c.in-Some.after.now (memory_from c.args.bytes.now) c.in-Some.ensures.lines read c.loop-text.invariant.told;
     }
 
 pub returns-in-EndOfFile : goal.returns-in-EndOfFile
@@ -40,4 +40,4 @@ returns-in-EndOfFile c =
     let number = c.loop-text.line + 1 in
     let text = c.in-Some.text.now in
     let read : line_read memory number text ≡ Ok (EndOfFile, new) = c.in_ok-read_line.ensures.gives ∙ ap (λ (k : RecordType). Ok (k, new)) c.in-EndOfFile.is in
-    ends memory new number c.loop-text.rest.now text c.in-Some.behind.now (memory_from c.args.bytes.now) c.in-Some.ensures.first read c.loop-text.invariant.told
+    ends memory new number c.loop-text.rest.now text c.in-Some.after.now (memory_from c.args.bytes.now) c.in-Some.ensures.lines read c.loop-text.invariant.told

@@ -3,11 +3,11 @@ use Rattle.m51_module.specs.Library.{add_refusal}
 use Rattle.m51_module.proofs.Building.{library_more, each_more}
 use Rattle.m51_module.proofs.library.build.Goals as goal
 
-pub loop-place-preserved : goal.loop-place-preserved
-loop-place-preserved c =
-    let lt : c.loop-place.place < length c.args.modules.items = search rules in
-    let free : add_refusal (take c.loop-place.place c.args.modules.items) (get_or c.args.modules.items c.loop-place.place c.index.result.now) ≡ None = search rules in
+pub loop-index-preserved : goal.loop-index-preserved
+loop-index-preserved c =
+    let lt : c.loop-index.index < length c.args.modules.items = search rules in
+    let free : add_refusal (take c.loop-index.index c.args.modules.items) (get_or c.args.modules.items c.loop-index.index c.index.result.now) ≡ None = search rules in
     record {
-      library = library_more _ _ c.index.result.now lt c.loop-place.invariant.library free;
-      rest = each_more _ _ c.index.result.now lt free ∙ c.loop-place.invariant.rest;
+      library = library_more _ _ c.index.result.now lt c.loop-index.invariant.library free;
+      rest = each_more _ _ c.index.result.now lt free ∙ c.loop-index.invariant.rest;
     }

@@ -1,5 +1,6 @@
+use Rattle.std.specs.Prelude.{take}
 use Rattle.m51_module.specs.Kept.{AreOwnerRows}
 use Rattle.m51_module.proofs.rows.owner_rows.Given as goal
 
-abbrev pub invariant-loop-segment : goal.invariant-loop-segment
-invariant-loop-segment l = AreOwnerRows l.owners l.segment l.rows.items
+abbrev pub invariant-loop-pair : goal.invariant-loop-pair
+invariant-loop-pair l = AreOwnerRows (take l.pair-index l.owners) l.count l.rows.items

@@ -1,14 +1,13 @@
 use Rattle.std.proofs.Common.{ℕ, List, [], ◌∷◌, lit<, lit≤}
 use Rattle.std.specs.Prelude.{codes}
-use Rattle.m51_lines.specs.Lines.{lines_of}
+use Rattle.std.specs.Str.Lines.{lines}
 use Rattle.m51_print.specs.Listing.{IsRowOf}
 use Rattle.m51_print.proofs.GivenRows.{is_row, all_four}
 use Rattle.m51_print.proofs.tests.a_source_and_its_include_are_listed_in_columns.Goals as goal
 
 pub lists-requires : goal.lists-requires
-unfolding lines_of
 lists-requires g c =
-    let files : List (List (List ℕ)) = lines_of (codes "CSEG AT 0\nMOV P1,#55H\nEND\n") ∷ lines_of (codes "SJMP $\r\n") ∷ [] in
+    let files : List (List (List ℕ)) = lines (codes "CSEG AT 0\nMOV P1,#55H\nEND\n") ∷ lines (codes "SJMP $\r\n") ∷ [] in
     let one = c.row.ensures in
     let two = c.row-2.ensures in
     let three = c.row-3.ensures in

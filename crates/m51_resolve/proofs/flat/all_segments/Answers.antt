@@ -1,10 +1,10 @@
 use Rattle.std.proofs.Common.{arith, ◌<◌, ◌≤◌, ◌≡◌, ◌*◌, ◌+◌, ◌++◌, length, length-append}
-use Rattle.m51_resolve.proofs.Starts.{flat_all, flat_more, flat_start}
+use Rattle.m51_resolve.proofs.Starts.{flat_all, flat_more, flat_start, valid_more}
 use Rattle.m51_resolve.proofs.flat.all_segments.Goals as goal
 
 pub loop-module-init : goal.loop-module-init
 loop-module-init c =
-    rw (c.new-items.ensures.items, c.new-starts.ensures.items) (record { are = flat_start (λ m. m.segments) c.args.modules.now; most = omega arith })
+    rw (c.new-items.ensures.items, c.new-starts.ensures.items) (record { are = flat_start (λ m. m.segments) c.args.modules.now; most = omega arith; valid = λ m below d. absurd (omega (arith, below)) })
 
 pub loop-module-preserved : goal.loop-module-preserved
 loop-module-preserved c =
@@ -17,6 +17,7 @@ loop-module-preserved c =
       are = flat_more (λ m. m.segments) c.args.modules.now c.loop-module.module-index c.loop-module.items.items c.loop-module.starts.items c.module-item.result c.len.result
           c.loop-module.invariant.are there c.module-item.is start;
       most = most;
+      valid = valid_more c.args.modules.now c.loop-module.module-index c.module-item.result c.loop-module.invariant.valid there c.module-item.is c.segments.ensures.valid;
     })
 
 pub returns-clause-all : goal.returns-clause-all
@@ -27,3 +28,6 @@ returns-clause-starts c = (flat_all _ _ _ _ _ c.loop-module.invariant.are c.loop
 
 pub returns-clause-few : goal.returns-clause-few
 returns-clause-few c = omega (arith, c.loop-module.invariant.most, c.loop-module.invariant.are.few)
+
+pub returns-clause-valid : goal.returns-clause-valid
+returns-clause-valid c = λ k d below. c.loop-module.invariant.valid k (omega (arith, below, c.loop-module-test.false)) d

@@ -1,5 +1,5 @@
 use Rattle.std.proofs.Common.{◌≡◌, map, take}
-use Rattle.m51_resolve.specs.Growth.{joined_as}
+use Rattle.m51_resolve.specs.WorkJoining.{joined_as}
 use Rattle.m51_resolve.proofs.resolving.segments_of.Given as goal
 
 abbrev pub invariant-loop-joined : goal.invariant-loop-joined

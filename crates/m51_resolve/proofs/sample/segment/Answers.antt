@@ -8,5 +8,7 @@ returns c = record {
   reloc = c.requires.allowed;
   size = omega (arith, c.ranges.size);
   absolute = λ e. let k : false ≡ true = ap is_relocatable (sym e) ∙ c.requires.relocatable in absurd (cc k);
-  relocatable = λ _. record { name = c.requires.name; base = refl; overlay = λ e. cc };
+  relocatable = λ _. record { name = c.requires.name; base = refl };
+  overlay = λ e. absurd (cc e);
+  argument = λ e. absurd (cc e);
 }

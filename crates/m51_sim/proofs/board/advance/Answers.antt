@@ -5,4 +5,4 @@ use Rattle.m51_sim.proofs.board.advance.Goals as goal
 pub returns-in-Ok-clause-step : goal.returns-in-Ok-clause-step
 returns-in-Ok-clause-step c =
     advance_done c.args.layout.now c.args.chip.now.image (flat_of c.args.chip.now) (flat_of c.perform.new.self) c.in-Ok.effect c.perform.result
-    c.in-Ok.ensures.value c.perform.ensures.state c.perform.ensures.entry
+    c.in-Ok.ensures.value c.perform.ensures.state c.perform.ensures.told

@@ -1,4 +1,3 @@
-use Rattle.std.proofs.Common.{refl}
 use Rattle.m51_sim.proofs.Keeping as lemmas
 use Rattle.m51_sim.proofs.laws.flat_keeps.Goals as goal
 
@@ -6,4 +5,4 @@ pub returns-clause-kept : goal.returns-clause-kept
 returns-clause-kept c = lemmas.flat_keeps
 
 pub returns-clause-start : goal.returns-clause-start
-returns-clause-start c = λ layout. refl
+returns-clause-start c = lemmas.starts_agree

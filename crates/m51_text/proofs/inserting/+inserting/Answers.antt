@@ -10,7 +10,7 @@ read_file-returns-then-is_full-clause-state t c =
 
 pub read_file-loop-text-preserved : goal.read_file-loop-text-preserved
 read_file-loop-text-preserved t c = record {
-  state = after_line c.args.includes.now c.args.levels c.args.file c.loop-text.line c.in-Some.text.now c.loop-text.rest.now c.in-Some.behind.now
+  state = after_line c.args.includes.now c.args.levels c.args.file c.loop-text.line c.in-Some.text.now c.loop-text.rest.now c.in-Some.after.now
       (state_of c.loop-text.reading) (state_of c.read_line.new.self) (state_of c.insert.new.reading) _ c.in_ok-inclusion.inclusion
       c.in-Some.ensures.lines c.in_ok-inclusion.ensures.state c.in_ok-inclusion.ensures.inclusion c.in_ok-insert.ensures.state c.loop-text.invariant.state;
   line = omega (arith, c.in_ok-inclusion.ensures.more, c.in_ok-insert.ensures.grows);

@@ -1,5 +1,5 @@
 use Rattle.std.proofs.Common.{◌≡◌, ◌≤◌, ◌+◌, ◌*◌, length, vec_len}
-use Rattle.m51_lines.specs.Lines.{lines_of}
+use Rattle.std.specs.Str.Lines.{lines}
 use Rattle.m51_text.specs.Text.{brought, lines_with, file_lines}
 use Rattle.m51_text.specs.Reading.{state_of, after}
 use Rattle.m51_text.proofs.inserting.+inserting.Given as goal
@@ -12,7 +12,7 @@ decreases-insert l = 2 * l.levels
 
 abbrev pub invariant-read_file-loop-text : goal.invariant-read_file-loop-text
 invariant-read_file-loop-text l = record {
-  state : after l.includes (state_of l.reading) (lines_with (brought l.includes l.levels) l.levels l.file l.line (lines_of l.rest)) ≡ after l.includes (state_of l.fn.reading) (file_lines l.includes l.levels l.file l.bytes);
+  state : after l.includes (state_of l.reading) (lines_with (brought l.includes l.levels) l.levels l.file l.line (lines l.rest)) ≡ after l.includes (state_of l.fn.reading) (file_lines l.includes l.levels l.file l.bytes);
   line : l.line ≤ vec_len l.reading.entries + 1;
   grows : vec_len l.fn.reading.entries ≤ vec_len l.reading.entries;
 }

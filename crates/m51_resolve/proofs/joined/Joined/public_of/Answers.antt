@@ -28,4 +28,4 @@ pub returns : goal.returns
 returns c =
     let e = public_entry _ _ _ _ _ _ c.args.module c.args.external c.self.invariant (rw (← c.self.view_is) at c.requires) in
     let is = reads _ _ _ _ _ _ _ _ _ e.entry c.index-start.ensures c.from.ensures c.from-2.ensures c.index-found.ensures in
-    rw (← c.self.view_is) (ap (λ (x : Definition). (x.number, x.place)) is ∙ e.value)
+    rw (← c.self.view_is) (ap (λ (x : Definition). (x.number, x.index)) is ∙ e.value)

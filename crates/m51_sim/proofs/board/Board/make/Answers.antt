@@ -13,4 +13,4 @@ invariant_of-result c =
     (root_has_unit c.args.layout c.placed.ensures.sound c.requires)
 
 pub returns-clause-start : goal.returns-clause-start
-returns-clause-start c = start_parted c.args.layout (flat_of c.in_ok-chip.chip) c.in_ok-chip.ensures.start
+returns-clause-start c = start_parted c.args.layout 0 (flat_of c.in_ok-chip.chip) c.in_ok-chip.ensures.start

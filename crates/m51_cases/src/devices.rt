@@ -1,0 +1,296 @@
+//! Tables of the devices, of interrupts and of scripts, with values from the family manual.
+use m51_cells::{NoMemory, digit_value};
+use m51_flat::addresses::{
+    IE, IP, PCON, RCAP2H, RCAP2L, SBUF, SCON, T2CON, TCON, TH0, TH1, TH2, TL0, TL1, TL2, TMOD,
+};
+use m51_flat::{Cpu, Pins, Source, reset};
+use m51_irq::choose;
+use m51_script::{ScriptError, read_script};
+use m51_timers_uart::{Frame, Periph};
+use std::alloc::Global;
+use std::test::Fail;
+
+// Timer, TMOD, TCON, TH, TL, port 3 at the last tick and now; then TH, TL and TCON.
+const TIMERS: &str = "00 00 10 00 1F FF FF 01 00 10
+00 00 10 00 FF FF FF 01 E0 10
+00 00 10 FF 1F FF FF 00 00 30
+00 01 10 00 FF FF FF 01 00 10
+00 01 10 FF FF FF FF 00 00 30
+00 02 10 38 FE FF FF 38 FF 10
+00 02 10 38 FF FF FF 38 38 30
+00 03 10 38 FF FF FF 38 00 30
+00 03 40 FF 12 FF FF 00 12 C0
+00 01 00 00 05 FF FF 00 05 00
+00 09 10 00 05 FB FB 00 05 12
+00 09 10 00 05 FF FF 00 06 10
+00 05 10 00 05 FF EF 00 06 10
+00 05 10 00 05 EF FF 00 05 10
+00 05 10 00 05 EF EF 00 05 10
+00 06 10 38 FF FF EF 38 38 30
+01 00 40 00 1F FF FF 01 00 40
+01 00 40 FF 1F FF FF 00 00 C0
+01 10 40 FF FF FF FF 00 00 C0
+01 20 40 38 FF FF FF 38 38 C0
+01 30 40 00 05 FF FF 00 05 40
+01 90 40 00 05 F7 F7 00 05 48
+01 90 40 00 05 FF FF 00 06 40
+01 50 40 00 05 FF DF 00 06 40
+01 23 00 38 FF FF FF 38 38 00
+01 A3 00 38 05 F7 F7 38 06 08
+01 63 00 38 05 FF FF 38 05 00
+01 63 00 38 05 FF DF 38 06 00";
+
+// T2CON, TH2, TL2, RCAP2H, RCAP2L, port 1 at the last tick and now; then TH2, TL2, RCAP2H, RCAP2L and T2CON.
+const TIMER_2: &str = "00 12 34 56 78 FF FF 12 34 56 78 00
+04 00 FF 56 78 FF FF 01 00 56 78 04
+04 FF FF 56 78 FF FF 56 78 56 78 84
+05 FF FF 56 78 FF FF 00 00 56 78 85
+06 00 05 56 78 FF FE 00 06 56 78 06
+06 00 05 56 78 FE FE 00 05 56 78 06
+06 00 05 56 78 FE FF 00 05 56 78 06
+0D 12 34 00 00 FF FD 12 35 12 35 4D
+0C 12 34 56 78 FF FD 56 78 56 78 4C
+04 12 34 56 78 FF FD 12 35 56 78 04
+08 12 34 56 78 FF FD 56 78 56 78 48
+24 FF FC 00 10 FF FF 00 12 00 10 24
+14 00 00 12 34 FF FF 00 06 12 34 14
+2C 00 00 12 34 FF FD 00 06 12 34 6C
+16 00 05 12 34 FF FE 00 06 12 34 16
+16 00 05 12 34 FF FF 00 05 12 34 16";
+
+// SCON, the byte and the ninth bit of a frame; then SBUF and SCON.
+const FRAMES: &str = "10 41 00 41 11
+30 41 00 41 31
+50 41 01 41 55
+50 41 00 41 51
+70 41 00 00 70
+70 41 01 41 75
+90 41 01 41 95
+90 41 00 41 91
+B0 41 00 00 B0
+B0 41 01 41 B5
+d0 41 01 41 d5
+f0 41 00 00 f0
+f0 41 01 41 f5
+51 41 01 00 51
+40 41 01 00 40
+54 41 00 41 51";
+
+// TCON, port 3 at the last tick and now; then TCON.
+const EXTERNALS: &str = "01 FF FB 03
+01 FB FB 01
+03 FB FF 03
+00 FF FB 02
+02 FB FF 00
+04 FF F7 0C
+0C F7 FF 0C
+00 FF F7 08
+08 F7 FF 00";
+
+// What is taken of timer 0 and the serial port, which both ask: bit 0 of the index is ET0, bit 1 ES, bit 2 EA, bit 3 PT0, bit 4
+// PS, and bit 5 the low level in progress.
+const CHOICES: &[u8] = b"-----TST-----TST-----TSS-----TST-------------T-T------SS-----TST";
+
+// The bytes of a row of hexadecimal digits, two for each.
+fn bytes_of(alloc: Global, row: &str) -> Result<Vec<u8>, NoMemory> {
+    let mut bytes = Vec::new(alloc);
+    let mut high = None;
+    for byte in row.as_bytes() {
+        if let Some(digit) = digit_value(*byte) {
+            match high {
+                None => high = Some(digit),
+                Some(front) => {
+                    bytes.push(digit.wrapping_add(16u8.wrapping_mul(front)))?;
+                    high = None;
+                }
+            }
+        }
+    }
+    Ok(bytes)
+}
+
+// The byte of a row.
+fn at(row: &[u8], index: usize) -> u8 {
+    row.get(index).copied().unwrap_or(0)
+}
+
+// The levels of the ports, where all pins but these are high.
+fn pins(port_1: u8, port_3: u8) -> Pins {
+    Pins {
+        p: [0xFF, port_1, 0xFF, port_3],
+    }
+}
+
+// One tick from these levels to those.
+fn tick(cpu: &mut Cpu, before: Pins, now: Pins) {
+    let mut periph = Periph::reset(&before);
+    periph.tick(cpu, &now, &[], &[]);
+}
+
+// Whether timer 0 or 1 does what its row says.
+fn timer_is(row: &[u8]) -> bool {
+    let (high, low) = if at(row, 0) == 1 {
+        (TH1, TL1)
+    } else {
+        (TH0, TL0)
+    };
+    let mut cpu = reset();
+    cpu.set_latch(TMOD, at(row, 1));
+    cpu.set_latch(TCON, at(row, 2));
+    cpu.set_latch(high, at(row, 3));
+    cpu.set_latch(low, at(row, 4));
+    tick(&mut cpu, pins(0xFF, at(row, 5)), pins(0xFF, at(row, 6)));
+    cpu.latch(high) == at(row, 7) && cpu.latch(low) == at(row, 8) && cpu.latch(TCON) == at(row, 9)
+}
+
+// Whether timer 2 does.
+fn timer_2_is(row: &[u8]) -> bool {
+    let mut cpu = reset();
+    cpu.set_latch(T2CON, at(row, 0));
+    cpu.set_latch(TH2, at(row, 1));
+    cpu.set_latch(TL2, at(row, 2));
+    cpu.set_latch(RCAP2H, at(row, 3));
+    cpu.set_latch(RCAP2L, at(row, 4));
+    tick(&mut cpu, pins(at(row, 5), 0xFF), pins(at(row, 6), 0xFF));
+    let counted = cpu.latch(TH2) == at(row, 7) && cpu.latch(TL2) == at(row, 8);
+    let kept = cpu.latch(RCAP2H) == at(row, 9) && cpu.latch(RCAP2L) == at(row, 10);
+    counted && kept && cpu.latch(T2CON) == at(row, 11)
+}
+
+// Whether the frame is taken as its row says.
+fn frame_is(row: &[u8]) -> bool {
+    let mut cpu = reset();
+    cpu.set_latch(SCON, at(row, 0));
+    let high = pins(0xFF, 0xFF);
+    let frame = Frame {
+        byte: at(row, 1),
+        ninth: at(row, 2) == 1,
+    };
+    let mut periph = Periph::reset(&high);
+    periph.tick(&mut cpu, &high, &[frame], &[]);
+    cpu.latch(SBUF) == at(row, 3) && cpu.latch(SCON) == at(row, 4)
+}
+
+// Whether the pins ask as their row says.
+fn external_is(row: &[u8]) -> bool {
+    let mut cpu = reset();
+    cpu.set_latch(TCON, at(row, 0));
+    tick(&mut cpu, pins(0xFF, at(row, 1)), pins(0xFF, at(row, 2)));
+    cpu.latch(TCON) == at(row, 3)
+}
+
+#[test]
+fn each_mode_of_timers_0_and_1_is_the_manuals(rt: HostRuntime) -> Result<(), Fail> {
+    for line in TIMERS.lines() {
+        let row = bytes_of(rt.alloc(), line)?;
+        assert!(rt; timer_is(&row));
+    }
+    Ok(())
+}
+
+#[test]
+fn timer_2_counts_captures_reloads_and_gives_rates(rt: HostRuntime) -> Result<(), Fail> {
+    for line in TIMER_2.lines() {
+        let row = bytes_of(rt.alloc(), line)?;
+        assert!(rt; timer_2_is(&row));
+    }
+    Ok(())
+}
+
+#[test]
+fn frames_are_taken_by_mode_and_sm2(rt: HostRuntime) -> Result<(), Fail> {
+    for line in FRAMES.lines() {
+        let row = bytes_of(rt.alloc(), line)?;
+        assert!(rt; frame_is(&row));
+    }
+    Ok(())
+}
+
+#[test]
+fn external_interrupts_ask_by_edge_or_level(rt: HostRuntime) -> Result<(), Fail> {
+    for line in EXTERNALS.lines() {
+        let row = bytes_of(rt.alloc(), line)?;
+        assert!(rt; external_is(&row));
+    }
+    Ok(())
+}
+
+// The ticks until a byte that begins at once is sent, up to 2,000; 0 where it is not.
+fn ticks_to_send(scon: u8, pcon: u8, t2con: u8) -> u16 {
+    let mut cpu = reset();
+    cpu.set_latch(SCON, scon);
+    cpu.set_latch(PCON, pcon);
+    cpu.set_latch(T2CON, t2con);
+    cpu.set_latch(TMOD, 0x20);
+    cpu.set_latch(TCON, 0x40);
+    cpu.set_latch(TH1, 0xFF);
+    cpu.set_latch(TL1, 0xFF);
+    cpu.set_latch(RCAP2H, 0xFF);
+    cpu.set_latch(RCAP2L, 0xFF);
+    cpu.set_latch(TH2, 0xFF);
+    cpu.set_latch(TL2, 0xFF);
+    let high = pins(0xFF, 0xFF);
+    let mut periph = Periph::reset(&high);
+    periph.begin(&cpu, 0x41);
+    for tick in 1..2000 {
+        if periph.tick(&mut cpu, &high, &[], &[]).is_some() {
+            return tick;
+        }
+    }
+    0
+}
+
+#[test]
+fn a_byte_takes_its_bit_times_at_each_rate(rt: HostRuntime) {
+    // Timer 1 overflows in each cycle: nine bit times of 32, or with SMOD of 16; mode 3 has ten.
+    assert_eq!(rt; ticks_to_send(0x40, 0x00, 0x00), 288);
+    assert_eq!(rt; ticks_to_send(0x40, 0x80, 0x00), 144);
+    assert_eq!(rt; ticks_to_send(0xC0, 0x00, 0x00), 320);
+    // Timer 2 gives the rate of sending by TCLK, and by RCLK only that of receiving.
+    assert_eq!(rt; ticks_to_send(0xC0, 0x00, 0x14), 27);
+    assert_eq!(rt; ticks_to_send(0x40, 0x00, 0x24), 288);
+    // Mode 0 has eight cycles; mode 2 ten bit times of 64 periods, or with SMOD of 32, at twelve a cycle.
+    assert_eq!(rt; ticks_to_send(0x00, 0x00, 0x00), 8);
+    assert_eq!(rt; ticks_to_send(0x80, 0x00, 0x00), 54);
+    assert_eq!(rt; ticks_to_send(0x80, 0x80, 0x00), 27);
+}
+
+// What is taken of two sources that ask, by the bits of the index.
+fn choice_of(index: u8) -> u8 {
+    let mut cpu = reset();
+    cpu.set_latch(TCON, 0x20);
+    cpu.set_latch(SCON, 0x01);
+    let enables = (if index & 0x01 != 0 { 0x02 } else { 0 })
+        | (if index & 0x02 != 0 { 0x10 } else { 0 });
+    let all = if index & 0x04 != 0 { 0x80 } else { 0 };
+    let priorities = (if index & 0x08 != 0 { 0x02 } else { 0 })
+        | (if index & 0x10 != 0 { 0x10 } else { 0 });
+    cpu.set_latch(IE, enables | all);
+    cpu.set_latch(IP, priorities);
+    cpu.low = index & 0x20 != 0;
+    match choose(&cpu) {
+        None => b'-',
+        Some(Source::Tf0) => b'T',
+        Some(Source::Serial) => b'S',
+        Some(_) => b'?',
+    }
+}
+
+#[test]
+fn all_enables_and_priorities_of_two_sources(rt: HostRuntime) {
+    for index in 0..64u8 {
+        assert_eq!(rt; choice_of(index), at(CHOICES, usize::from(index)));
+    }
+}
+
+#[test]
+fn a_script_of_too_many_lines_is_refused(rt: HostRuntime) -> Result<(), Fail> {
+    let mut text = vec![in rt.alloc(); b'\n'; 65_536]?;
+    assert!(rt; read_script(rt.alloc(), &text).is_ok());
+    text.push(b'\n')?;
+    match read_script(rt.alloc(), &text) {
+        Err(ScriptError::Limit) => {}
+        _ => return Err("no limit".into()),
+    }
+    Ok(())
+}

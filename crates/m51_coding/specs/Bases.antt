@@ -1,0 +1,28 @@
+-- How the base of a value stands to the segment of the statement.
+use Rattle.std.specs.Prelude.{◌==◌, Bool, false, not, ◌&&◌, ◌||◌}
+use Rattle.m51_cells.specs.declared.kind.Base.{Base}
+use Rattle.m51_cells.specs.declared.kind.Base.TheVariants.{Segment}
+use Rattle.m51_expr.specs.Meanings.{Meanings, is_absolute, is_unplaced}
+
+-- two segments that are one
+abbrev pub same_segment : Base → Base → Bool
+same_segment (Segment s) (Segment t) = s == t
+same_segment a b = false
+
+-- the segment that the statement stands in
+abbrev pub is_current : Meanings → Base → Bool
+is_current names base = same_segment base names.here.base
+
+-- the statement stands in an absolute segment
+abbrev pub stands_absolute : Meanings → Bool
+stands_absolute names = is_absolute names names.here.base
+
+-- a segment that an object has; an absolute one without a byte has the number 0 here, and none there
+abbrev pub is_numbered : Base → Bool
+is_numbered (Segment s) = not (s == 0)
+is_numbered base = false
+
+-- The linker adds the base: it is relocatable or external, or another absolute segment that has a number. Any other
+-- value counts as a number.
+abbrev pub is_linked : Meanings → Base → Bool
+is_linked names base = is_unplaced names base || (is_numbered base && not (is_current names base))

@@ -1,4 +1,0 @@
-pub mod TakenFields
-pub mod Reaching
-pub mod Leading
-pub mod BitNumbers

@@ -1,0 +1,117 @@
+-- The pairs that walks along edges join, found unit by unit.
+use Rattle.std.proofs.Common.{◌≡◌, ◌⊎◌, inl, inr, ℕ, zero, suc, ◌+◌, ◌<◌, true, false, Bool, ◌||◌, ◌&&◌, nat_eq, List, [], ◌∷◌, length, take, get_or, refl, sym, ap, subst, ◌∙◌, arith}
+use Rattle.std.specs.Bool.{Decides}
+use Rattle.std.specs.List.{Contains, list_any}
+use Rattle.std.proofs.lemmas.Bool.{cases_eq}
+use Rattle.std.proofs.lemmas.Bool.Decides.{Decides-eqb}
+use Rattle.std.proofs.lemmas.List.Folds.{Any-from_list_any, list_any_at, list_any_more}
+use Rattle.m51_module.specs.Walks.{Edges, HasEdge, IsWalk, last_of, Reaches}
+use Rattle.m51_module.proofs.Reach.{reach_edge}
+use Rattle.m51_graph.specs.Rows.{closed_below, no_pair, with_pair}
+use Rattle.m51_graph.specs.Drawing.{edge_test, same_edge}
+use Rattle.m51_graph.specs.Graph.{LeadWithin}
+use Rattle.m51_graph.specs.Leading.{leads}
+use Rattle.m51_graph.proofs.BitLaws.{same_pairs}
+use Rattle.m51_graph.proofs.Deciding.{and_decides, leads_is, or_decides, reach_trans}
+
+-- the test of edges tells of them
+pub edge_tells : (edges : Edges) (u v : ℕ) → Decides (edge_test edges u v) (HasEdge edges u v)
+edge_tells edges u v =
+    let same : (edge : ℕ × ℕ) → Decides (same_edge (u, v) edge) ((u ≡ edge.0) × (v ≡ edge.1)) =
+    λ edge. and_decides (nat_eq u edge.0) (nat_eq v edge.1) (Decides-eqb u edge.0) (Decides-eqb v edge.1) in (
+      λ h.
+          let any = Any-from_list_any (same_edge (u, v)) edges h in
+          let edge : ℕ × ℕ = any.1 in
+          let told = (same edge).0 any.4 in
+          let is : edge ≡ (u, v) = ap (λ (a : ℕ). (a, edge.1)) (sym told.0) ∙ ap (λ (b : ℕ). (u, b)) (sym told.1) in
+          subst (λ (p : ℕ × ℕ). Contains edges p) is (any.0, any.2, any.3),
+      λ h. list_any_at (same_edge (u, v)) edges h.0 (u, v) h.1 (ap (same_edge (u, v)) h.2 ∙ (same (u, v)).1 (refl, refl)),
+    )
+
+-- one edge more
+swap_or : (a b : Bool) → (a || b) ≡ (b || a)
+swap_or true true = refl
+swap_or true false = refl
+swap_or false true = refl
+swap_or false false = refl
+
+pub edge_more : (edges : Edges) (i : ℕ) (d : ℕ × ℕ) (has : ℕ → ℕ → Bool) → i < length edges → has ≡ edge_test (take i edges)
+    → with_pair (get_or edges i d).0 (get_or edges i d).1 has ≡ edge_test (take (i + 1) edges)
+edge_more edges i d has below is =
+    let edge : ℕ × ℕ = get_or edges i d in
+    same_pairs (with_pair edge.0 edge.1 has) (edge_test (take (i + 1) edges))
+    (λ u v. ap (λ (p : ℕ → ℕ → Bool). (nat_eq u edge.0 && nat_eq v edge.1) || p u v) is
+    ∙ swap_or (nat_eq u edge.0 && nat_eq v edge.1) (edge_test (take i edges) u v)
+    ∙ sym (list_any_more (same_edge (u, v)) edges i d below))
+
+module _ (edges : Edges) (has : ℕ → ℕ → Bool) (tells : (u v : ℕ) → Decides (has u v) (HasEdge edges u v)) where
+  -- a walk without the unit k between its ends, or one to k and one on from it
+  abbrev Via : ℕ → ℕ → ℕ → Type 0
+  Via k u v = (closed_below k has u v ≡ true) ⊎ ((closed_below k has u k ≡ true) × (closed_below k has k v ≡ true))
+
+  via_tells : (k u v : ℕ) → Decides (closed_below (suc k) has u v) (Via k u v)
+  unfolding closed_below
+  via_tells k u v =
+      or_decides (closed_below k has u v) (closed_below k has u k && closed_below k has k v) (λ h. h, λ h. h)
+      (and_decides (closed_below k has u k) (closed_below k has k v) (λ h. h, λ h. h) (λ h. h, λ h. h))
+
+  closed_reaches : (k u v : ℕ) → closed_below k has u v ≡ true → Reaches edges u v
+  unfolding closed_below
+  closed_reaches zero u v h = reach_edge edges u v ((tells u v).0 h)
+  closed_reaches (suc k) u v h = elim ((via_tells k u v).0 h) as (λ _. Reaches edges u v) [
+    | inl direct ↦ closed_reaches k u v direct
+    | inr both ↦ reach_trans edges u k v (closed_reaches k u k both.0) (closed_reaches k k v both.1)
+  ]
+
+  closed_edge : (k u v : ℕ) → HasEdge edges u v → closed_below k has u v ≡ true
+  unfolding closed_below
+  closed_edge zero u v e = (tells u v).1 e
+  closed_edge (suc k) u v e = (via_tells k u v).1 (inl (closed_edge k u v e))
+
+  to_last : (k u : ℕ) → Via k u k → closed_below k has u k ≡ true
+  to_last k u (inl h) = h
+  to_last k u (inr h) = h.0
+
+  from_last : (k v : ℕ) → Via k k v → closed_below k has k v ≡ true
+  from_last k v (inl h) = h
+  from_last k v (inr h) = h.1
+
+  -- two walks that meet in a unit below the bound
+  closed_on : (k u w v : ℕ) → w < k → closed_below k has u w ≡ true → closed_below k has w v ≡ true → closed_below k has u v ≡ true
+  closed_on zero u w v below p q = absurd (omega (arith, below))
+  closed_on (suc k) u w v below p q =
+      let one = (via_tells k u w).0 p in
+      let two = (via_tells k w v).0 q in
+      (via_tells k u v).1 (elim (cases_eq w k) as (λ _. Via k u v) [
+        | inl here ↦ inr (to_last k u (subst (λ n. Via k u n) here one), from_last k v (subst (λ n. Via k n v) here two))
+        | inr other ↦
+            let less : w < k = omega (arith, below, other) in
+            elim one as (λ _. Via k u v) [
+              | inl a ↦ elim two as (λ _. Via k u v) [
+                | inl b ↦ inl (closed_on k u w v less a b)
+                | inr b ↦ inr (closed_on k u w k less a b.0, b.1)
+              ]
+              | inr a ↦ elim two as (λ _. Via k u v) [
+                | inl b ↦ inr (a.0, closed_on k k w v less a.1 b)
+                | inr b ↦ inr (a.0, b.1)
+              ]
+            ]
+      ])
+
+  module _ (count : ℕ) (within : LeadWithin count edges) where
+    closed_along : (u w : ℕ) (more : List ℕ) → closed_below count has u w ≡ true → IsWalk edges w more → closed_below count has u (last_of w more) ≡ true
+    closed_along u w [] p walk = p
+    closed_along u w (v ∷ more) p walk =
+        closed_along u v more (closed_on count u w v (within.within w v walk.0).0 p (closed_edge count w v walk.0)) walk.1
+
+    reaches_closed : (u v : ℕ) → Reaches edges u v → closed_below count has u v ≡ true
+    reaches_closed u v r = subst (λ w. closed_below count has u w ≡ true) r.ends (closed_along u r.next r.more (closed_edge count u r.next r.walk.0) r.walk.1)
+
+    -- after all units the pairs are those that walks join
+    pub closed_leads : closed_below count has ≡ leads edges
+    closed_leads = same_pairs (closed_below count has) (leads edges) (λ u v. leads_is edges u v (closed_below count has u v) (closed_reaches count u v, reaches_closed u v))
+
+-- of the edges
+pub edges_closed : (count : ℕ) (edges : Edges) (has : ℕ → ℕ → Bool) → LeadWithin count edges → has ≡ edge_test edges → closed_below count has ≡ leads edges
+edges_closed count edges has within is =
+    ap (closed_below count) is ∙ closed_leads edges (edge_test edges) (edge_tells edges) count within

@@ -1,0 +1,48 @@
+-- The set of the edges that lines cut.
+use Rattle.std.proofs.Common.{◌≡◌, ℕ, ◌+◌, ◌<◌, true, false, Bool, not, ◌||◌, ◌&&◌, nat_eq, List, length, filter, take, get_or, Option, Some, None, refl, sym, ap, subst, ◌∙◌, arith}
+use Rattle.std.specs.Prelude.{IfSome}
+use Rattle.std.specs.List.{list_any}
+use Rattle.std.proofs.lemmas.List.Folds.{list_any_more}
+use Rattle.m51_control.specs.declared.control.Control.{Control}
+use Rattle.m51_module.specs.Walks.{Edges}
+use Rattle.m51_graph.specs.Conditions.{IsWithin}
+use Rattle.m51_graph.specs.Drawing.{cuts, edge_named, is_cut, is_edge}
+use Rattle.m51_graph.proofs.Within.{EdgeWithin, named_within}
+
+-- an edge between named units, if there is one, is among the units
+within_of : (count : ℕ) (found : Option (ℕ × ℕ)) → EdgeWithin count found → IfSome found (λ edge. IsWithin count edge)
+within_of count None h = tt
+within_of count (Some e) h = record { from = h.0; to = h.1 }
+
+pub named_there : (titles : List (List ℕ)) (from name : List ℕ) → IfSome (edge_named titles from name) (λ edge. IsWithin (length titles) edge)
+named_there titles from name = within_of (length titles) (edge_named titles from name) (named_within titles from name)
+
+swap_or : (a b c : Bool) → (b || (c || a)) ≡ (c || (a || b))
+swap_or a true true = refl
+swap_or true true false = refl
+swap_or false true false = refl
+swap_or a false true = refl
+swap_or true false false = refl
+swap_or false false false = refl
+
+-- one name more
+pub names_more : (test : List ℕ → Bool) (names : List (List ℕ)) (i : ℕ) (d : List ℕ) (old now new : Bool) → i < length names
+    → new ≡ (test (get_or names i d) || now) → now ≡ (old || list_any test (take i names)) → new ≡ (old || list_any test (take (i + 1) names))
+names_more test names i d old now new below is before =
+    is ∙ ap (λ b. test (get_or names i d) || b) before
+    ∙ swap_or (list_any test (take i names)) (test (get_or names i d)) old
+    ∙ ap (λ b. old || b) (sym (list_any_more test names i d below))
+
+-- one line more
+pub lines_more : (titles : List (List ℕ)) (controls : List (ℕ × Control)) (i : ℕ) (d : ℕ × Control) (u v : ℕ) (now new : Bool) → i < length controls
+    → new ≡ (now || cuts titles (u, v) (get_or controls i d).1) → now ≡ is_cut titles (take i controls) (u, v) → new ≡ is_cut titles (take (i + 1) controls) (u, v)
+lines_more titles controls i d u v now new below is before =
+    is ∙ ap (λ b. b || cuts titles (u, v) (get_or controls i d).1) before
+    ∙ sym (list_any_more (λ (line : ℕ × Control). cuts titles (u, v) line.1) controls i d below)
+
+same_tests : (p q : ℕ × ℕ → Bool) → ((u v : ℕ) → p (u, v) ≡ q (u, v)) → p ≡ q
+same_tests p q h i = λ edge. h edge.0 edge.1 i
+
+-- the same edges are left
+pub same_left : (p q : ℕ × ℕ → Bool) (edges : Edges) → ((u v : ℕ) → p (u, v) ≡ q (u, v)) → filter (λ edge. not (p edge)) edges ≡ filter (λ edge. not (q edge)) edges
+same_left p q edges h = ap (λ (r : ℕ × ℕ → Bool). filter (λ edge. not (r edge)) edges) (same_tests p q h)

@@ -1,0 +1,10 @@
+use Rattle.std.proofs.Common.{◌≡◌, ℕ, length, take}
+use Rattle.m51_graph.specs.Drawing.{is_cut}
+use Rattle.m51_graph.specs.Rows.{pairs}
+use Rattle.m51_graph.proofs.drawing.cut_rows.Given as goal
+
+abbrev pub invariant-loop-line : goal.invariant-loop-line
+invariant-loop-line l = record {
+  count : l.set.count ≡ length l.titles;
+  pairs : (u v : ℕ) → pairs l.set u v ≡ is_cut l.titles (take l.line-index l.controls) (u, v);
+}

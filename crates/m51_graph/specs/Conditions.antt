@@ -1,0 +1,30 @@
+-- Of the code: what its functions ask of bases and targets.
+use Rattle.std.specs.Prelude.{ℕ, ◌<◌, List, IsSome}
+use Rattle.m51_cells.specs.declared.kind.Base.{Base}
+use Rattle.m51_cells.specs.declared.kind.Base.TheVariants.{None as NoBase, Segment as InSegment, External as OfExternal}
+use Rattle.m51_module.specs.declared.parts.ModuleParts.{ModuleParts}
+use Rattle.m51_module.specs.Validity.{numbered}
+use Rattle.m51_resolve.specs.Joining.{segment_at}
+use Rattle.m51_resolve.specs.Publics.{external_at}
+
+-- the base of a public of the module is there
+abbrev pub IsBaseIn : ModuleParts → Base → Type 0
+IsBaseIn parts NoBase = Unit {0}
+IsBaseIn parts (InSegment s) = IsSome (numbered parts.segments s)
+IsBaseIn parts (OfExternal e) = Unit {0}
+
+-- the base of a public, or the target of a fixup, of the module of that number is there
+abbrev pub IsBaseThere : List ModuleParts → ℕ → Base → Type 0
+IsBaseThere modules m NoBase = Unit {0}
+IsBaseThere modules m (InSegment s) = IsSome (segment_at modules m s)
+IsBaseThere modules m (OfExternal e) = Unit {0}
+
+abbrev pub IsTargetThere : List ModuleParts → ℕ → Base → Type 0
+IsTargetThere modules m NoBase = Unit {0}
+IsTargetThere modules m (InSegment s) = IsSome (segment_at modules m s)
+IsTargetThere modules m (OfExternal e) = IsSome (external_at modules m e)
+
+-- both ends of an edge are among so many units
+pub record IsWithin (count : ℕ) (edge : ℕ × ℕ) : Type 0 where
+  pub from : edge.0 < count
+  pub to : edge.1 < count

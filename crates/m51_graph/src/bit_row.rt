@@ -1,0 +1,109 @@
+//! Rows of bits.
+ghost use Rattle.std.specs.Prelude.{◌≡◌, ◌*◌, ◌<◌, ◌||◌, ℕ, IfOk, bit_or, length, nat_eq, replicate, slice_index};
+ghost use Rattle.m51_graph.specs.Bits.{bit};
+
+use m51_cells::NoMemory;
+use std::alloc::Global;
+use std::marker::Model;
+
+// A row of bits, 64 to a word, which contracts see as the list of its words.
+#[derive(Drop)]
+pub(crate) struct BitRow {
+    words: Vec<u64>,
+}
+
+impl Model for BitRow {
+    ghost use Rattle.std.specs.Prelude.{List, ℕ};
+
+    ghost Value = { List ℕ };
+
+    ghost view = { λ r. r.words.items };
+}
+
+// The word of that number; 0 past the last.
+fn word_at(words: &[u64], number: usize) -> u64
+    ensures { result ≡ slice_index words.now number }
+{
+    match words.get(number) {
+        Some(word) => *word,
+        None => 0,
+    }
+}
+
+// Whether the bit of that number is set.
+#[tactic(auto, using(crate::proofs::BitLaws::bit_tested))]
+fn has_bit(words: &[u64], number: usize) -> bool
+    ensures { result ≡ bit words.now number }
+{
+    word_at(words, number / 64) >> (number % 64) & 1 == 1
+}
+
+// Sets the bit of that number.
+fn put_bit(words: &mut [u64], number: usize)
+    requires { number < 64 * length words.old }
+    ensures { (v : ℕ) → bit words.new v ≡ (nat_eq v number || bit words.old v) }
+{
+    words[number / 64] |= 1 << (number % 64);
+}
+
+// Adds to each word the bits of the other.
+fn join_words(words: &mut [u64], more: &[u64])
+    requires { length words.old ≡ length more.now }
+    ensures { (v : ℕ) → bit words.new v ≡ (bit words.old v || bit more.now v) }
+{
+    for (k, word) in words.iter_mut().enumerate() {
+        *word |= more[k];
+    }
+}
+
+impl BitRow {
+    // A row of so many words without a bit.
+    pub(crate) fn blank(alloc: Global, words: usize) -> Result<BitRow, NoMemory>
+        ensures { IfOk result (λ row. row ≡ replicate words 0) }
+    {
+        Ok(BitRow {
+            words: vec![in alloc; 0; words]?,
+        })
+    }
+
+    // A row with the same bits.
+    pub(crate) fn copy(&self, alloc: Global) -> Result<BitRow, NoMemory>
+        ensures { IfOk result (λ row. row ≡ self.now) }
+    {
+        Ok(BitRow {
+            words: self.words.to_vec(alloc)?,
+        })
+    }
+
+    // The words, lent.
+    pub(crate) fn words(&self) -> &[u64]
+        ensures { result.now ≡ self.now }
+    {
+        &self.words
+    }
+
+    // Whether the bit of that number is set.
+    pub(crate) fn has(&self, number: usize) -> bool
+        ensures { result ≡ bit self.now number }
+    {
+        has_bit(&self.words, number)
+    }
+
+    // Sets the bit of that number.
+    pub(crate) fn put(&mut self, number: usize)
+        requires { number < 64 * length self.old }
+        ensures len { length self.new ≡ length self.old }
+        ensures put { (v : ℕ) → bit self.new v ≡ (nat_eq v number || bit self.old v) }
+    {
+        put_bit(&mut self.words, number);
+    }
+
+    // Adds the bits of the other row.
+    pub(crate) fn join(&mut self, other: &BitRow)
+        requires { length self.old ≡ length other.now }
+        ensures len { length self.new ≡ length self.old }
+        ensures joined { (v : ℕ) → bit self.new v ≡ (bit self.old v || bit other.now v) }
+    {
+        join_words(&mut self.words, &other.words);
+    }
+}

@@ -1,0 +1,140 @@
+//! Sets of pairs of units.
+ghost use Rattle.std.specs.Prelude.{◌≡◌, ◌*◌, ◌<◌, ◌≤◌, ◌&&◌, ◌||◌, ℕ, [], IfOk, OnOk, length, replicate};
+ghost use Rattle.m51_graph.specs.Bits.{bit, words_for};
+ghost use Rattle.m51_graph.specs.Rows.{AreRows, AreWide, closed_below, no_pair, pair_at, pairs, with_pair};
+
+use crate::bit_row::BitRow;
+use m51_cells::NoMemory;
+use std::alloc::Global;
+use std::marker::Model;
+
+// A set of pairs of units, a row of bits for each first unit, which contracts see as the number of units and a test.
+#[derive(Drop)]
+pub(crate) struct BitRows {
+    count: usize,
+    rows: Vec<BitRow>,
+}
+
+impl Model for BitRows {
+    ghost use Rattle.m51_graph.specs.Rows.{AreRows, BitTable};
+
+    ghost Value = { BitTable };
+
+    ghost view = { λ s. record { count = s.count; rows = s.rows.items } };
+
+    ghost invariant = { λ s. AreRows s.count s.rows.items };
+}
+
+// Rows of so many words without a bit.
+fn blank_rows(alloc: Global, count: usize, words: usize) -> Result<Vec<BitRow>, NoMemory>
+    ensures { IfOk result (λ rows. rows.items ≡ replicate count (replicate words 0)) }
+{
+    let mut rows = Vec::new(alloc);
+    for _ in 0..count {
+        rows.push(BitRow::blank(alloc, words)?)?;
+    }
+    Ok(rows)
+}
+
+// Adds the other row, if this one has the bit.
+fn pass_row(row: &mut BitRow, through: &BitRow, k: usize)
+    requires { length row.old ≡ length through.now }
+    ensures len { length row.new ≡ length row.old }
+    ensures joined { (v : ℕ) → bit row.new v ≡ (bit row.old v || (bit row.old k && bit through.now v)) }
+{
+    if row.has(k) {
+        row.join(through);
+    }
+}
+
+// Adds the row to each of those that have the bit.
+fn pass(rows: &mut [BitRow], through: &BitRow, k: usize)
+    requires { AreWide (length through.now) rows.old }
+    ensures len { length rows.new ≡ length rows.old }
+    ensures wide { AreWide (length through.now) rows.new }
+    ensures joined { (u v : ℕ) → pair_at rows.new u v
+        ≡ (pair_at rows.old u v || (pair_at rows.old u k && bit through.now v)) }
+{
+    for row in rows.iter_mut() {
+        pass_row(row, through, k);
+    }
+}
+
+// Adds to the rows the pairs that walks along them join: for each unit its row to those that have its bit.
+fn close_rows(alloc: Global, rows: &mut [BitRow]) -> Result<(), NoMemory>
+    requires { AreRows (length rows.old) rows.old }
+    ensures rows { AreRows (length rows.old) rows.new }
+    ensures closed { OnOk result (pair_at rows.new ≡ closed_below (length rows.old) (pair_at rows.old)) }
+{
+    for k in 0..rows.len() {
+        let through = rows[k].copy(alloc)?;
+        pass(rows, &through, k);
+    }
+    Ok(())
+}
+
+// Whether the row of the first unit has the bit of the second.
+#[tactic(auto, using(crate::proofs::BitLaws::pair_past))]
+fn has_pair(rows: &[BitRow], from: usize, to: usize) -> bool
+    ensures { result ≡ pair_at rows.now from to }
+{
+    match rows.get(from) {
+        Some(row) => row.has(to),
+        None => false,
+    }
+}
+
+impl BitRows {
+    // The set without a pair.
+    pub(crate) fn none(alloc: Global, count: usize) -> Result<BitRows, NoMemory>
+        requires { count ≤ 1000 }
+        ensures count { IfOk result (λ set. set.count ≡ count) }
+        ensures pairs { IfOk result (λ set. pairs set ≡ no_pair) }
+    {
+        Ok(BitRows {
+            count,
+            rows: blank_rows(alloc, count, (count + 63) / 64)?,
+        })
+    }
+
+    // How many units there are.
+    pub(crate) fn count(&self) -> u16
+        ensures { result ≡ self.now.count }
+    {
+        self.count as u16
+    }
+
+    // Whether the pair is in the set.
+    pub(crate) fn has(&self, from: u16, to: u16) -> bool
+        ensures { result ≡ pairs self.now from to }
+    {
+        has_pair(&self.rows, usize::from(from), usize::from(to))
+    }
+
+    // Puts the pair into the set.
+    pub(crate) fn put(&mut self, from: u16, to: u16)
+        requires from { from < self.old.count }
+        requires to { to < self.old.count }
+        ensures count { self.new.count ≡ self.old.count }
+        ensures pairs { pairs self.new ≡ with_pair from to (pairs self.old) }
+    {
+        self.rows[usize::from(from)].put(usize::from(to));
+    }
+
+    // The row of the first unit of pairs, lent.
+    pub(crate) fn row(&self, from: u16) -> &[u64]
+        requires { from < self.now.count }
+        ensures words { length result.now ≡ words_for self.now.count }
+        ensures bits { (v : ℕ) → bit result.now v ≡ pairs self.now from v }
+    {
+        self.rows[usize::from(from)].words()
+    }
+
+    // Puts all pairs into the set that walks along its pairs join. After want of memory there may be some of them.
+    pub(crate) fn close(&mut self, alloc: Global) -> Result<(), NoMemory>
+        ensures count { self.new.count ≡ self.old.count }
+        ensures pairs { OnOk result (pairs self.new ≡ closed_below self.old.count (pairs self.old)) }
+    {
+        close_rows(alloc, &mut self.rows)
+    }
+}

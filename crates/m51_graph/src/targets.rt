@@ -1,0 +1,92 @@
+//! To which units the fixups of modules refer.
+ghost use Rattle.std.specs.Prelude.{◌≡◌, ◌<◌, ◌≤◌, IfSome, IsSome, length, nat_eq, position};
+ghost use Rattle.m51_resolve.specs.Joining.{segments_of, segment_at};
+ghost use Rattle.m51_resolve.specs.Publics.{external_at};
+ghost use Rattle.m51_graph.specs.Conditions.{IsBaseIn, IsBaseThere, IsTargetThere};
+ghost use Rattle.m51_graph.specs.Targets.{base_at, external_unit, public_base, public_unit, target_unit, unit_with};
+ghost use Rattle.m51_graph.specs.Units.{units_of};
+
+use crate::units::as_unit;
+use m51_cells::Base;
+use m51_module::Module;
+use m51_resolve::Joined;
+
+// The place of the unit that has this joined number.
+fn place_with(units: &[u16], number: u16) -> Option<usize>
+    ensures place { result ≡ position (nat_eq number) units.now }
+    ensures inside { IfSome result (λ place. place < length units.now) }
+{
+    units.iter().position(|unit| number == *unit)
+}
+
+// The unit of which the segment is a part, if it is of program memory.
+pub(crate) fn unit_with(joined: &Joined, units: &[u16], module: u8, segment: u8) -> Option<u16>
+    requires there { IsSome (segment_at joined.now «module» segment) }
+    requires units { units.now ≡ units_of (segments_of joined.now) }
+    requires few { length units.now ≤ 1000 }
+    ensures { result ≡ unit_with joined.now «module» segment }
+{
+    let (number, _) = joined.part(module, segment);
+    as_unit(place_with(units, number))
+}
+
+// The unit in which a public with this base lies.
+fn public_unit(joined: &Joined, units: &[u16], module: u8, base: Base) -> Option<u16>
+    requires there { IsBaseThere joined.now «module» base }
+    requires units { units.now ≡ units_of (segments_of joined.now) }
+    requires few { length units.now ≤ 1000 }
+    ensures { result ≡ public_unit joined.now «module» base }
+{
+    match base {
+        Base::None => None,
+        Base::Segment(segment) => unit_with(joined, units, module, segment),
+        Base::External(_) => None,
+    }
+}
+
+// The base of the public of that place; none where it is not there.
+fn base_at(parts: &Module, place: usize) -> Base
+    ensures base { result ≡ base_at parts.now.publics place }
+    ensures there { IsBaseIn parts.now result }
+{
+    match parts.publics().get(place) {
+        Some(public) => public.base,
+        None => Base::None,
+    }
+}
+
+// The base of the public of that place of the module.
+fn public_base(joined: &Joined, module: u8, place: usize) -> Base
+    ensures base { result ≡ public_base joined.now «module» place }
+    ensures there { IsBaseThere joined.now «module» result }
+{
+    match joined.modules().get(usize::from(module)) {
+        Some(parts) => base_at(parts, place),
+        None => Base::None,
+    }
+}
+
+// The unit in which the public lies that resolves the external.
+fn external_unit(joined: &Joined, units: &[u16], module: u8, external: u8) -> Option<u16>
+    requires there { IsSome (external_at joined.now «module» external) }
+    requires units { units.now ≡ units_of (segments_of joined.now) }
+    requires few { length units.now ≤ 1000 }
+    ensures { result ≡ external_unit joined.now «module» external }
+{
+    let (home, place) = joined.public_of(module, external);
+    public_unit(joined, units, home, public_base(joined, home, place))
+}
+
+// The unit to which a target refers, directly or by an external.
+pub(crate) fn target_unit(joined: &Joined, units: &[u16], module: u8, target: Base) -> Option<u16>
+    requires there { IsTargetThere joined.now «module» target }
+    requires units { units.now ≡ units_of (segments_of joined.now) }
+    requires few { length units.now ≤ 1000 }
+    ensures { result ≡ target_unit joined.now «module» target }
+{
+    match target {
+        Base::None => None,
+        Base::Segment(segment) => unit_with(joined, units, module, segment),
+        Base::External(external) => external_unit(joined, units, module, external),
+    }
+}

@@ -1,0 +1,82 @@
+//! Which interrupt is taken.
+ghost use Rattle.std.specs.Prelude.{◌≡◌, None, option_copied, if◌then◌else◌};
+ghost use Rattle.std.specs.List.{find};
+ghost use Rattle.m51_irq.specs.declared.sources.Level.TheVariants.{Low};
+ghost use Rattle.m51_irq.specs.Choice.{asks_at, chosen, first_asking, is_same_level};
+
+use crate::sources::{Level, asks, level_of};
+use m51_flat::{Cpu, Source};
+
+// The sources, in their order.
+const SOURCES: [Source; 6] = [
+    Source::Ie0,
+    Source::Tf0,
+    Source::Ie1,
+    Source::Tf1,
+    Source::Serial,
+    Source::Timer2,
+];
+
+// Two levels are the same.
+fn is_same_level(one: Level, other: Level) -> bool
+    ensures { result ≡ is_same_level one other }
+{
+    matches!(
+        (one, other),
+        (Level::Low, Level::Low) | (Level::High, Level::High)
+    )
+}
+
+// A source of this level asks.
+fn asks_at(cpu: &Cpu, level: Level, source: Source) -> bool
+    ensures { result ≡ asks_at cpu.now level source }
+{
+    asks(cpu, source) && is_same_level(level_of(cpu, source), level)
+}
+
+// The first of these sources that asks and has this level.
+fn first_among<'a>(cpu: &Cpu, level: Level, sources: &'a [Source]) -> Option<&'a Source>
+    ensures { option_copied result ≡ find (asks_at cpu.now level) sources.now }
+{
+    sources.iter().find(|source| asks_at(cpu, level, **source))
+}
+
+// The first source of this level that asks.
+fn first_asking(cpu: &Cpu, level: Level) -> Option<Source>
+    ensures { result ≡ first_asking cpu.now level }
+{
+    let first = first_among(cpu, level, &SOURCES)?;
+    Some(*first)
+}
+
+// The first source that asks where no level is in progress, or else none.
+fn first_low(cpu: &Cpu) -> Option<Source>
+    ensures { result ≡ (if cpu.now.low then None else first_asking cpu.now Low) }
+{
+    if cpu.low {
+        None
+    } else {
+        first_asking(cpu, Level::Low)
+    }
+}
+
+/// The interrupt that is to be taken: of the sources that ask and that the levels in progress allow, the first of those
+/// with the higher level. It is none while interrupts are held off, which they are for the step after RETI and after a
+/// write of IE or IP.
+///
+/// Source: family manual.
+#[tactic(auto, unfolding(crate::specs::Choice::chosen))]
+pub fn choose(cpu: &Cpu) -> Option<Source>
+    ensures { result ≡ chosen cpu.now }
+{
+    if cpu.held {
+        return None;
+    }
+    if cpu.high {
+        return None;
+    }
+    match first_asking(cpu, Level::High) {
+        Some(source) => Some(source),
+        None => first_low(cpu),
+    }
+}

@@ -1,0 +1,39 @@
+//! What holds of every choice. Each law is the contract of a function that does nothing.
+ghost use Rattle.m51_irq.specs.Laws.{FirstIsChosen, LevelsAreNested, NoneIsTakenAtOnce, NoneOverHigh, TopLevelEnds};
+
+/// While the high level is in progress, no interrupt is taken.
+///
+/// Source: family manual.
+pub fn no_interrupt_over_the_high_level()
+    ensures { NoneOverHigh }
+{}
+
+/// No interrupt is taken directly after RETI, nor directly after an instruction that writes IE or IP.
+///
+/// Source: family manual.
+pub fn none_is_taken_at_once()
+    ensures { NoneIsTakenAtOnce }
+{}
+
+/// A source is chosen exactly where interrupts are not held off, it asks and the levels in progress allow it, and no
+/// other such source has a higher level, or the same level and an earlier place in the order.
+///
+/// Source: family manual.
+pub fn the_first_that_may_be_taken_is_chosen()
+    ensures { FirstIsChosen }
+{}
+
+/// Taking the chosen interrupt puts its level on top of the levels in progress, which are at most a low one below a
+/// high one.
+///
+/// Source: family manual.
+pub fn levels_are_nested()
+    ensures { LevelsAreNested }
+{}
+
+/// RETI ends the top level in progress.
+///
+/// Source: family manual.
+pub fn a_return_ends_the_top_level()
+    ensures { TopLevelEnds }
+{}

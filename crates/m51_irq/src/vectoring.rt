@@ -1,0 +1,119 @@
+//! Taking an interrupt.
+ghost use Rattle.std.specs.Prelude.{◌≡◌, ◌<◌, false, length};
+ghost use Rattle.m51_cells.specs.declared.cell.Cell.{Cell};
+ghost use Rattle.m51_flat.specs.declared.state.Outcome.TheVariants.{Done};
+ghost use Rattle.m51_flat.specs.Causes.{IsCause};
+ghost use Rattle.m51_flat.specs.Laws.{HasParity, IfDone};
+ghost use Rattle.m51_irq.specs.Vectoring.{IsVectoring, acknowledged, cleared, edge_cleared, entered, interrupted};
+ghost use Rattle.m51_irq.specs.Vectoring.{vectored, vectoring};
+
+use crate::sources::{Level, level_of};
+use m51_flat::addresses::{PCON, TCON};
+use m51_flat::flags::{IDL, IE0, IE1, IT0, IT1, TF0, TF1};
+use m51_flat::{CellStore, Cpu, Effect, Outcome, Put, Source, Transfer, conclude, stack_pc};
+
+// Clears a flag of TCON where the bit that makes it an edge's is 1.
+fn clear_edge(cpu: &mut Cpu, flag: u8, edge: u8)
+    requires flag { flag < 8 }
+    requires edge { edge < 8 }
+    ensures { cpu.new ≡ edge_cleared flag edge cpu.old }
+{
+    if cpu.flag(TCON, edge) {
+        cpu.set_flag(TCON, flag, false);
+    }
+}
+
+// Clears the flag of a source where the hardware does.
+#[tactic(auto, unfolding(crate::specs::Vectoring::cleared))]
+fn clear(cpu: &mut Cpu, source: Source)
+    ensures { cpu.new ≡ cleared source cpu.old }
+{
+    match source {
+        Source::Ie0 => clear_edge(cpu, IE0, IT0),
+        Source::Tf0 => cpu.set_flag(TCON, TF0, false),
+        Source::Ie1 => clear_edge(cpu, IE1, IT1),
+        Source::Tf1 => cpu.set_flag(TCON, TF1, false),
+        Source::Serial | Source::Timer2 => {}
+    }
+}
+
+// Sets a level in progress.
+fn enter(cpu: &mut Cpu, level: Level)
+    ensures { cpu.new ≡ entered level cpu.old }
+{
+    match level {
+        Level::Low => cpu.low = true,
+        Level::High => cpu.high = true,
+    }
+}
+
+/// Acknowledges an interrupt: its level is in progress, TF0 or TF1 is cleared, and IE0 or IE1 where an edge set it, and
+/// the processor is no longer idle.
+///
+/// Source: family manual.
+pub fn acknowledge(cpu: &mut Cpu, source: Source)
+    ensures { cpu.new ≡ acknowledged source cpu.old }
+{
+    let level = level_of(cpu, source);
+    clear(cpu, source);
+    cpu.set_flag(PCON, IDL, false);
+    enter(cpu, level);
+}
+
+// An interrupt that is acknowledged, before the call of its vector.
+fn interrupt(cpu: &Cpu, source: Source) -> Effect
+    ensures { result ≡ interrupted cpu.now source }
+{
+    let mut taken = *cpu;
+    acknowledge(&mut taken, source);
+    taken.held = false;
+    Effect {
+        cpu: taken,
+        first: Put::Nothing,
+        second: Put::Nothing,
+        transfer: Transfer::Next,
+        port: None,
+        sbuf: None,
+        cycles: 2,
+    }
+}
+
+// All that taking an interrupt changes.
+#[tactic(auto, unfolding(crate::specs::Vectoring::vectoring))]
+fn vectoring_effect(cpu: &Cpu, source: Source) -> Effect
+    ensures value { result ≡ vectoring cpu.now source }
+    ensures registers { length (interrupted cpu.now source).cpu.regs ≡ 128 }
+{
+    let stacked = stack_pc(interrupt(cpu, source));
+    let mut cpu = stacked.cpu;
+    cpu.pc = source.vector();
+    Effect {
+        cpu,
+        transfer: Transfer::Vector(source),
+        ..stacked
+    }
+}
+
+/// What taking an interrupt comes to over a store. It changes nothing: the caller puts `first` and then `second`.
+///
+/// - `Outside`: the lowest cell of the first put, then of the second, that may not be written.
+/// - `Done`, else, with the whole effect: the interrupt is acknowledged, and its vector called, in two cycles.
+///
+/// Source: family manual; own choice ("Effects").
+pub fn vector<M: CellStore>(cpu: &Cpu, store: &M, source: Source) -> Outcome
+    ensures outcome { result ≡ vectored cpu.now (M.barred store.now) source }
+
+    // A cell that it names exists and is barred.
+    ensures missing { IsCause (M.cells store.now) (M.barred store.now) result }
+
+    // Over a store of which no cell is barred: the effect.
+    ensures whole { ((c : Cell) → M.barred store.now c ≡ false) → result ≡ Done (vectoring cpu.now source) }
+
+    // PSW bit 0 stays the parity of ACC.
+    ensures parity { HasParity cpu.now → IfDone result (λ e. HasParity e.cpu) }
+
+    // PC is the vector; its old value is stored above the stack, low byte first, and SP is raised by two.
+    ensures control { IfDone result (IsVectoring cpu.now source) }
+{
+    conclude(store, vectoring_effect(cpu, source))
+}

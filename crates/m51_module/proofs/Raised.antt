@@ -1,0 +1,123 @@
+-- A module stays valid when it is raised to version 2.
+use Rattle.std.proofs.Common.{◌≡◌, ◌⊎◌, inl, inr, ℕ, zero, suc, ◌+◌, ◌<◌, Bool, true, false, ◌&&◌, ◌||◌, List, [], ◌∷◌, ◌++◌, length, map, take, drop, get_or, Some, refl, sym, ap, subst, ◌∙◌, arith}
+use Rattle.std.specs.Prelude.{slice_set, option_map}
+use Rattle.std.specs.List.{AllPairs}
+use Rattle.std.proofs.lemmas.Bool.{and_parts, or_cases}
+use Rattle.std.proofs.lemmas.List.{get_or-map, length-map}
+use Rattle.std.proofs.lemmas.List.Elements.{All-map}
+use Rattle.std.proofs.lemmas.Option.{slice_get-map}
+use Rattle.m51_cells.specs.declared.kind.Base.{Base}
+use Rattle.m51_cells.specs.declared.kind.Base.TheVariants.{None as NoBase, Segment as InSegment, External as OfExternal}
+use Rattle.m51_cells.specs.declared.kind.Kind.{Kind}
+use Rattle.m51_cells.specs.declared.kind.Kind.TheVariants.{Direct}
+use Rattle.m51_cells.specs.Kinds.{same_kind}
+use Rattle.m51_cells.proofs.KindLaws.{kind_same}
+use Rattle.m51_module.specs.declared.content.Fixup.{Fixup}
+use Rattle.m51_module.specs.declared.content.Piece.{Piece}
+use Rattle.m51_module.specs.declared.parts.ModuleParts.{ModuleParts}
+use Rattle.m51_module.specs.declared.segment.Segment.{Segment}
+use Rattle.m51_module.specs.declared.symbol.External.{External}
+use Rattle.m51_module.specs.declared.symbol.Public.{Public}
+use Rattle.m51_module.specs.Arguments.{is_argument_name, may_be_argument, marked, raised}
+use Rattle.m51_module.specs.Validity.{numbered, Differ, IsArgument, IsSegmentValid, IsPublicBase, IsPublicValid, IsPieceValid, IsTarget, IsFixupValid, IsValid}
+
+-- a list whose first elements are mapped in place, one more
+mapped_next : {X : Type 0} (f : X → X) (old : List X) (i : ℕ) (x : X) → i < length old → x ≡ get_or (map f (take i old) ++ drop i old) i x
+    → slice_set (map f (take i old) ++ drop i old) i (f x) ≡ map f (take (suc i) old) ++ drop (suc i) old
+mapped_next f [] i x below is = absurd (omega (arith, below))
+mapped_next f (y ∷ ys) zero x below is = ap (λ z. f z ∷ ys) is
+mapped_next f (y ∷ ys) (suc i) x below is = ap (λ zs. f y ∷ zs) (mapped_next f ys i x (omega (arith, below)) is)
+
+pub mapped_more : {X : Type 0} (f : X → X) (old now : List X) (i : ℕ) (x : X) → now ≡ map f (take i old) ++ drop i old → i < length old → x ≡ get_or now i x
+    → slice_set now i (f x) ≡ map f (take (i + 1) old) ++ drop (i + 1) old
+mapped_more f old now i x is below at =
+    let next : suc i ≡ i + 1 = omega arith in
+    ap (λ xs. slice_set xs i (f x)) is ∙ mapped_next f old i x below (at ∙ ap (λ xs. get_or xs i x) is)
+    ∙ ap (λ n. map f (take n old) ++ drop n old) next
+
+-- a segment that may be marked is a valid argument segment once it is
+may_be_valid : (s : Segment) → may_be_argument s ≡ true → IsArgument (marked s)
+may_be_valid s h =
+    let last = and_parts (s.overlay && same_kind s.kind Direct) (is_argument_name s.name) h in
+    let first = and_parts s.overlay (same_kind s.kind Direct) last.0 in
+    record { kind = kind_same s.kind Direct first.1; overlay = first.0; name = last.1 }
+
+marked_valid : (s : Segment) → IsSegmentValid s → IsSegmentValid (marked s)
+marked_valid s h = record {
+  kind = h.kind;
+  reloc = h.reloc;
+  size = h.size;
+  absolute = λ e. (let a = h.absolute e in record { name = a.name; some = a.some; fits = a.fits });
+  relocatable = λ ne. (let r = h.relocatable ne in record { name = r.name; base = r.base });
+  overlay = h.overlay;
+  argument = λ e. elim (or_cases s.argument (may_be_argument s) e) as (λ _. IsArgument (marked s)) [
+    | inl was ↦ (let a = h.argument was in record { kind = a.kind; overlay = a.overlay; name = a.name })
+    | inr may ↦ may_be_valid s may
+  ];
+}
+
+-- the segment of a number, marked
+numbered_marked : (segments : List Segment) (number : ℕ) → numbered (map marked segments) number ≡ option_map marked (numbered segments number)
+numbered_marked segments zero = refl
+numbered_marked segments (suc before) = slice_get-map marked segments before
+
+found : (segments : List Segment) (number : ℕ) (s : Segment) → numbered segments number ≡ Some s → numbered (map marked segments) number ≡ Some (marked s)
+found segments number s e = numbered_marked segments number ∙ ap (option_map marked) e
+
+base_stays : (segments : List Segment) (kind : Kind) (base : Base) → IsPublicBase segments kind base → IsPublicBase (map marked segments) kind base
+base_stays segments kind NoBase h = tt
+base_stays segments kind (InSegment number) (s, is, same) = (marked s, found segments number s is, same)
+base_stays segments kind (OfExternal number) h = h
+
+target_stays : (segments : List Segment) (externals : List External) (base : Base) → IsTarget segments externals base → IsTarget (map marked segments) externals base
+target_stays segments externals NoBase h = h
+target_stays segments externals (InSegment number) (s, is) = (marked s, found segments number s is)
+target_stays segments externals (OfExternal number) h = h
+
+public_stays : (segments : List Segment) (p : Public) → IsPublicValid segments p → IsPublicValid (map marked segments) p
+public_stays segments p h = record { name = h.name; base = base_stays segments p.kind p.base h.base }
+
+piece_stays : (segments : List Segment) (p : Piece) → IsPieceValid segments p → IsPieceValid (map marked segments) p
+piece_stays segments p h = record {
+  some = h.some;
+  most = h.most;
+  segment = marked h.segment;
+  is = found segments p.segment h.segment h.is;
+  code = h.code;
+  inside = h.inside;
+}
+
+fixup_stays : (segments : List Segment) (externals : List External) (pieces : List Piece) (f : Fixup) → IsFixupValid segments externals pieces f
+    → IsFixupValid (map marked segments) externals pieces f
+fixup_stays segments externals pieces f h = record { bit = h.bit; target = target_stays segments externals f.target h.target; held = h.held }
+
+-- the names stay different
+names_stay : (segments : List Segment) → AllPairs (λ s t. Differ s.name t.name) segments → AllPairs (λ s t. Differ s.name t.name) (map marked segments)
+names_stay segments h i j d less below =
+    let in_it : j < length segments = omega (arith, below, length-map segments marked) in
+    let one : get_or (map marked segments) i d ≡ marked (get_or segments i d) = get_or-map marked segments i d d (omega (arith, less, in_it)) in
+    let two : get_or (map marked segments) j d ≡ marked (get_or segments j d) = get_or-map marked segments j d d in_it in
+    subst (λ (s : Segment). Differ s.name (get_or (map marked segments) j d).name) (sym one)
+    (subst (λ (t : Segment). Differ (get_or segments i d).name t.name) (sym two) (h i j d less in_it))
+
+pub raised_valid : (m : ModuleParts) → IsValid m → IsValid (raised m)
+raised_valid m h = record {
+  name = h.name;
+  version = inr refl;
+  few_segments = omega (arith, h.few_segments, length-map m.segments marked);
+  few_externals = h.few_externals;
+  few_fixups = h.few_fixups;
+  segments = All-map IsSegmentValid marked m.segments (λ k d below. marked_valid (get_or m.segments k d) (h.segments k d below));
+  marks = λ k d below e. refl;
+  segment_names = names_stay m.segments h.segment_names;
+  publics = λ k d below. public_stays m.segments (get_or m.publics k d) (h.publics k d below);
+  public_names = h.public_names;
+  externals = h.externals;
+  external_names = h.external_names;
+  pieces = λ k d below. piece_stays m.segments (get_or m.pieces k d) (h.pieces k d below);
+  piece_order = h.piece_order;
+  fixups = λ k d below. fixup_stays m.segments m.externals m.pieces (get_or m.fixups k d) (h.fixups k d below);
+  fixup_order = h.fixup_order;
+  banks = h.banks;
+  few_banks = h.few_banks;
+}

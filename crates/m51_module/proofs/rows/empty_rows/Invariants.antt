@@ -1,0 +1,5 @@
+use Rattle.m51_module.specs.Kept.{AreEmptyRows}
+use Rattle.m51_module.proofs.rows.empty_rows.Given as goal
+
+abbrev pub invariant-loop : goal.invariant-loop
+invariant-loop l = AreEmptyRows l.counter l.rows.items

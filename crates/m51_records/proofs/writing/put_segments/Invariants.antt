@@ -1,7 +1,0 @@
-use Rattle.std.proofs.Common.{◌≡◌, ◌++◌, take}
-use Rattle.std.specs.List.{flat_map}
-use Rattle.m51_records.specs.Spelling.{segment_record}
-use Rattle.m51_records.proofs.writing.put_segments.Given as goal
-
-abbrev pub invariant-loop-segment : goal.invariant-loop-segment
-invariant-loop-segment l = l.out.items ≡ l.fn.out.items ++ flat_map segment_record (take l.segment-index l.segments)

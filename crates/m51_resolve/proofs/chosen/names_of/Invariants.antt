@@ -1,0 +1,6 @@
+use Rattle.std.proofs.Common.{take}
+use Rattle.m51_resolve.specs.WorkNames.{AreNamed}
+use Rattle.m51_resolve.proofs.chosen.names_of.Given as goal
+
+abbrev pub invariant-loop-number : goal.invariant-loop-number
+invariant-loop-number l = AreNamed (take l.number l.modules) l.definitions.entries l.wanted.keys

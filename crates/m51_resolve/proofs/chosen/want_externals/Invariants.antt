@@ -1,0 +1,6 @@
+use Rattle.std.proofs.Common.{take}
+use Rattle.m51_resolve.specs.WorkNames.{Wants}
+use Rattle.m51_resolve.proofs.chosen.want_externals.Given as goal
+
+abbrev pub invariant-loop-external : goal.invariant-loop-external
+invariant-loop-external l = Wants l.fn.names.keys (take l.external-index l.externals) l.names.keys

@@ -1,0 +1,95 @@
+-- Of the code: the tables of names that modules define and want, as they are filled module by module.
+use Rattle.std.specs.Prelude.{◌≡◌, ℕ, ◌+◌, ◌==◌, Bool, false, not, ◌||◌, is_none, if◌then◌else◌, List, [], ◌∷◌, Option, Some, None, option_map, unwrap_or}
+use Rattle.std.specs.List.{list_any}
+use Rattle.std.specs.Map.{lookup}
+use Rattle.std.specs.Str.{bytes_eq}
+use Rattle.m51_module.specs.declared.parts.ModuleParts.{ModuleParts}
+use Rattle.m51_module.specs.declared.symbol.External.{External}
+use Rattle.m51_module.specs.declared.symbol.Public.{Public}
+use Rattle.m51_module.specs.Library.{defines, has_public}
+use Rattle.m51_resolve.specs.declared.definitions.Defined.{Defined}
+use Rattle.m51_resolve.specs.declared.publics.Definition.{Definition}
+use Rattle.m51_resolve.specs.Choice.{wants}
+use Rattle.m51_resolve.specs.Publics.{definition_of, nowhere}
+use Rattle.m51_resolve.specs.Rules.{is_against}
+
+-- what a table has of a name
+abbrev pub value_in : {T : Type 0} → List (List ℕ × T) → List ℕ → Option T
+value_in table name = lookup (bytes_eq name) table
+
+-- where a name is defined first, and whether another module defines it too
+abbrev pub first_defined : Option Defined → Option Definition
+first_defined known = option_map (λ d. d.first) known
+
+abbrev pub is_shared : Option Defined → Bool
+is_shared None = false
+is_shared (Some d) = d.shared
+
+-- the same of a table
+abbrev pub definition_in : List (List ℕ × Defined) → List ℕ → Option Definition
+definition_in table name = first_defined (value_in table name)
+
+abbrev pub shared_in : List (List ℕ × Defined) → List ℕ → Bool
+shared_in table name = is_shared (value_in table name)
+
+-- what is known of a name with one definition more
+abbrev pub again : Option Defined → Definition → Defined
+again None d = record { first = d; shared = false }
+again (Some old) d = record { first = old.first; shared = old.shared || not (old.first.number == d.number) }
+
+abbrev pub definition_at : ℕ → ℕ → Public → Definition
+definition_at number index p = record { number = number; index = index; kind = p.kind }
+
+-- what is known of a name with these publics of the module of that number, the first of which has that index
+abbrev pub noted : Option Defined → ℕ → ℕ → List ℕ → List Public → Option Defined
+noted known number index name [] = known
+noted known number index name (p ∷ more) =
+    noted (if bytes_eq p.name name then Some (again known (definition_at number index p)) else known)
+    number (index + 1) name more
+
+-- the table has these publics of the module of that number too
+pub record Notes (old : List (List ℕ × Defined)) (number : ℕ) (publics : List Public) (new : List (List ℕ × Defined))
+    : Type 0 where
+  pub each : (name : List ℕ) → value_in new name ≡ noted (value_in old name) number 0 name publics
+
+-- two of the modules define the name
+abbrev pub two_define : List ModuleParts → List ℕ → Bool
+two_define [] name = false
+two_define (m ∷ more) name = if has_public name m then defines more name else two_define more name
+
+-- the table has the publics of these modules
+abbrev pub defined_by : List ModuleParts → List ℕ → Option Defined
+defined_by modules name =
+    option_map (λ d. record { first = d; shared = two_define modules name }) (definition_of modules name)
+
+pub record AreDefinitions (modules : List ModuleParts) (table : List (List ℕ × Defined)) : Type 0 where
+  pub each : (name : List ℕ) → value_in table name ≡ defined_by modules name
+
+-- the set has that name
+abbrev pub wanted_in : List (List ℕ) → List ℕ → Bool
+wanted_in names name = list_any (bytes_eq name) names
+
+-- the set has the names of these externals too
+pub record Wants (old : List (List ℕ)) (externals : List External) (new : List (List ℕ)) : Type 0 where
+  pub each : (name : List ℕ)
+      → wanted_in new name ≡ (wanted_in old name || list_any (λ e. bytes_eq e.name name) externals)
+
+-- the set has the externals of these modules
+pub record AreWanted (modules : List ModuleParts) (names : List (List ℕ)) : Type 0 where
+  pub each : (name : List ℕ) → wanted_in names name ≡ list_any (wants name) modules
+
+-- the table and the set have the names of these modules
+pub record AreNamed (modules : List ModuleParts) (definitions : List (List ℕ × Defined)) (wanted : List (List ℕ))
+    : Type 0 where
+  pub definitions_are : AreDefinitions modules definitions
+  pub wanted_are : AreWanted modules wanted
+
+-- what externals are, by where each name is defined
+abbrev pub undefined_by : (List ℕ → Option Definition) → External → Bool
+undefined_by definition e = is_none (definition e.name)
+
+abbrev pub contrary_by : (List ℕ → Option Definition) → External → Bool
+contrary_by definition e = is_against e.kind (definition e.name)
+
+abbrev pub resolving_by : (List ℕ → Option Definition) → External → Definition
+resolving_by definition e = unwrap_or (definition e.name) nowhere

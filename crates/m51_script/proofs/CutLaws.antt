@@ -1,0 +1,110 @@
+-- A text is cut at its first blanks where it was joined by them.
+use Rattle.std.proofs.Common.{◌≡◌, ℕ, suc, ◌+◌, ◌<◌, ◌≤◌, Bool, true, false, not, ◌&&◌, cond, nat_lt, List, [], ◌∷◌, ◌++◌, length, take, drop, Some, None, refl, sym, ap, ◌∙◌, subst, arith, length-append}
+use Rattle.std.specs.List.{list_all, prefix_len, position_or_len}
+use Rattle.std.proofs.lemmas.Bool.{and_from, and_parts}
+use Rattle.std.proofs.lemmas.Option.{cond_some}
+use Rattle.std.proofs.lemmas.List.{take-append-drop}
+use Rattle.std.proofs.lemmas.Bool.Decides.{nat_tests}
+use Rattle.std.proofs.Math.Seq.{take-append_seam, drop-append_seam}
+use Rattle.m51_cells.proofs.Passing.{run_len, stops_at, front_passes}
+use Rattle.m51_script.specs.Parts.{cut, is_blank}
+use Rattle.m51_script.specs.Written.{AreBlanks}
+
+-- no byte is a blank
+abbrev pub NoBlanks : List ℕ → Type 0
+NoBlanks text = list_all (λ b. not (is_blank b)) text ≡ true
+
+pub less : (a b : ℕ) → nat_lt a b ≡ true → a < b
+less a b h = grind (arith, nat_tests)
+
+pub passes_less : (a b : ℕ) → a < b → nat_lt a b ≡ true
+passes_less a b h = grind (arith, nat_tests)
+
+pub passes_not_less : (a b : ℕ) → b ≤ a → nat_lt a b ≡ false
+passes_not_less a b h = grind (arith, nat_tests)
+
+pub not_less : (a b : ℕ) → nat_lt a b ≡ false → b ≤ a
+not_less a b h = grind (arith, nat_tests)
+
+all_step : (n m : ℕ) (b : Bool) → b ≡ true → n ≡ m → cond b (1 + n) 0 ≡ suc m
+all_step n m true h e = omega (arith, e)
+all_step n m false h e = absurd (cc)
+
+all_len : (p : ℕ → Bool) (xs : List ℕ) → list_all p xs ≡ true → prefix_len p xs ≡ length xs
+all_len p [] all = refl
+all_len p (x ∷ xs) all =
+    let parts : (p x ≡ true) × (list_all p xs ≡ true) = and_parts (p x) (list_all p xs) all in
+    all_step (prefix_len p xs) (length xs) (p x) parts.0 (all_len p xs parts.1)
+
+some_step : (x : ℕ) (xs : List ℕ) (b : Bool) (n : ℕ) → is_blank x ≡ b → cond (not b) (1 + n) 0 < length (x ∷ xs) → (n < length xs → 0 < length (take (prefix_len is_blank (drop n xs)) (drop n xs)))
+    → 0 < length (take (prefix_len is_blank (drop (cond (not b) (1 + n) 0) (x ∷ xs))) (drop (cond (not b) (1 + n) 0) (x ∷ xs)))
+some_step x xs true n is h more =
+    let one : prefix_len is_blank (x ∷ xs) ≡ suc (prefix_len is_blank xs) = ap (λ b. cond b (1 + prefix_len is_blank xs) 0) is ∙ (let e : 1 + prefix_len is_blank xs ≡ suc (prefix_len is_blank xs) = omega arith in e) in
+    subst (λ k. 0 < length (take k (x ∷ xs))) (sym one) (omega arith)
+some_step x xs false n is h more =
+    subst (λ k. 0 < length (take (prefix_len is_blank (drop k (x ∷ xs))) (drop k (x ∷ xs)))) (let e : suc n ≡ 1 + n = omega arith in e) (more (omega (arith, h)))
+
+-- a blank stands where the part ends
+some_blank : (text : List ℕ) → position_or_len is_blank text < length text → 0 < length (take (prefix_len is_blank (drop (position_or_len is_blank text) text)) (drop (position_or_len is_blank text) text))
+some_blank [] h = absurd (omega (arith, h))
+some_blank (x ∷ xs) h = some_step x xs (is_blank x) (position_or_len is_blank xs) refl h (some_blank xs)
+
+-- a text that is a part, one or more blanks, and the rest
+pub record IsCut (text part rest : List ℕ) : Type 0 where
+  pub blanks : List ℕ
+  pub blank : AreBlanks blanks
+  pub is : text ≡ part ++ (blanks ++ rest)
+
+pub cut_sound : (text : List ℕ) (parts : List ℕ × List ℕ) → cut text ≡ Some parts → IsCut text parts.0 parts.1
+cut_sound text parts h =
+    let n = position_or_len is_blank text in
+    let rest = drop n text in
+    let m = prefix_len is_blank rest in
+    let found : (nat_lt n (length text) ≡ true) × ((take n text, drop m rest) ≡ parts) = cond_some (nat_lt n (length text)) (take n text, drop m rest) parts h in
+    let here : IsCut text (take n text) (drop m rest) = record {
+      blanks = take m rest;
+      blank = record { some = some_blank text (less n (length text) found.0); each = front_passes is_blank rest };
+      is = sym (take-append-drop n text) ∙ ap (λ l. take n text ++ l) (sym (take-append-drop m rest));
+    } in
+    subst (λ (p : List ℕ × List ℕ). IsCut text p.0 p.1) found.1 here
+
+cut_where : (n : ℕ) (text part behind rest : List ℕ) → position_or_len is_blank text ≡ n → n < length text → take n text ≡ part → drop n text ≡ behind → drop (prefix_len is_blank behind) behind ≡ rest → cut text ≡ Some (part, rest)
+cut_where n text part behind rest place inside front back after =
+    ap (λ n. cond (nat_lt n (length text)) (Some (take n text, drop (prefix_len is_blank (drop n text)) (drop n text))) None) place
+    ∙ ap (λ t. cond t (Some (take n text, drop (prefix_len is_blank (drop n text)) (drop n text))) None) (passes_less n (length text) inside)
+    ∙ ap (λ l. Some (take n text, drop (prefix_len is_blank l) l)) back
+    ∙ ap (λ l. Some (l, drop (prefix_len is_blank behind) behind)) front
+    ∙ ap (λ l. Some (part, l)) after
+
+blank_first : (blanks rest : List ℕ) → AreBlanks blanks → prefix_len (λ b. not (is_blank b)) (blanks ++ rest) ≡ 0
+blank_first [] rest h = absurd (omega (arith, h.some))
+blank_first (x ∷ blanks) rest h = stops_at (λ b. not (is_blank b)) x (blanks ++ rest) (ap not (and_parts (is_blank x) (list_all is_blank blanks) h.each).0)
+
+pub cut_complete : (part blanks rest : List ℕ) → NoBlanks part → AreBlanks blanks → prefix_len is_blank rest ≡ 0 → cut (part ++ (blanks ++ rest)) ≡ Some (part, rest)
+cut_complete part blanks rest lacks blank stops =
+    cut_where (length part) (part ++ (blanks ++ rest)) part (blanks ++ rest) rest
+    (run_len (λ b. not (is_blank b)) part (blanks ++ rest) lacks (blank_first blanks rest blank))
+    (omega (arith, blank.some, length-append part (blanks ++ rest), length-append blanks rest))
+    (take-append_seam part (blanks ++ rest))
+    (drop-append_seam part (blanks ++ rest))
+    (ap (λ n. drop n (blanks ++ rest)) (run_len is_blank blanks rest blank.each stops) ∙ drop-append_seam blanks rest)
+
+-- a text without blanks is not cut
+pub cut_none : (text : List ℕ) → NoBlanks text → cut text ≡ None
+cut_none text lacks =
+    let n = position_or_len is_blank text in
+    let whole : length text ≤ n = omega (arith, all_len (λ b. not (is_blank b)) text lacks) in
+    ap (λ t. cond t (Some (take n text, drop (prefix_len is_blank (drop n text)) (drop n text))) None) (passes_not_less n (length text) whole)
+
+is_false : (b : Bool) → not b ≡ true → b ≡ false
+is_false true h = absurd (cc)
+is_false false h = refl
+
+-- a text that begins with no blank
+pub starts : (text rest : List ℕ) → 0 < length text → NoBlanks text → prefix_len is_blank (text ++ rest) ≡ 0
+starts [] rest h lacks = absurd (omega (arith, h))
+starts (x ∷ text) rest h lacks = stops_at is_blank x (text ++ rest) (is_false (is_blank x) (and_parts (not (is_blank x)) (list_all (λ b. not (is_blank b)) text) lacks).0)
+
+pub starts_alone : (text : List ℕ) → NoBlanks text → prefix_len is_blank text ≡ 0
+starts_alone [] lacks = refl
+starts_alone (x ∷ text) lacks = stops_at is_blank x text (is_false (is_blank x) (and_parts (not (is_blank x)) (list_all (λ b. not (is_blank b)) text) lacks).0)

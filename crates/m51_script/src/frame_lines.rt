@@ -1,0 +1,65 @@
+//! The RX lines of a script.
+ghost use Rattle.std.specs.Prelude.{◌≡◌, ◌≤◌, [], ◌==◌, IfOk};
+ghost use Rattle.m51_script.specs.Timing.{Ascends, latest_cycle, those, with_line};
+
+use crate::timing::{count_before, count_until};
+use m51_cells::NoMemory;
+use m51_timers_uart::Frame;
+use std::alloc::Global;
+use std::marker::Model;
+
+// RX lines in their order, which contracts see as their cycles and frames.
+#[derive(Drop)]
+pub(crate) struct FrameLines {
+    cycles: Vec<u32>,
+    frames: Vec<Frame>,
+}
+
+impl Model for FrameLines {
+    ghost use Rattle.m51_timers_uart.specs.declared.receiving.Frame.{Frame};
+    ghost use Rattle.m51_script.specs.Timing.{IsTimed, Timed, latest_cycle};
+
+    ghost Value = { Timed Frame };
+
+    ghost view = { λ lines. record { cycles = lines.cycles.items; items = lines.frames.items } };
+
+    ghost invariant = { λ lines. IsTimed latest_cycle lines.cycles.items lines.frames.items };
+}
+
+impl FrameLines {
+    // No lines. It takes no memory.
+    pub(crate) fn none(alloc: Global) -> FrameLines
+        ensures { result ≡ record { cycles = []; items = [] } }
+    {
+        FrameLines {
+            cycles: Vec::new(alloc),
+            frames: Vec::new(alloc),
+        }
+    }
+
+    // One more line, whose cycle is not below those before.
+    //
+    // Error: want of memory.
+    pub(crate) fn with(self, cycle: u32, frame: Frame) -> Result<FrameLines, NoMemory>
+        requires order { Ascends 0 cycle self.cycles }
+        requires range { cycle ≤ latest_cycle }
+        ensures { IfOk result (λ lines. lines ≡ with_line cycle frame self) }
+    {
+        let FrameLines { cycles, frames } = self;
+        let mut cycles = cycles;
+        let mut frames = frames;
+        cycles.push(cycle)?;
+        frames.push(frame)?;
+        Ok(FrameLines { cycles, frames })
+    }
+
+    // The frames of this cycle, in order.
+    pub(crate) fn at(&self, cycle: u64) -> &[Frame]
+        ensures { result.now ≡ those (λ d. d == cycle) self.now.cycles self.now.items }
+    {
+        let start = count_before(self.cycles.as_slice(), cycle);
+        let end = count_until(self.cycles.as_slice(), cycle);
+        let from = &self.frames[start..];
+        &from[..end.saturating_sub(start)]
+    }
+}

@@ -1,0 +1,12 @@
+pub mod Levels
+pub mod Counting
+pub mod Timers
+pub mod Timer2
+pub mod Sending
+pub mod Receiving
+pub mod External
+pub mod Tick
+pub mod CountLaws
+pub mod LineLaws
+pub mod KeptLaws
+pub mod RateLaws

@@ -1,0 +1,21 @@
+//! The timers, the serial line and the external interrupts of the 8052, one machine cycle at a time.
+#![tactic(auto)]
+
+mod counting;
+mod external;
+mod laws;
+mod levels;
+mod periph;
+mod receiving;
+mod sending;
+#[cfg(test)]
+mod tests;
+mod timer2;
+mod timers;
+
+pub use laws::{
+    line_is_bounded, mode_1_is_sent_in_time, ninth_bits_are_apart, one_bit_passes,
+    one_byte_is_sent, the_rest_is_kept, timer_0_is_told, timers_count_up,
+};
+pub use periph::{Periph, Sent};
+pub use receiving::Frame;

@@ -1,0 +1,107 @@
+//! The devices, and one machine cycle of them.
+ghost use Rattle.std.specs.Prelude.{◌≡◌, ◌++◌};
+ghost use Rattle.m51_timers_uart.specs.Sending.{begun};
+ghost use Rattle.m51_timers_uart.specs.Tick.{clocks_ticked, reset_periph, ticked};
+
+use crate::external::tick_externals;
+use crate::levels::{Levels, read_levels};
+use crate::receiving::{Frame, receive_both};
+use crate::sending::{start, tick_sending};
+use crate::timer2::tick_timer2;
+use crate::timers::tick_timers;
+use m51_flat::{Cpu, Pins};
+
+/// A byte that went out on the serial line.
+///
+/// Source: family manual.
+#[derive(Clone, Copy, Debug, PartialEq, Eq)]
+pub struct Sent {
+    /// The eight data bits.
+    pub byte: u8,
+    /// The ninth data bit, in modes 2 and 3.
+    pub ninth: Option<bool>,
+}
+
+/// What the devices keep beside the registers.
+///
+/// Source: family manual; own choice ("Bit times").
+#[derive(Clone, Copy, Debug, PartialEq, Eq)]
+pub struct Periph {
+    /// The levels of ports 0 to 3 at the last tick.
+    pub levels: [u8; 4],
+    /// The bit times of the byte that is sent, 0 to 10; 0 where none is.
+    pub left: u8,
+    /// The serial mode that the byte began with, 0 to 3.
+    pub mode: u8,
+    /// The byte that is sent.
+    pub byte: u8,
+    /// Its ninth bit, in modes 2 and 3.
+    pub ninth: Option<bool>,
+    /// What has passed of a bit time: oscillator periods in mode 2, overflows of a timer in modes 1 and 3.
+    pub count: u8,
+}
+
+/// Timers 0 and 1, timer 2, and sending at the rate that they give.
+fn tick_clocks(periph: &mut Periph, cpu: &mut Cpu, levels: &Levels) -> Option<Sent>
+    ensures { record { cpu = cpu.new; periph = periph.new; sent = result }
+        ≡ clocks_ticked levels.now cpu.old periph.old }
+{
+    let timer1 = tick_timers(cpu, levels);
+    let timer2 = tick_timer2(cpu, levels);
+    tick_sending(periph, cpu, timer1, timer2)
+}
+
+impl Periph {
+    /// The devices after a reset, when all latches are 1: the levels are those outside, and nothing is sent.
+    ///
+    /// Source: family manual.
+    pub fn reset(ext: &Pins) -> Periph
+        ensures { result ≡ reset_periph ext.now }
+    {
+        Periph {
+            levels: ext.p,
+            left: 0,
+            mode: 0,
+            byte: 0,
+            ninth: None,
+            count: 0,
+        }
+    }
+
+    /// A write to SBUF: the byte begins in the mode of SCON, in modes 2 and 3 with TB8, and one that is not finished is
+    /// lost.
+    ///
+    /// Source: family manual.
+    pub fn begin(&mut self, cpu: &Cpu, byte: u8)
+        ensures { self.new ≡ begun cpu.now byte self.old }
+    {
+        start(self, cpu, byte);
+    }
+
+    /// One machine cycle: timers 0 and 1, timer 2, sending, receiving, the external interrupts. `ext` are the levels
+    /// outside and `frames`, followed by `more`, the frames of the cycle that the tick ends at. It answers the byte
+    /// that was sent.
+    ///
+    /// Source: family manual; own choice ("Devices").
+    #[tactic(auto, unfolding(crate::specs::Tick::ticked))]
+    pub fn tick(
+        &mut self,
+        cpu: &mut Cpu,
+        ext: &Pins,
+        frames: &[Frame],
+        more: &[Frame],
+    ) -> Option<Sent>
+        ensures { record { cpu = cpu.new; periph = self.new; sent = result }
+            ≡ ticked cpu.old ext.now (frames.now ++ more.now) self.old }
+    {
+        let levels = Levels {
+            before: self.levels,
+            present: read_levels(cpu, ext),
+        };
+        let sent = tick_clocks(self, cpu, &levels);
+        receive_both(cpu, frames, more);
+        tick_externals(cpu, &levels);
+        self.levels = levels.present;
+        sent
+    }
+}

@@ -1,0 +1,48 @@
+-- What the monitor keeps beside the return addresses: the units that are active, how many records name each, and the
+-- memory of their segments.
+use Rattle.std.specs.Prelude.{◌≡◌, ℕ, ◌<◌, Bool, ◌&&◌, nat_eq, List, [], ◌∷◌, length, slice_index}
+use Rattle.std.specs.List.{Contains}
+use Rattle.m51_cells.specs.declared.cell.Cell.{Cell}
+use Rattle.m51_module.specs.declared.parts.LayoutParts.{LayoutParts}
+use Rattle.m51_monitor.specs.Records.{one_more_where}
+use Rattle.m51_monitor.specs.Related.{AreRelatedAll}
+use Rattle.m51_monitor.specs.Shared.{Shared}
+use Rattle.m51_monitor.specs.Stores.{Stores, StandsFor, has_cell, live_by, unset_dead}
+
+-- the units that are active stand the last first, and one of them stands there once for each record that names it
+pub record Activity : Type 0 where
+  pub layout : LayoutParts
+  pub units : List ℕ
+  pub store : Shared
+
+-- how often the number stands there
+abbrev pub times : List ℕ → ℕ → ℕ
+times [] u = 0
+times (v ∷ vs) u = one_more_where (nat_eq v u) (times vs u)
+
+-- a number for each unit, which says how often it is named
+pub record AreTimes (l : LayoutParts) (units numbers : List ℕ) : Type 0 where
+  pub len : length numbers ≡ length l.units
+  pub number : (u : ℕ) → u < length l.units → slice_index numbers u ≡ times units u
+  pub below : (u : ℕ) → Contains units u → u < length l.units
+
+pub record IsActivity (l : LayoutParts) (units numbers : List ℕ) (store : Shared) : Type 0 where
+  pub times_are : AreTimes l units numbers
+  pub related : AreRelatedAll l units
+  pub stands : (s : Stores) × StandsFor l (live_by l units) store s
+
+-- the unit may be named once more
+pub record MayEnter (l : LayoutParts) (units : List ℕ) (unit : ℕ) : Type 0 where
+  pub unit_is : unit < length l.units
+  pub room : length units < 3000
+  pub few : times units unit < 3
+  pub related : AreRelatedAll l (unit ∷ units)
+
+-- Whichever separate stores the memory stands for, it stands for them after the change, where dead segments are unset.
+abbrev pub KeepsStores : Activity → Activity → Type 0
+KeepsStores old new = (s : Stores) → StandsFor old.layout (live_by old.layout old.units) old.store s
+    → StandsFor new.layout (live_by new.layout new.units) new.store (unset_dead (live_by new.layout new.units) s)
+
+-- the segment of that number is live and over the cell, which is one of data memory
+abbrev pub answers_in : LayoutParts → List ℕ → Cell → ℕ → Bool
+answers_in l units c t = live_by l units t && has_cell l t c

@@ -1,0 +1,56 @@
+-- The unit at an address and the root at a vector, as functions.
+use Rattle.std.specs.Prelude.{ℕ, ◌+◌, Bool, true, false, ◌&&◌, nat_eq, if◌then◌else◌, Option, Some, None, List, [], ◌∷◌, slice_get}
+use Rattle.m51_cells.specs.declared.kind.Kind.{Kind}
+use Rattle.m51_cells.specs.declared.kind.Kind.TheVariants.{Code}
+use Rattle.m51_flat.specs.declared.state.Transfer.{Transfer}
+use Rattle.m51_flat.specs.declared.state.Transfer.TheVariants.{Vector}
+use Rattle.m51_module.specs.declared.parts.LayoutParts.{LayoutParts}
+use Rattle.m51_module.specs.declared.placed.Mark.{Mark}
+use Rattle.m51_module.specs.declared.placed.Mark.TheVariants.{Absolute}
+use Rattle.m51_module.specs.declared.placed.Placed.{Placed}
+use Rattle.m51_module.specs.Cells.{extent_at, code_cell}
+use Rattle.m51_monitor.specs.Stores.{covers}
+use Rattle.m51_flat.specs.Vectors.{vector_of}
+
+-- a test of the extent that a unit is
+abbrev pub passes : (Placed → Bool) → Option Placed → Bool
+passes test None = false
+passes test (Some p) = test p
+
+abbrev pub extent_passes : List Placed → (Placed → Bool) → Option ℕ → Bool
+extent_passes placed test None = false
+extent_passes placed test (Some s) = passes test (slice_get placed s)
+
+-- the first of these units, counted from a number on, whose extent passes the test
+abbrev pub first_unit : List Placed → (Placed → Bool) → List ℕ → ℕ → Option ℕ
+first_unit placed test [] number = None
+first_unit placed test (s ∷ more) number = if extent_passes placed test (Some s) then Some number else first_unit placed test more (number + 1)
+
+-- the extent covers the address
+abbrev pub covers_address : ℕ → Placed → Bool
+covers_address address p = covers (extent_at p) (code_cell address)
+
+-- the unit that covers the address
+abbrev pub unit_found : LayoutParts → ℕ → Option ℕ
+unit_found l address = first_unit l.placed (covers_address address) l.units 0
+
+-- this unit covers the address
+abbrev pub unit_covers : LayoutParts → ℕ → ℕ → Bool
+unit_covers l unit address = extent_passes l.placed (covers_address address) (slice_get l.units unit)
+
+abbrev pub is_code : Kind → Bool
+is_code Code = true
+is_code other = false
+
+abbrev pub is_absolute : Mark → Bool
+is_absolute Absolute = true
+is_absolute other = false
+
+-- the extent is an absolute segment of program memory that begins at the vector
+abbrev pub begins_at : ℕ → Placed → Bool
+begins_at vector p = is_code p.kind && (is_absolute p.mark && nat_eq p.base vector)
+
+-- the root of an interrupt
+abbrev pub root_found : LayoutParts → Transfer → Option ℕ
+root_found l (Vector source) = first_unit l.placed (begins_at (vector_of source)) l.units 0
+root_found l other = None

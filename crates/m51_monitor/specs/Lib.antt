@@ -1,0 +1,17 @@
+pub mod Activity
+pub mod Found
+pub mod Frames
+pub mod Judgement
+pub mod Laws
+pub mod Masks
+pub mod Monitored
+pub mod Records
+pub mod Related
+pub mod Resolved
+pub mod Rising
+pub mod Rows
+pub mod Shared
+pub mod SharedLaws
+pub mod Stores
+pub mod Transfers
+pub mod Turning

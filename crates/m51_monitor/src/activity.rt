@@ -1,0 +1,341 @@
+//! The units that are active, and the memory of their segments.
+ghost use Rattle.std.specs.Prelude.{◌≡◌, ◌≢◌, ◌+◌, ◌<◌, ◌≤◌, ◌∷◌, ◌↔◌, ℕ, IsTrue, true, false, List, [], IfOk, None};
+ghost use Rattle.std.specs.Prelude.{Some, IfSome, IfNone, length, slice_index, slice_get, reverse, drop, ◌-◌, nat_lt};
+ghost use Rattle.std.specs.List.{Contains, list_any};
+ghost use Rattle.m51_cells.specs.declared.cell.Cell.{Cell};
+ghost use Rattle.m51_module.specs.Plan.{IsPlaced, Owns, owners_of};
+ghost use Rattle.m51_module.specs.Sound.{IsSound, IsFit};
+ghost use Rattle.m51_flat.specs.States.{Absent, shut_of};
+ghost use Rattle.m51_monitor.specs.Activity.{Activity, AreTimes, MayEnter, KeepsStores, answers_in};
+ghost use Rattle.m51_monitor.specs.Records.{first_or};
+ghost use Rattle.m51_monitor.specs.Resolved.{outside_of};
+ghost use Rattle.m51_monitor.specs.Shared.{Shared, shared_barred, shared_cells, turned_to};
+ghost use Rattle.m51_monitor.specs.Stores.{Stores, StandsFor, filled_stores, has_cell, live_by, put_into};
+ghost use Rattle.m51_monitor.specs.Turning.{AreTurned, IsOverlaidAmong, IsLocalAmong, IsLocalOf, is_quiet};
+
+use crate::covering::{is_data, is_over, is_overlaid};
+use crate::shared::SharedRam;
+use m51_cells::{Cell, NoMemory};
+use m51_flat::{CellStore, Put};
+use m51_module::{Layout, Placed};
+use std::alloc::Global;
+use std::marker::Model;
+
+/// The units that the records name, how many records name each unit, and the memory.
+#[derive(Drop)]
+pub(crate) struct Activity {
+    layout: Layout,
+    store: SharedRam,
+    units: Vec<u16>,
+    numbers: Vec<u8>,
+}
+
+impl Model for Activity {
+    ghost use Rattle.std.specs.Prelude.{◌≤◌, vec_capacity, reverse};
+    ghost use Rattle.m51_monitor.specs.Activity as active;
+
+    ghost Value = { active.Activity };
+
+    ghost view = { λ a. record { layout = a.layout; units = reverse a.units.items; store = a.store } };
+
+    ghost invariant = { λ a. active.IsActivity a.layout (reverse a.units.items) a.numbers.items a.store
+        × (3000 ≤ vec_capacity a.units) };
+}
+
+// A placed extent, which is as a sound layout has it.
+#[tactic(auto, using(crate::proofs::Placing::placed_at, crate::proofs::Placing::fit_at))]
+fn placed_at(layout: &Layout, segment: usize) -> &Placed
+    requires { segment < length layout.now.placed }
+    ensures placed { IsPlaced layout.now segment result.now }
+    ensures fit { IsFit result.now }
+{
+    &layout.placed()[segment]
+}
+
+// By these numbers of records the unit is active.
+fn is_named(numbers: &[u8], unit: u16) -> bool
+    ensures { result ≡ nat_lt 0 (slice_index numbers.now unit) }
+{
+    match numbers.get(usize::from(unit)) {
+        Some(number) => *number > 0,
+        None => false,
+    }
+}
+
+// By these numbers of records some owner is active.
+fn any_named(numbers: &[u8], owners: &[u16]) -> bool
+    ensures { result ≡ list_any (λ u. nat_lt 0 (slice_index numbers.now u)) owners.now }
+{
+    owners.iter().any(|owner| is_named(numbers, *owner))
+}
+
+// By these numbers of records no owner is active.
+fn is_quiet(numbers: &[u8], owners: &[u16]) -> bool
+    ensures { result ≡ is_quiet numbers.now owners.now }
+{
+    !any_named(numbers, owners)
+}
+
+// Turns the segment of this place in the list live and unset, or outside, where no owner is active.
+#[tactic(auto, using(crate::proofs::Placing::local_turned, crate::proofs::Placing::local_stays, crate::proofs::Placing::element_is))]
+fn turn_local(
+    store: &mut SharedRam,
+    layout: &Layout,
+    numbers: &[u8],
+    locals: &[u16],
+    place: usize,
+    live: bool,
+)
+    requires place { place < length locals.now }
+    requires locals { (t : ℕ) → Contains locals.now t → t < length layout.now.placed }
+    ensures { (old : Shared)
+        → AreTurned layout.now (IsLocalAmong layout.now numbers.now locals.now place) (turned_to live) old store.old
+        → AreTurned layout.now (IsLocalAmong layout.now numbers.now locals.now (place + 1))
+        (turned_to live) old store.new }
+{
+    let segment = locals[place];
+    if is_quiet(numbers, layout.owners(segment)) {
+        store.turn(placed_at(layout, usize::from(segment)).cells(), live);
+    }
+}
+
+// Turns the segments that the unit owns live and unset, or outside, but for those of which an owner is active.
+#[tactic(auto, using(crate::proofs::Placing::none_turned, crate::proofs::Placing::locals_turned, crate::proofs::Placing::local_below))]
+fn turn_owned(store: &mut SharedRam, layout: &Layout, numbers: &[u8], unit: u16, live: bool)
+    requires { unit < length layout.now.units }
+    ensures { AreTurned layout.now (IsLocalOf layout.now numbers.now unit) (turned_to live) store.old store.new }
+{
+    let _sound = layout.placed();
+    let locals = layout.locals(unit);
+    for place in 0..locals.len() {
+        turn_local(store, layout, numbers, locals, place, live);
+    }
+}
+
+// The same, where no record names the unit; else nothing turns, as an owner of each of its segments is active.
+#[tactic(auto, using(crate::proofs::Placing::none_among, crate::proofs::Entering::none_local))]
+fn turn_locals(store: &mut SharedRam, layout: &Layout, numbers: &[u8], unit: u16, live: bool)
+    requires { unit < length layout.now.units }
+    ensures turned { AreTurned layout.now (IsLocalOf layout.now numbers.now unit) (turned_to live) store.old store.new }
+    ensures sound { IsSound layout.now }
+{
+    let _sound = layout.placed();
+    if !is_named(numbers, unit) {
+        turn_owned(store, layout, numbers, unit, live);
+    }
+}
+
+// Turns the first so many segments outside where they are overlaid.
+#[tactic(auto, using(crate::proofs::Starting::overlaid_turned, crate::proofs::Starting::plain_stays))]
+fn turn_if_overlaid(store: &mut SharedRam, layout: &Layout, segment: usize)
+    requires { segment < length layout.now.placed }
+    ensures { (old : Shared) → AreTurned layout.now (IsOverlaidAmong layout.now segment) Absent old store.old
+        → AreTurned layout.now (IsOverlaidAmong layout.now (segment + 1)) Absent old store.new }
+{
+    let placed = placed_at(layout, segment);
+    if is_overlaid(placed.mark) {
+        store.turn(placed.cells(), false);
+    }
+}
+
+// Turns all overlaid segments outside.
+#[tactic(auto, using(crate::proofs::Starting::none_overlaid))]
+fn turn_overlaid(store: &mut SharedRam, layout: &Layout)
+    ensures { AreTurned layout.now (IsOverlaidAmong layout.now (length layout.now.placed)) Absent store.old store.new }
+{
+    for segment in 0..layout.placed().len() {
+        turn_if_overlaid(store, layout, segment);
+    }
+}
+
+// The owners of a placed extent.
+fn owners_at(layout: &Layout, segment: usize) -> &[u16]
+    requires { segment < length layout.now.placed }
+    ensures { result.now ≡ owners_of layout.now.owners segment }
+{
+    let _sound = layout.placed();
+    layout.owners(segment as u16)
+}
+
+// So many zeros.
+fn zeros(alloc: Global, count: usize) -> Result<Vec<u8>, NoMemory>
+    ensures len { IfOk result (λ numbers. length numbers.items ≡ count) }
+    ensures each { IfOk result (λ numbers. (n : ℕ) → n < count → slice_index numbers.items n ≡ 0) }
+{
+    Ok(vec![in alloc; 0; count]?)
+}
+
+// Whether the segment is live.
+fn is_live(layout: &Layout, numbers: &[u8], segment: usize) -> bool
+    requires { segment < length layout.now.placed }
+    ensures { (units : List ℕ) → AreTimes layout.now units numbers.now → result ≡ live_by layout.now units segment }
+{
+    let _sound = layout.placed();
+    let overlaid = is_overlaid(placed_at(layout, segment).mark);
+    let active = any_named(numbers, owners_at(layout, segment));
+    !overlaid || active
+}
+
+// Whether the segment covers the cell of data memory.
+fn has_cell(layout: &Layout, segment: usize, cell: Cell) -> bool
+    requires { segment < length layout.now.placed }
+    ensures { result ≡ has_cell layout.now segment cell }
+{
+    is_data(cell) && is_over(placed_at(layout, segment), cell)
+}
+
+// Whether the segment is live and over the cell.
+fn answers(layout: &Layout, numbers: &[u8], segment: usize, cell: Cell) -> bool
+    requires { segment < length layout.now.placed }
+    ensures { (units : List ℕ) → AreTimes layout.now units numbers.now → result
+        ≡ answers_in layout.now units cell segment }
+{
+    is_live(layout, numbers, segment) && has_cell(layout, segment, cell)
+}
+
+impl Activity {
+    /// No unit is active: plain segments and the common cells have the fill, and overlaid segments are outside.
+    pub(crate) fn start(alloc: Global, layout: Layout, fill: u8) -> Result<Activity, NoMemory>
+        ensures layout { IfOk result (λ activity. activity.layout ≡ layout) }
+        ensures units { IfOk result (λ activity. activity.units ≡ []) }
+        ensures stands { IfOk result (λ activity. StandsFor layout (live_by layout []) activity.store
+            (filled_stores layout fill)) }
+    {
+        let mut store = SharedRam::filled(alloc, fill)?;
+        let units = Vec::with_capacity(alloc, 3000)?;
+        let numbers = zeros(alloc, layout.units().len())?;
+        turn_overlaid(&mut store, &layout);
+        Ok(Activity {
+            layout,
+            store,
+            units,
+            numbers,
+        })
+    }
+
+    /// How many records name each unit.
+    pub(crate) fn numbers(&self) -> &[u8]
+        ensures { AreTimes self.now.layout self.now.units result.now }
+    {
+        &self.numbers
+    }
+
+    /// The first live segment over the cell.
+    pub(crate) fn segment_at(&self, cell: Cell) -> Option<u16>
+        ensures some { IfSome result (λ t. answers_in self.now.layout self.now.units cell t ≡ true) }
+        ensures none { IfNone result ((t : ℕ) → t < length self.now.layout.placed
+            → answers_in self.now.layout self.now.units cell t ≡ false) }
+    {
+        for segment in 0..self.layout.placed().len() {
+            if answers(&self.layout, &self.numbers, segment, cell) {
+                return Some(segment as u16);
+            }
+        }
+        None
+    }
+
+    /// The layout.
+    pub(crate) fn layout(&self) -> &Layout
+        ensures { result.now ≡ self.now.layout }
+    {
+        &self.layout
+    }
+
+    /// The layout is sound.
+    pub(crate) fn is_sound(&self)
+        ensures { IsSound self.now.layout }
+    {
+        let _sound = self.layout.placed();
+    }
+
+    /// The memory.
+    pub(crate) fn store(&self) -> &SharedRam
+        ensures store { result.now ≡ self.now.store }
+        ensures stands { (s : Stores)
+            × StandsFor self.now.layout (live_by self.now.layout self.now.units) self.now.store s }
+        ensures barred { shared_barred result.now ≡ outside_of (shared_cells result.now) }
+    {
+        self.store.bars();
+        &self.store
+    }
+
+    /// How many units are named.
+    pub(crate) fn count(&self) -> usize
+        ensures { result ≡ length self.now.units }
+    {
+        self.units.len()
+    }
+
+    /// The last of the units.
+    #[tactic(auto, using(crate::proofs::Numbers::last_is))]
+    pub(crate) fn last(&self) -> u16
+        requires { 0 < length self.now.units }
+        ensures { result ≡ first_or self.now.units 0 }
+    {
+        self.units[self.units.len() - 1]
+    }
+
+    /// The unit that was last when so many were named.
+    #[tactic(auto, using(crate::proofs::Numbers::unit_is))]
+    pub(crate) fn unit(&self, count: usize) -> u16
+        requires some { 0 < count }
+        requires below { count ≤ length self.now.units }
+        ensures { result ≡ first_or (drop (length self.now.units - count) self.now.units) 0 }
+    {
+        self.units[count - 1]
+    }
+
+    /// Writes the cells of a put.
+    pub(crate) fn put(&mut self, put: &Put)
+        requires { shut_of (shared_barred self.old.store) put.now ≡ None }
+        ensures layout { self.new.layout ≡ self.old.layout }
+        ensures units { self.new.units ≡ self.old.units }
+        ensures barred { shared_barred self.new.store ≡ shared_barred self.old.store }
+        ensures keeps { (s : Stores)
+            → StandsFor self.old.layout (live_by self.old.layout self.old.units) self.old.store s
+            → StandsFor self.old.layout (live_by self.old.layout self.old.units) self.new.store
+            (put_into self.old.layout (live_by self.old.layout self.old.units) put.now s) }
+    {
+        self.store.put(put);
+    }
+
+    /// A record more names the unit.
+    pub(crate) fn enter(&mut self, unit: u16)
+        requires { MayEnter self.old.layout self.old.units unit }
+        ensures layout { self.new.layout ≡ self.old.layout }
+        ensures units { self.new.units ≡ unit ∷ self.old.units }
+        ensures keeps { KeepsStores self.old self.new }
+    {
+        turn_locals(&mut self.store, &self.layout, &self.numbers, unit, true);
+        self.numbers[usize::from(unit)] += 1;
+        match self.units.push(unit) {
+            Ok(()) => {}
+            Err(_) => unreachable!(),
+        }
+    }
+
+    /// A record less names the unit that is last.
+    pub(crate) fn leave(&mut self)
+        requires { self.old.units ≢ [] }
+        ensures layout { self.new.layout ≡ self.old.layout }
+        ensures units { self.new.units ≡ drop 1 self.old.units }
+        ensures keeps { KeepsStores self.old self.new }
+    {
+        if let Some(unit) = self.units.pop() {
+            self.numbers[usize::from(unit)] -= 1;
+            turn_locals(&mut self.store, &self.layout, &self.numbers, unit, false);
+        }
+    }
+
+    /// Only the first so many units stay named.
+    pub(crate) fn leave_to(&mut self, count: usize)
+        requires { count ≤ length self.old.units }
+        ensures layout { self.new.layout ≡ self.old.layout }
+        ensures units { self.new.units ≡ drop (length self.old.units - count) self.old.units }
+        ensures keeps { KeepsStores self.old self.new }
+    {
+        for _ in count..self.count() {
+            self.leave();
+        }
+    }
+}

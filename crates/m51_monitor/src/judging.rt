@@ -1,0 +1,154 @@
+//! Whether a transfer of control is allowed.
+ghost use Rattle.std.specs.Prelude.{◌≡◌, ◌<◌, ◌+◌, ℕ, length, IfSome};
+ghost use Rattle.std.specs.List.{list_any};
+ghost use Rattle.m51_monitor.specs.Frames.{IsTop};
+ghost use Rattle.m51_monitor.specs.Found.{root_found, unit_found};
+ghost use Rattle.m51_monitor.specs.Transfers.{IsFoundAt, IsRootWanted, goes, is_at, is_by, leads, returns_from};
+ghost use Rattle.m51_monitor.specs.Transfers.{runs_at};
+
+use crate::cause::{Cause, Frame};
+use crate::step::Move;
+use m51_cells::Why;
+use m51_flat::Transfer;
+use m51_module::Layout;
+
+/// The topmost frame.
+#[tactic(auto, using(crate::proofs::Topping::no_top, crate::proofs::Topping::last_split))]
+pub(crate) fn top(frames: &[Frame]) -> Option<Frame>
+    ensures { IsTop frames.now result }
+{
+    if frames.is_empty() {
+        return None;
+    }
+    Some(frames[frames.len() - 1])
+}
+
+// The record is of an interrupt whose root is at the vector.
+fn runs_at(cause: Cause, vector: u16) -> bool
+    ensures { result ≡ runs_at vector cause }
+{
+    match cause {
+        Cause::Call => false,
+        Cause::Interrupt(source) => source.vector() == vector,
+    }
+}
+
+/// Some frame is of an interrupt whose root is at the vector.
+pub(crate) fn any_runs(frames: &[Frame], vector: u16) -> bool
+    ensures { result ≡ list_any (λ f. runs_at vector f.cause) frames.now }
+{
+    frames.iter().any(|frame| runs_at(frame.cause, vector))
+}
+
+/// The unit at the target is this one.
+pub(crate) fn is_at(at: Option<u16>, unit: u16) -> bool
+    ensures { result ≡ is_at at unit }
+{
+    match at {
+        None => false,
+        Some(found) => found == unit,
+    }
+}
+
+// The record was made by a call, or by an interrupt.
+fn is_by(call: bool, cause: Cause) -> bool
+    ensures { result ≡ is_by call cause }
+{
+    match cause {
+        Cause::Call => call,
+        Cause::Interrupt(_) => !call,
+    }
+}
+
+// Whether an edge leads from the first unit to the second.
+fn leads(layout: &Layout, from: u16, to: u16) -> bool
+    requires from { from < length layout.now.units }
+    requires to { to < length layout.now.units }
+    ensures { result ≡ leads layout.now.edges from to }
+{
+    layout.edge(from, to)
+}
+
+/// A jump or a call from the current unit, within it or along an edge.
+pub(crate) fn goes(
+    layout: &Layout,
+    from: u16,
+    low: bool,
+    call: bool,
+    at: Option<u16>,
+) -> Result<Move, Why>
+    requires from { from < length layout.now.units }
+    requires at { IfSome at (λ u. u < length layout.now.units) }
+    ensures { result ≡ goes layout.now from low call at }
+{
+    let Some(unit) = at else {
+        return Err(Why::NoUnit);
+    };
+    if unit == from {
+        if low {
+            return Err(Why::SpBelow);
+        }
+        return Ok(if call { Move::Local } else { Move::Stay });
+    }
+    if !leads(layout, from, unit) {
+        return Err(Why::NoEdge);
+    }
+    if low {
+        return Err(Why::SpBelow);
+    }
+    Ok(if call {
+        Move::Call(unit)
+    } else {
+        Move::Jump(unit)
+    })
+}
+
+/// A return to where the frame says.
+pub(crate) fn returns_from(
+    frame: &Frame,
+    call: bool,
+    top: u8,
+    to: u16,
+    inside: bool,
+) -> Result<Move, Why>
+    ensures { result ≡ returns_from frame.now call top to inside }
+{
+    if !is_by(call, frame.cause) {
+        return Err(Why::NotCalled);
+    }
+    if top != frame.sp {
+        return Err(Why::SpMoved);
+    }
+    if to != frame.back {
+        return Err(Why::WrongAddress);
+    }
+    if !inside {
+        return Err(Why::PastEnd);
+    }
+    Ok(Move::Return)
+}
+
+/// The unit that covers the address.
+#[tactic(auto, using(crate::proofs::Topping::found_at, crate::proofs::Finding::same_unit_found))]
+pub(crate) fn unit_found(layout: &Layout, address: u16) -> Option<u16>
+    ensures value { result ≡ unit_found layout.now address }
+    ensures found { IsFoundAt layout.now address result }
+    ensures below { IfSome result (λ u. u < length layout.now.units) }
+{
+    layout.unit_at(address)
+}
+
+/// The root that a vectoring goes to.
+pub(crate) fn root_wanted(layout: &Layout, transfer: Transfer) -> Option<u16>
+    ensures value { result ≡ root_found layout.now transfer }
+    ensures found { IsRootWanted layout.now transfer result }
+{
+    match transfer {
+        Transfer::Vector(source) => layout.root(source.vector()),
+        Transfer::Next => None,
+        Transfer::Jump => None,
+        Transfer::Call => None,
+        Transfer::Ret => None,
+        Transfer::Reti => None,
+    }
+}

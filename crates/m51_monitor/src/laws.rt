@@ -1,0 +1,53 @@
+//! What follows from the definitions. Each law is the contract of a function that does nothing.
+ghost use Rattle.m51_monitor.specs.Laws.{CoversIsKept, LevelsAreKept, MovesAreKept, OneAnswer, OneLiveSegment};
+ghost use Rattle.m51_monitor.specs.Laws.{OneState, StackIsKept};
+
+/// In a sound layout, where the records stand, at most one live segment covers a cell.
+///
+/// Source: own choice ("Activations").
+pub fn at_most_one_live()
+    ensures { OneLiveSegment }
+{}
+
+/// So the separate stores give each cell one answer.
+///
+/// Source: own choice ("Stores of segments").
+pub fn one_answer()
+    ensures { OneAnswer }
+{}
+
+/// What holds of the records holds of them after each move that the table allows.
+///
+/// Source: own choice ("Activations").
+pub fn moves_are_kept()
+    ensures { MovesAreKept }
+{}
+
+/// A memory stands for one state of the separate stores: what it stands for is read off it.
+///
+/// Source: own choice ("Stores of segments").
+pub fn one_state()
+    ensures { OneState }
+{}
+
+/// The interrupts that have records were taken at the levels in progress, a low one below a high one, after each move
+/// as before it.
+///
+/// Source: own choice ("Activations").
+pub fn levels_are_kept()
+    ensures { LevelsAreKept }
+{}
+
+/// After each move SP is not below that of the topmost record.
+///
+/// Source: own choice ("Activations").
+pub fn stack_is_kept()
+    ensures { StackIsKept }
+{}
+
+/// After each move the current unit covers PC.
+///
+/// Source: own choice ("Activations").
+pub fn covers_is_kept()
+    ensures { CoversIsKept }
+{}

@@ -15,7 +15,9 @@ use Rattle.m51_module.specs.declared.placed.Placed.{Placed}
 use Rattle.m51_module.specs.Cells.{extent_at, code_cell}
 use Rattle.m51_module.specs.Plan.{IsUnitAt, IsRootAt}
 use Rattle.m51_module.specs.Roots.{vectors}
-use Rattle.m51_monitor.specs.Found.{begins_at, covers_address, extent_passes, first_unit, is_absolute, is_code, passes, root_found, unit_found}
+use Rattle.m51_cells.proofs.KindLaws.{code_is}
+use Rattle.m51_cells.specs.Kinds.{is_code}
+use Rattle.m51_monitor.specs.Found.{begins_at, covers_address, extent_passes, first_unit, is_absolute, passes, root_found, unit_found}
 use Rattle.m51_monitor.specs.Transfers.{IsFoundAt, IsRootFound}
 use Rattle.m51_flat.specs.Vectors.{vector_of}
 use Rattle.m51_monitor.proofs.Resolving.{covers_is, is_covered, parts}
@@ -73,14 +75,6 @@ unit_found_is l address = by_found (unit_found l address) (first_is l.placed (co
         let p = from_zero l.placed (covers_address address) l.units u h in
         record { is = p.is; unit_is = record { segment = p.segment; unit_is = p.unit_is; placed = p.placed_is }; covers = covers_is (extent_at p.is) (code_cell address) p.passes_it }
     by_found None h = λ u at. h u (record { segment = at.unit_is.segment; is = at.is; unit_is = at.unit_is.unit_is; placed_is = at.unit_is.placed; passes_it = is_covered (extent_at at.is) (code_cell address) at.covers })
-
-code_is : (kind : Kind) → is_code kind ≡ true → kind ≡ Code
-code_is Code e = refl
-code_is Xdata e = cc e
-code_is Direct e = cc e
-code_is Idata e = cc e
-code_is Bits e = cc e
-code_is Number e = cc e
 
 absolute_is : (mark : Mark) → is_absolute mark ≡ true → mark ≡ Absolute
 absolute_is Bank e = cc e

@@ -1,7 +1,6 @@
 -- The unit at an address and the root at a vector, as functions.
 use Rattle.std.specs.Prelude.{ℕ, ◌+◌, Bool, true, false, ◌&&◌, nat_eq, if◌then◌else◌, Option, Some, None, List, [], ◌∷◌, slice_get}
-use Rattle.m51_cells.specs.declared.kind.Kind.{Kind}
-use Rattle.m51_cells.specs.declared.kind.Kind.TheVariants.{Code}
+use Rattle.m51_cells.specs.Kinds.{is_code}
 use Rattle.m51_flat.specs.declared.state.Transfer.{Transfer}
 use Rattle.m51_flat.specs.declared.state.Transfer.TheVariants.{Vector}
 use Rattle.m51_module.specs.declared.parts.LayoutParts.{LayoutParts}
@@ -33,14 +32,6 @@ covers_address address p = covers (extent_at p) (code_cell address)
 -- the unit that covers the address
 abbrev pub unit_found : LayoutParts → ℕ → Option ℕ
 unit_found l address = first_unit l.placed (covers_address address) l.units 0
-
--- this unit covers the address
-abbrev pub unit_covers : LayoutParts → ℕ → ℕ → Bool
-unit_covers l unit address = extent_passes l.placed (covers_address address) (slice_get l.units unit)
-
-abbrev pub is_code : Kind → Bool
-is_code Code = true
-is_code other = false
 
 abbrev pub is_absolute : Mark → Bool
 is_absolute Absolute = true

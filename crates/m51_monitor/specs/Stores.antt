@@ -42,8 +42,8 @@ abbrev pub Live : Type 0
 Live = ℕ → Bool
 
 -- What the separate stores answer in a cell: the live segment over it, or the common store where no segment is over it, or
--- else the cell is outside. At most one live segment is over a cell, so that the answer is one, and of the segments that
--- turned live none is later than it.
+-- else the cell is outside. In a sound layout, where the records stand, at most one live segment is over a cell, so that
+-- no order among several is needed.
 pub data Resolves (l : LayoutParts) (live : Live) (s : Stores) (c : Cell) (state : CellState) : Type 0 where
   InSegment : (t : ℕ) → IsOver l t c → live t ≡ true → state ≡ held (s.segment t c) → Resolves l live s c state
   InCommon : ((t : ℕ) → IsOver l t c → ⊥) → state ≡ held (s.common c) → Resolves l live s c state

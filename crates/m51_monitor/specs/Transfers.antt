@@ -172,10 +172,3 @@ moved a e Local = pushed a ByCall (back_of e) (latch e.cpu sp) []
 moved a e (CallTo u) = pushed a ByCall (back_of e) (latch e.cpu sp) (u ∷ [])
 moved a e (InterruptTo source u) = pushed a (ByInterrupt source) (back_of e) (latch e.cpu sp) (u ∷ [])
 moved a e Return = record { reset = a.reset; returns = without_top a.returns }
-
--- a move goes to this unit
-abbrev pub unit_of : Move → Option ℕ
-unit_of (JumpTo u) = Some u
-unit_of (CallTo u) = Some u
-unit_of (InterruptTo source u) = Some u
-unit_of other = None

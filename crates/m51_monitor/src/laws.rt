@@ -30,22 +30,23 @@ pub fn one_state()
     ensures { OneState }
 {}
 
-/// The interrupts that have records were taken at the levels in progress, a low one below a high one, after each move
-/// as before it.
+/// Where the levels of the processor follow the transfer (a vectoring adds one, RETI ends the uppermost), the interrupts
+/// that have records were taken at the levels in progress, a low one below a high one, after a move if they were before.
 ///
 /// Source: own choice ("Activations").
 pub fn levels_are_kept()
     ensures { LevelsAreKept }
 {}
 
-/// After each move SP is not below that of the topmost record.
+/// Where SP rises from record to record, and RET and RETI take two bytes off the stack, SP is after each move not below
+/// that of the topmost record.
 ///
 /// Source: own choice ("Activations").
 pub fn stack_is_kept()
     ensures { StackIsKept }
 {}
 
-/// After each move the current unit covers PC.
+/// In a sound layout, where a vectoring goes to the vector of its source, the current unit covers PC after each move.
 ///
 /// Source: own choice ("Activations").
 pub fn covers_is_kept()

@@ -106,8 +106,8 @@ fn add(frames: &mut Vec<Frame>, frame: Frame)
 }
 
 impl Monitor {
-    /// At the reset: its root is active, plain segments and the common cells have the fill, and overlaid segments are
-    /// unset. Want of memory is the one refusal.
+    /// At the reset, of a layout with a root at 0000H: that root is active, plain segments and the common cells have the
+    /// fill, and overlaid segments are unset. Want of memory is the one refusal.
     ///
     /// Source: own choice ("Activations").
     pub fn start(alloc: Global, layout: Layout, fill: u8) -> Result<Monitor, NoMemory>
@@ -156,7 +156,7 @@ impl Monitor {
         self.activity.store()
     }
 
-    /// The current unit: the last one of the topmost record that has one.
+    /// The current unit, below the number of units of the layout: the last one of the topmost record that has one.
     ///
     /// Source: own choice ("Activations").
     #[tactic(auto, using(crate::proofs::Framing::current_is))]
@@ -168,7 +168,8 @@ impl Monitor {
         self.activity.last()
     }
 
-    /// The number of return records. They stand, and SP of each is at least two above that of the one below.
+    /// The number of return records, 0 to 128. They stand, SP of each is at least two above that of the one below, and at
+    /// most two are of interrupts.
     ///
     /// Source: own choice ("Activations").
     #[tactic(auto, using(crate::proofs::Framing::depth_is))]
@@ -272,8 +273,10 @@ impl Monitor {
         }
     }
 
-    /// Writes the cells of both puts of an effect, and changes the records by a move that was judged. Where that makes
-    /// a record, the two puts are the bytes of its return address, the low byte first.
+    /// Writes the cells of the first put of an effect and then of the second, and changes the records by the move that
+    /// `judge` answered on this effect. No cell of either put is barred (`store().shut` answers none). Where the move
+    /// makes a record, the two puts are the bytes of its return address, the low byte first; where it is an interrupt,
+    /// at most one interrupt has a record before. No memory is wanted.
     ///
     /// Source: own choice ("Activations").
     pub fn commit(&mut self, effect: &Effect, step: Move)
@@ -293,7 +296,8 @@ impl Monitor {
         self.change(effect, step);
     }
 
-    /// The live segment to which the cell resolves, if there is one. No cell of program memory resolves to a segment.
+    /// The live segment to which the cell resolves, by its place in `layout().placed()`, if there is one. No cell of
+    /// program memory resolves to a segment.
     ///
     /// Source: own choice ("Stores of segments").
     pub fn segment_at(&self, cell: Cell) -> Option<u16>
@@ -305,7 +309,7 @@ impl Monitor {
         self.activity.segment_at(cell)
     }
 
-    /// For each unit how many records name it, which are three at most.
+    /// For each unit, in their order, how many records name it, 0 to 3.
     ///
     /// Source: own choice ("Activations").
     pub fn named(&self) -> &[u8]
@@ -420,7 +424,10 @@ impl Monitor {
 
     /// How a step with this effect changes the records, from the processor before it.
     ///
-    /// Transfer: the transfer of control is undeclared; it has the first of its causes, PC and the target.
+    /// Transfer: the transfer of control is undeclared; it has the first cause that holds, PC and the target. The causes
+    /// are, in their order: PastEnd, SpBelow to the next instruction; NoUnit, NoEdge, SpBelow of a jump or a call;
+    /// NotCalled, SpMoved, WrongAddress, PastEnd of RET and RETI; NoHandler, RootBusy, SpBelow of a vectoring. Whether the
+    /// instruction's own bytes lie in the current unit is not tested here.
     ///
     /// Source: own choice ("Activations").
     pub fn judge(&self, cpu: &Cpu, effect: &Effect) -> Result<Move, Event>

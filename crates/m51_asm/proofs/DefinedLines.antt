@@ -7,6 +7,7 @@ use Rattle.std.proofs.lemmas.List.Folds.{list_any-append}
 use Rattle.std.proofs.lemmas.Slice.Eq.{bytes_eq-Decides}
 use Rattle.std.specs.List.{list_any}
 use Rattle.std.specs.Str.{bytes_eq}
+use Rattle.std.proofs.Math.Bool.{or-false}
 use Rattle.m51_text.specs.Answer.{LineTree}
 use Rattle.m51_asm.specs.declared.names.FirstDefinition.{FirstDefinition}
 use Rattle.m51_asm.specs.declared.repeats.Defining.{Defining}
@@ -16,7 +17,7 @@ use Rattle.m51_asm.specs.Repeats.{is_set, clashes, or_here, earlier, repeats_fro
 use Rattle.m51_asm.specs.Table.{how_of, brief, first_of, Table, first_in, sets, clash, noted, all_noted, any_clash, made_public, all_public, any_public}
 use Rattle.m51_asm.specs.Defining.{nothing_defined, line_again, first_again, line_defined, all_defined}
 
-or_none : {A : Type 0} (o : Option A) → or_here o None ≡ o
+pub or_none : {A : Type 0} (o : Option A) → or_here o None ≡ o
 or_none None = refl
 or_none (Some x) = refl
 
@@ -102,7 +103,7 @@ all_noted_in table line (d ∷ ds) name =
     ∙ ap (λ o. or_here (first_in table name) (option_map (first_at line) o)) (found_step d ds name)
 
 -- a definition with its line
-pub at_line : ℕ → Definition → ℕ × Definition
+unfoldable pub at_line : ℕ → Definition → ℕ × Definition
 at_line line h = (line, h)
 
 later_last : (line : ℕ) (o : Option Definition) → or_later line o None ≡ option_map (at_line line) o
@@ -192,10 +193,6 @@ repeats_same table lines k before (d ∷ ds) s =
     = repeats_same (noted table k (brief d)) lines k (before ++ d ∷ []) ds (sees_more table lines k before d s) in
     λ i. first i || more i
 
-or_false : (b : Bool) → (b || false) ≡ b
-or_false true = refl
-or_false false = refl
-
 or_true : (b c : Bool) → b ≡ true → b ≡ (b || c)
 or_true true c h = refl
 or_true false c h = absurd (cc h)
@@ -205,13 +202,13 @@ also_public : (publics : List (List ℕ)) (name key : List ℕ) (b : Bool) → b
     → list_any (bytes_eq name) publics ≡ (list_any (bytes_eq name) publics || b)
 also_public publics name key true e h =
     or_true (list_any (bytes_eq name) publics) true (ap (λ n. list_any (bytes_eq n) publics) ((bytes_eq-Decides name key).0 e) ∙ h)
-also_public publics name key false e h = sym (or_false (list_any (bytes_eq name) publics))
+also_public publics name key false e h = sym (or-false (list_any (bytes_eq name) publics))
 
 made_by : (publics : List (List ℕ)) (name key : List ℕ) (b : Bool) → list_any (bytes_eq key) publics ≡ b
     → list_any (bytes_eq name) (cond b publics (publics ++ key ∷ [])) ≡ (list_any (bytes_eq name) publics || bytes_eq name key)
 made_by publics name key true h = also_public publics name key (bytes_eq name key) refl h
 made_by publics name key false h =
-    list_any-append (bytes_eq name) publics (key ∷ []) ∙ ap (λ b. list_any (bytes_eq name) publics || b) (or_false (bytes_eq name key))
+    list_any-append (bytes_eq name) publics (key ∷ []) ∙ ap (λ b. list_any (bytes_eq name) publics || b) (or-false (bytes_eq name key))
 
 made_in : (publics : List (List ℕ)) (name key : List ℕ)
     → list_any (bytes_eq name) (made_public publics key) ≡ (list_any (bytes_eq name) publics || bytes_eq name key)
@@ -223,7 +220,7 @@ join_bools false b c = refl
 
 all_made : (publics names : List (List ℕ)) (name : List ℕ)
     → list_any (bytes_eq name) (all_public publics names) ≡ (list_any (bytes_eq name) publics || list_any (bytes_eq name) names)
-all_made publics [] name = sym (or_false (list_any (bytes_eq name) publics))
+all_made publics [] name = sym (or-false (list_any (bytes_eq name) publics))
 all_made publics (key ∷ names) name =
     all_made (made_public publics key) names name ∙ ap (λ b. b || list_any (bytes_eq name) names) (made_in publics name key)
     ∙ join_bools (list_any (bytes_eq name) publics) (bytes_eq name key) (list_any (bytes_eq name) names)
@@ -305,12 +302,12 @@ kept_more lines k l d is kept = record {
   publics = λ name.
       all_made d.publics (publics_in l.stmt.body) name
       ∙ ap (λ b. b || has_public name l) (kept.publics name)
-      ∙ ap (λ b. list_any (has_public name) (take k lines) || b) (sym (or_false (has_public name l)))
+      ∙ ap (λ b. list_any (has_public name) (take k lines) || b) (sym (or-false (has_public name l)))
       ∙ sym (list_any-append (has_public name) (take k lines) (l ∷ []))
       ∙ ap (list_any (has_public name)) (sym (take_last lines k l is));
   named =
       ap (λ b. b || names_module l.stmt.body) kept.named
-      ∙ ap (λ b. list_any (λ line. names_module line.stmt.body) (take k lines) || b) (sym (or_false (names_module l.stmt.body)))
+      ∙ ap (λ b. list_any (λ line. names_module line.stmt.body) (take k lines) || b) (sym (or-false (names_module l.stmt.body)))
       ∙ sym (list_any-append (λ (line : LineTree). names_module line.stmt.body) (take k lines) (l ∷ []))
       ∙ ap (list_any (λ line. names_module line.stmt.body)) (sym (take_last lines k l is));
   repeated = first_by lines k d.repeated (line_again d k l.stmt) (again_same lines k l d is kept) kept.repeated;

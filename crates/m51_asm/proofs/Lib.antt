@@ -13,3 +13,15 @@ pub mod NamedEntries
 pub mod PublicKeys
 pub mod DefinedLines
 pub mod RenumberedValues
+pub mod OneAnswer
+pub mod LocatedValues
+pub mod GrowingValues
+pub mod SeenValues
+pub mod KeptMeanings
+pub mod Opening
+pub mod LabelledNames
+pub mod FilledSizes
+pub mod GivenValues
+pub mod ToldLines
+pub mod PlacedLines
+pub mod FirstFaults

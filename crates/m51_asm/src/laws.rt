@@ -1,6 +1,14 @@
 //! What is promised of assignments. Each law is the contract of a function that does nothing.
 ghost use Rattle.m51_asm.specs.AssignmentLaws.{OneFits, AFits};
 ghost use Rattle.m51_asm.specs.Renumbering.{NumbersDoNotMatter};
+ghost use Rattle.m51_asm.specs.AnswerLaws.{OneAnswer};
+ghost use Rattle.m51_asm.specs.Located.{TablesAreEnough};
+ghost use Rattle.m51_asm.specs.Above.{KeptMeans};
+ghost use Rattle.m51_asm.specs.LineFaults.{OperandIsTold};
+ghost use Rattle.m51_asm.specs.OpenSegments.{OpenIsBehind, DeclaredIsTold};
+ghost use Rattle.m51_asm.specs.LabelledNames.{FormIsTold};
+ghost use Rattle.m51_asm.specs.FirstFault.{FaultIsAnswer, ContentIsAnswer};
+ghost use Rattle.m51_asm.specs.ValuesAbove.{ValuesGrow, ValuesAreSeen};
 
 /// At most one assignment fits a text: two that do agree on each line and each name.
 ///
@@ -23,4 +31,65 @@ pub fn an_assignment_fits()
 /// Source: own choice ("Numbers of segments in values").
 pub fn segment_numbers_do_not_matter()
     ensures { NumbersDoNotMatter }
+{}
+
+/// Each text has an answer, and only one.
+///
+/// Source: own choice ("The assignment of a text").
+pub fn each_text_has_one_answer()
+    ensures { OneAnswer }
+{}
+
+/// A table of the segments of an expression's names is enough to evaluate it, however many segments the text has.
+///
+/// Source: own choice ("Numbers of segments in values").
+pub fn tables_are_enough()
+    ensures { TablesAreEnough }
+{}
+
+/// After a line that repeats nothing a name has the value that the line gives it, or else the one that it had.
+///
+/// Source: own choice ("The assignment of a text").
+pub fn values_grow()
+    ensures { ValuesGrow }
+{}
+
+/// At a line a name stands for the value that lines above give it, or where the text does not define it for what it is
+/// without a definition.
+///
+/// Source: own choice ("The assignment of a text").
+pub fn values_are_seen()
+    ensures { ValuesAreSeen }
+{}
+
+/// What is kept of the lines above a line says what names stand for there, as the assignment that fits does.
+///
+/// Source: own choice ("The assignment of a text").
+pub fn what_is_kept_means()
+    ensures { KeptMeans }
+{}
+
+/// By what is kept of the lines above, a line leaves open the segment that the definitions say.
+///
+/// Source: own choice ("The assignment of a text").
+pub fn segments_follow()
+    ensures opened { OpenIsBehind }
+    ensures declared { DeclaredIsTold }
+    ensures operands { OperandIsTold }
+{}
+
+/// By the first line that has a fault by what stands above it the answer is told: that fault, or where no line has one
+/// what the content gives.
+///
+/// Source: own choice ("The assignment of a text").
+pub fn first_faults_are_answers()
+    ensures fault { FaultIsAnswer }
+    ensures content { ContentIsAnswer }
+{}
+
+/// The form of a JMP or CALL is told by the lines above it and by the label of its own line.
+///
+/// Source: own choice ("The assignment of a text").
+pub fn forms_are_told()
+    ensures { FormIsTold }
 {}

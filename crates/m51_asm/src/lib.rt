@@ -1,31 +1,52 @@
 //! The assembler: from a source to a module and the rows of its listing, or to the faults of its lines.
 #![tactic(auto)]
 
+mod above;
 mod address;
 mod assembling;
 mod code;
+mod counting;
+mod counts;
 mod declared;
 mod definitions;
+mod filled;
+mod giving;
 mod instruction;
+mod labelled;
 mod laws;
+mod line_values;
 mod lines;
 mod module;
 #[cfg(test)]
 mod name_tests;
 mod names;
 mod naming;
+mod naming_lines;
 mod numbers;
+mod operand_faults;
 mod outcome;
+mod placing;
 mod publics;
 mod repeats;
+mod segments;
+mod sizes;
 mod statement;
+mod stepping;
+mod tables;
 #[cfg(test)]
 mod tests;
+mod told;
+mod valuation;
+mod values;
 mod work;
 
 pub use assembling::assemble;
 pub use definitions::How;
-pub use laws::{an_assignment_fits, one_assignment_fits, segment_numbers_do_not_matter};
+pub use laws::{
+    an_assignment_fits, each_text_has_one_answer, first_faults_are_answers, forms_are_told,
+    one_assignment_fits, segment_numbers_do_not_matter, segments_follow, tables_are_enough,
+    values_are_seen, values_grow, what_is_kept_means,
+};
 pub use m51_module::{Fault, Faults, Row, Rows, SourceFile};
 pub use names::{FirstDefinition, Names};
 pub use outcome::Assembled;

@@ -52,25 +52,35 @@ fn sources_answer_as_the_form_says(rt: HostRuntime) -> Result<(), Fail> {
         (
             PORT_LINE,
             Status::Ran,
-            b"SEGMENTS\nDATA  0000 0008 B BANK0\nCODE  0000 0005 A @0000\nUNITS\n@0000 FROM @0000 TO -\nCHAIN @0000 0 @0000\nOVERLAID 0 BYTES\nIMAGE 5 BYTES\nRUN\n0 P1 55\nEND 4 STEPS 8 CYCLES\n",
+            b"SEGMENTS\nDATA  0000 0008 B BANK0\nCODE  0000 0005 A @0000\nUNITS\n\
+              @0000 FROM @0000 TO -\nCHAIN @0000 0 @0000\nOVERLAID 0 BYTES\nIMAGE 5 BYTES\nRUN\n\
+              0 P1 55\nEND 4 STEPS 8 CYCLES\n",
         ),
         (
             b"CSEG AT 0\nMOV P1,#1H\nEND\n",
             Status::Event,
-            b"SEGMENTS\nDATA  0000 0008 B BANK0\nCODE  0000 0003 A @0000\nUNITS\n@0000 FROM @0000 TO -\nCHAIN @0000 0 @0000\nOVERLAID 0 BYTES\nIMAGE 3 BYTES\nRUN\nEVENT V1 PASTEND FROM 0000 TO 0003 AFTER 0 STEPS 0 CYCLES\n",
+            b"SEGMENTS\nDATA  0000 0008 B BANK0\nCODE  0000 0003 A @0000\nUNITS\n\
+              @0000 FROM @0000 TO -\nCHAIN @0000 0 @0000\nOVERLAID 0 BYTES\nIMAGE 3 BYTES\nRUN\n\
+              EVENT V1 PASTEND FROM 0000 TO 0003 AFTER 0 STEPS 0 CYCLES\n",
         ),
         (
             b"CSEG AT 0\nMOV A,#0FFH\nMOV P1,A\nMOV P1,#1H\nEND",
             Status::Event,
-            b"SEGMENTS\nDATA  0000 0008 B BANK0\nCODE  0000 0007 A @0000\nUNITS\n@0000 FROM @0000 TO -\nCHAIN @0000 0 @0000\nOVERLAID 0 BYTES\nIMAGE 7 BYTES\nRUN\n1 P1 FF\nEVENT V1 PASTEND FROM 0004 TO 0007 AFTER 2 STEPS 2 CYCLES\n",
+            b"SEGMENTS\nDATA  0000 0008 B BANK0\nCODE  0000 0007 A @0000\nUNITS\n\
+              @0000 FROM @0000 TO -\nCHAIN @0000 0 @0000\nOVERLAID 0 BYTES\nIMAGE 7 BYTES\nRUN\n\
+              1 P1 FF\nEVENT V1 PASTEND FROM 0004 TO 0007 AFTER 2 STEPS 2 CYCLES\n",
         ),
         (
-            b"A1 SEGMENT DATA\nB1 SEGMENT DATA\nRSEG A1\nX: DS 1\nRSEG B1\nY: DS 1\nCSEG AT 0\nMOV X,#5H\nMOV Y,#6H\nMOV A,X\nMOV P1,A\nSJMP $\nEND\n",
+            b"A1 SEGMENT DATA\nB1 SEGMENT DATA\nRSEG A1\nX: DS 1\nRSEG B1\nY: DS 1\nCSEG AT 0\n\
+              MOV X,#5H\nMOV Y,#6H\nMOV A,X\nMOV P1,A\nSJMP $\nEND\n",
             Status::Ran,
-            b"SEGMENTS\nDATA  0000 0008 B BANK0\nCODE  0000 000C A @0000\nDATA  0008 0001 P A1\nDATA  0009 0001 P B1\nUNITS\n@0000 FROM @0000 TO -\nCHAIN @0000 0 @0000\nOVERLAID 0 BYTES\nIMAGE 12 BYTES\nRUN\n5 P1 05\nEND 4 STEPS 6 CYCLES\n",
+            b"SEGMENTS\nDATA  0000 0008 B BANK0\nCODE  0000 000C A @0000\nDATA  0008 0001 P A1\n\
+              DATA  0009 0001 P B1\nUNITS\n@0000 FROM @0000 TO -\nCHAIN @0000 0 @0000\n\
+              OVERLAID 0 BYTES\nIMAGE 12 BYTES\nRUN\n5 P1 05\nEND 4 STEPS 6 CYCLES\n",
         ),
         (
-            b"A1 SEGMENT DATA\nB1 SEGMENT DATA\nC1 SEGMENT DATA\nRSEG A1\nDS 60\nRSEG B1\nDS 60\nRSEG C1\nDS 60\nCSEG AT 0\nSJMP $\nEND\n",
+            b"A1 SEGMENT DATA\nB1 SEGMENT DATA\nC1 SEGMENT DATA\nRSEG A1\nDS 60\nRSEG B1\nDS 60\n\
+              RSEG C1\nDS 60\nCSEG AT 0\nSJMP $\nEND\n",
             Status::Link,
             b"LINK L12 C1\n",
         ),
@@ -113,7 +123,10 @@ fn a_hundred_instructions_are_taken_and_one_more_is_refused(rt: HostRuntime) -> 
         (
             100,
             Status::Ran,
-            b"SEGMENTS\nDATA  0000 0008 B BANK0\nCODE  0000 00C8 A @0000\nUNITS\n@0000 FROM @0000 TO -\nCHAIN @0000 0 @0000\nOVERLAID 0 BYTES\nIMAGE 200 BYTES\nRUN\nEND 4 STEPS 8 CYCLES\n".as_slice(),
+            b"SEGMENTS\nDATA  0000 0008 B BANK0\nCODE  0000 00C8 A @0000\nUNITS\n\
+              @0000 FROM @0000 TO -\nCHAIN @0000 0 @0000\nOVERLAID 0 BYTES\nIMAGE 200 BYTES\nRUN\n\
+              END 4 STEPS 8 CYCLES\n"
+                .as_slice(),
         ),
         (101, Status::Source, b"a.a51(102): E0\n".as_slice()),
     ] {

@@ -27,6 +27,14 @@ const TIMERS: &str = "00 00 10 00 1F FF FF 01 00 10
 00 05 10 00 05 EF FF 00 05 10
 00 05 10 00 05 EF EF 00 05 10
 00 06 10 38 FF FF EF 38 38 30
+00 0B 10 38 05 FB FB 38 05 12
+00 0B 10 38 05 FF FF 38 06 10
+00 0B 10 38 FF FF FF 38 00 30
+00 0B 50 FF 05 FB FB 00 05 d2
+00 07 10 38 05 FF EF 38 06 10
+00 07 10 38 05 FF FF 38 05 10
+00 07 50 38 05 FF FF 39 05 50
+00 33 50 38 05 FF FF 39 06 50
 01 00 40 00 1F FF FF 01 00 40
 01 00 40 FF 1F FF FF 00 00 C0
 01 10 40 FF FF FF FF 00 00 C0
@@ -35,6 +43,11 @@ const TIMERS: &str = "00 00 10 00 1F FF FF 01 00 10
 01 90 40 00 05 F7 F7 00 05 48
 01 90 40 00 05 FF FF 00 06 40
 01 50 40 00 05 FF DF 00 06 40
+01 33 40 00 05 FF FF 00 05 40
+01 03 00 00 1F FF FF 01 00 00
+01 03 00 FF 1F FF FF 00 00 00
+01 13 00 00 FF FF FF 01 00 00
+01 13 00 FF FF FF FF 00 00 00
 01 23 00 38 FF FF FF 38 38 00
 01 A3 00 38 05 F7 F7 38 06 08
 01 63 00 38 05 FF FF 38 05 00
@@ -60,6 +73,8 @@ const TIMER_2: &str = "00 12 34 56 78 FF FF 12 34 56 78 00
 
 // SCON, the byte and the ninth bit of a frame; then SBUF and SCON.
 const FRAMES: &str = "10 41 00 41 11
+10 41 01 41 11
+14 41 00 41 15
 30 41 00 41 31
 50 41 01 41 55
 50 41 00 41 51
@@ -87,8 +102,8 @@ const EXTERNALS: &str = "01 FF FB 03
 00 FF F7 08
 08 F7 FF 00";
 
-// What is taken of timer 0 and the serial port, which both ask: bit 0 of the index is ET0, bit 1 ES, bit 2 EA, bit 3 PT0, bit 4
-// PS, and bit 5 the low level in progress.
+// What is taken of timer 0 and the serial port, which both ask: bit 0 of the index is ET0, bit 1 ES, bit 2 EA,
+// bit 3 PT0, bit 4 PS, and bit 5 the low level in progress.
 const CHOICES: &[u8] = b"-----TST-----TST-----TSS-----TST-------------T-T------SS-----TST";
 
 // The bytes of a row of hexadecimal digits, two for each.
@@ -246,8 +261,11 @@ fn a_byte_takes_its_bit_times_at_each_rate(rt: HostRuntime) {
     assert_eq!(rt; ticks_to_send(0x40, 0x00, 0x00), 288);
     assert_eq!(rt; ticks_to_send(0x40, 0x80, 0x00), 144);
     assert_eq!(rt; ticks_to_send(0xC0, 0x00, 0x00), 320);
-    // Timer 2 gives the rate of sending by TCLK, and by RCLK only that of receiving.
+    assert_eq!(rt; ticks_to_send(0xC0, 0x80, 0x00), 160);
+    // Timer 2 gives the rate of sending by TCLK, where SMOD does not matter, and by RCLK only that of receiving.
     assert_eq!(rt; ticks_to_send(0xC0, 0x00, 0x14), 27);
+    assert_eq!(rt; ticks_to_send(0xC0, 0x80, 0x14), 27);
+    assert_eq!(rt; ticks_to_send(0x40, 0x80, 0x14), 24);
     assert_eq!(rt; ticks_to_send(0x40, 0x00, 0x24), 288);
     // Mode 0 has eight cycles; mode 2 ten bit times of 64 periods, or with SMOD of 32, at twelve a cycle.
     assert_eq!(rt; ticks_to_send(0x00, 0x00, 0x00), 8);

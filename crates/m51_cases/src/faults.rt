@@ -43,19 +43,23 @@ fn a_failed_write_leaves_a_prefix(rt: HostRuntime) -> Result<(), Fail> {
             &FOUR_STEPS,
             PORT_LINE,
             2,
-            b"SEGMENTS\nDATA  0000 0008 B BANK0\nCODE  0000 0005 A @0000\nUNITS\n@0000 FROM @0000 TO -\nCHAIN @0000 0 @0000\nOVERLAID 0 BYTES\nIMAGE 5 BYTES\n",
+            b"SEGMENTS\nDATA  0000 0008 B BANK0\nCODE  0000 0005 A @0000\nUNITS\n\
+              @0000 FROM @0000 TO -\nCHAIN @0000 0 @0000\nOVERLAID 0 BYTES\nIMAGE 5 BYTES\n",
         ),
         (
             &FOUR_STEPS,
             PORT_LINE,
             3,
-            b"SEGMENTS\nDATA  0000 0008 B BANK0\nCODE  0000 0005 A @0000\nUNITS\n@0000 FROM @0000 TO -\nCHAIN @0000 0 @0000\nOVERLAID 0 BYTES\nIMAGE 5 BYTES\nRUN\n",
+            b"SEGMENTS\nDATA  0000 0008 B BANK0\nCODE  0000 0005 A @0000\nUNITS\n\
+              @0000 FROM @0000 TO -\nCHAIN @0000 0 @0000\nOVERLAID 0 BYTES\nIMAGE 5 BYTES\nRUN\n",
         ),
         (
             &FOUR_STEPS,
             PORT_LINE,
             4,
-            b"SEGMENTS\nDATA  0000 0008 B BANK0\nCODE  0000 0005 A @0000\nUNITS\n@0000 FROM @0000 TO -\nCHAIN @0000 0 @0000\nOVERLAID 0 BYTES\nIMAGE 5 BYTES\nRUN\n0 P1 55\n",
+            b"SEGMENTS\nDATA  0000 0008 B BANK0\nCODE  0000 0005 A @0000\nUNITS\n\
+              @0000 FROM @0000 TO -\nCHAIN @0000 0 @0000\nOVERLAID 0 BYTES\nIMAGE 5 BYTES\nRUN\n\
+              0 P1 55\n",
         ),
         (&usage, PORT_LINE, 1, b""),
         (&FOUR_STEPS, b"NOP\n", 1, b""),

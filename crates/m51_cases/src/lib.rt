@@ -1,4 +1,4 @@
-//! Tests that cross crates: whole calls of the top call, and the way from objects to a graph. It is no part of the product.
+//! Tests that cross crates: the top call, the way from objects to a graph, and devices. It is no part of the product.
 #![tactic(auto)]
 
 #[cfg(test)]
@@ -9,6 +9,14 @@ mod devices;
 mod faults;
 #[cfg(test)]
 mod library_edits;
+#[cfg(test)]
+mod monitor_layout;
+#[cfg(test)]
+mod monitor_moves;
+#[cfg(test)]
+mod monitor_run;
+#[cfg(test)]
+mod monitor_table;
 #[cfg(test)]
 mod objects;
 #[cfg(test)]

@@ -14,7 +14,10 @@ fn files_of_the_system_are_read(rt: HostRuntime) -> Result<(), Fail> {
         (
             &words,
             Status::Ran,
-            b"SEGMENTS\nDATA  0000 0008 B BANK0\nCODE  0000 0005 A @0000\nUNITS\n@0000 FROM @0000 TO -\nCHAIN @0000 0 @0000\nOVERLAID 0 BYTES\nIMAGE 5 BYTES\nRUN\n0 P1 55\nEND 4 STEPS 8 CYCLES\n".as_slice(),
+            b"SEGMENTS\nDATA  0000 0008 B BANK0\nCODE  0000 0005 A @0000\nUNITS\n\
+              @0000 FROM @0000 TO -\nCHAIN @0000 0 @0000\nOVERLAID 0 BYTES\nIMAGE 5 BYTES\nRUN\n\
+              0 P1 55\nEND 4 STEPS 8 CYCLES\n"
+                .as_slice(),
         ),
         (&absent, Status::ReadFault, b"READ FAULT b.a51\n".as_slice()),
     ] {

@@ -5,3 +5,4 @@ pub mod Meeting
 pub mod NameLaws
 pub mod Padding
 pub mod Passing
+pub mod Small

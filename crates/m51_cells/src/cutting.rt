@@ -64,3 +64,18 @@ pub fn lines<'a>(alloc: Global, text: &'a [u8]) -> Result<Vec<&'a [u8]>, NoMemor
     }
     Ok(found)
 }
+
+/// How many lines a text has.
+///
+/// Source: own choice ("Lines").
+pub fn line_count(text: &[u8]) -> usize
+    ensures { result ≡ length (lines text.now) }
+{
+    let mut count = 0;
+    let mut rest = text;
+    while let Some((_line, after)) = first_line(rest) {
+        count += 1;
+        rest = after;
+    }
+    count
+}

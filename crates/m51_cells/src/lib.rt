@@ -1,6 +1,7 @@
-//! What all crates share: cells, kinds, names, events, lists, lines, digits, limits and the numbers of faults.
+//! What all crates share: cells, kinds, names, events, lists, lines, blanks, digits, limits and the numbers of faults.
 #![tactic(auto)]
 
+mod blanks;
 mod cell;
 mod cutting;
 mod event;
@@ -13,8 +14,9 @@ mod list;
 mod memory;
 mod name;
 
+pub use blanks::{are_blanks, blank_len, is_blank, is_skipped, part_len};
 pub use cell::{Cell, Space};
-pub use cutting::{first_line, lines};
+pub use cutting::{first_line, line_count, lines};
 pub use event::{Entry, Event, Why};
 pub use extent::{Extent, cells_of, fits, meets};
 pub use fault::{
@@ -29,12 +31,13 @@ pub use kind::{
 };
 pub use limits::{
     MOST_CONTROL_LINES, MOST_EXTERNALS, MOST_FILE_BYTES, MOST_FILES, MOST_FIXUPS,
-    MOST_MODULE_SEGMENTS, MOST_MODULES, MOST_RETURN_RECORDS, MOST_SCRIPT_LINES, MOST_SEGMENTS,
-    MOST_SOURCE_LINES, MOST_STEPS, MOST_UNITS,
+    MOST_INCLUDE_LEVELS, MOST_LINE_BYTES, MOST_MODULE_SEGMENTS, MOST_MODULES, MOST_PIECE_BYTES,
+    MOST_RETURN_RECORDS, MOST_SCRIPT_LINES, MOST_SEGMENTS, MOST_SOURCE_LINES, MOST_STEPS,
+    MOST_UNITS,
 };
 pub use list::{Bytes, ListOf, Names};
 pub use memory::NoMemory;
-pub use name::{LONGEST, Name};
+pub use name::{LONGEST, Name, is_name_byte};
 
 #[cfg(test)]
 mod tests;

@@ -15,6 +15,16 @@ pub const MOST_FILE_BYTES: usize = 1_048_576;
 /// Source: own choice ("Limits").
 pub const MOST_SOURCE_LINES: usize = 65_535;
 
+/// The most bytes of a line of a source or of a file of control lines, without its end.
+///
+/// Source: own choice ("Limits").
+pub const MOST_LINE_BYTES: usize = 255;
+
+/// How many levels deep a file may be included: the source's own lines include at level 1.
+///
+/// Source: own choice ("Limits").
+pub const MOST_INCLUDE_LEVELS: usize = 8;
+
 /// The most segments of a module.
 ///
 /// Source: own choice ("Limits").
@@ -29,6 +39,11 @@ pub const MOST_EXTERNALS: usize = 255;
 ///
 /// Source: own choice ("Limits").
 pub const MOST_FIXUPS: usize = 65_535;
+
+/// The most bytes of a piece of content.
+///
+/// Source: own choice ("Limits").
+pub const MOST_PIECE_BYTES: usize = 1_024;
 
 /// The most modules of a link.
 ///

@@ -41,8 +41,10 @@ impl Model for Name {
     ghost inverse_ok = { λ a h. padded_back (λ bytes len. record { bytes = bytes; len = len }) a.len a.bytes h };
 }
 
-// Whether the byte may stand in a written name.
-fn is_name_byte(byte: u8) -> bool
+/// Whether the byte may stand in a name: a letter, a digit, `?` or `_`.
+///
+/// Source: ASM51 guide.
+pub fn is_name_byte(byte: u8) -> bool
     ensures { result ≡ is_name_byte byte }
 {
     byte.is_ascii_alphanumeric() || byte == b'?' || byte == b'_'

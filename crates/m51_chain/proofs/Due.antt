@@ -3,6 +3,7 @@ use Rattle.std.proofs.Common.{Result, Ok, Err, ◌≡◌, ◌⊎◌, ℕ, ◌<�
 use Rattle.std.specs.Prelude.{IsSomeAnd}
 use Rattle.std.specs.Io.KnownBytes.{Appends, Keeps}
 use Rattle.std.proofs.lemmas.Bool.Decides.{nat_tests}
+use Rattle.m51_cells.specs.declared.limits.TheConstants.{MOST_FILE_BYTES}
 use Rattle.m51_cells.specs.declared.event.Event.{Event}
 use Rattle.m51_cells.specs.Outside.{Rose, AppendsFront}
 use Rattle.m51_module.specs.declared.linked.Refusal.{Refusal}
@@ -70,7 +71,7 @@ read_plain status.WriteFault h = h
 read_plain status.Memory h = h
 
 long_file : (words : List (List ℕ)) (held : Files) (job : Job) (file : Option (List ℕ)) (answer : Answer) → job_of words ≡ Some job → held job.file ≡ file
-    → IsSomeAnd file (λ bytes. 1048576 < length bytes) → answer ≡ limit_answer → IsAnswer words held answer
+    → IsSomeAnd file (λ bytes. MOST_FILE_BYTES < length bytes) → answer ≡ limit_answer → IsAnswer words held answer
 long_file words held job None answer some file long is = absurd long
 long_file words held job (Some bytes) answer some file long is = LongFile job bytes some file long is
 

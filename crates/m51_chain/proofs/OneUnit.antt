@@ -1,6 +1,7 @@
 -- The chain of a layout with one unit.
 use Rattle.std.proofs.Common.{◌≡◌, ◌≢◌, ◌⊎◌, ℕ, ◌<◌, ◌+◌, zero, suc, Bool, true, false, ◌&&◌, if◌then◌else◌, List, [], ◌∷◌, Option, Some, None, refl, length, sym, ap, ◌∙◌, inl, inr, arith, slice_get, zero-add}
 use Rattle.std.specs.List.{All, Contains}
+use Rattle.m51_cells.proofs.Small.{all_one}
 use Rattle.m51_module.specs.declared.linked.Chain.{Chain}
 use Rattle.m51_module.specs.declared.parts.LayoutParts.{LayoutParts}
 use Rattle.m51_module.specs.declared.placed.Placed.{Placed}
@@ -60,10 +61,6 @@ one_chain_is l one =
       heaviest l one,
       (no_root l 0x03 one (λ e. cc e), (no_root l 0x0B one (λ e. cc e), (no_root l 0x13 one (λ e. cc e), (no_root l 0x1B one (λ e. cc e), (no_root l 0x23 one (λ e. cc e), (no_root l 0x2B one (λ e. cc e), tt)))))),
     )
-
-all_one : {A : Type 0} (P : A → Type 0) (x : A) → P x → All P (x ∷ [])
-all_one P x h zero d lt = h
-all_one P x h (suc k) d lt = absurd (omega (arith, lt))
 
 -- it names units of the layout
 pub names_one_unit : (l : LayoutParts) → IsOneUnit l → All (NamesUnits l) (one_unit ∷ [])

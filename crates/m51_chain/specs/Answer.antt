@@ -1,6 +1,7 @@
 -- What the top call answers for its words and files, and what it writes, where no call on the outside fails.
 use Rattle.std.specs.Prelude.{◌≡◌, ◌≢◌, ℕ, ◌<◌, ◌≤◌, List, ◌++◌, length, map, flat_map, sum, Option, Some, None, Result}
 use Rattle.std.specs.Prelude.{Ok, Err, option_map, codes, decimal}
+use Rattle.m51_cells.specs.declared.limits.TheConstants.{MOST_FILE_BYTES}
 use Rattle.m51_cells.specs.declared.event.Event.{Event}
 use Rattle.m51_module.specs.declared.linked.Chain.{Chain}
 use Rattle.m51_module.specs.declared.linked.Refusal.{Refusal}
@@ -112,9 +113,9 @@ pub data IsAnswer (words : List (List ℕ)) (files : Files) (answer : Answer) : 
   NoFile : (job : Job) → job_of words ≡ Some job → files job.file ≡ None
       → answer ≡ unread_answer job.file → IsAnswer words files answer
   LongFile : (job : Job) (bytes : List ℕ) → job_of words ≡ Some job → files job.file ≡ Some bytes
-      → 1048576 < length bytes → answer ≡ limit_answer → IsAnswer words files answer
+      → MOST_FILE_BYTES < length bytes → answer ≡ limit_answer → IsAnswer words files answer
   Source : (job : Job) (bytes : List ℕ) → job_of words ≡ Some job → files job.file ≡ Some bytes
-      → length bytes ≤ 1048576 → IsSourceAnswer job bytes answer → IsAnswer words files answer
+      → length bytes ≤ MOST_FILE_BYTES → IsSourceAnswer job bytes answer → IsAnswer words files answer
 
 -- the file that is read for these words
 abbrev pub file_read : List (List ℕ) → Option (List ℕ)

@@ -1,6 +1,7 @@
 -- What lies behind each status of the top call, whether or not the outside tells its bytes.
 use Rattle.std.specs.Prelude.{◌≡◌, ◌⊎◌, ℕ, ◌<◌, ◌≤◌, List, length, Option, Some, None, Result, Ok, Err}
 use Rattle.std.specs.Io.KnownBytes.{Appends, Keeps}
+use Rattle.m51_cells.specs.declared.limits.TheConstants.{MOST_FILE_BYTES}
 use Rattle.m51_cells.specs.Outside.{Rose, AppendsFront, one_more}
 use Rattle.m51_module.specs.declared.parts.ModuleParts.{ModuleParts}
 use Rattle.m51_chain.specs.declared.status.Status.{Status}
@@ -90,7 +91,7 @@ pub record IsOfSource
   pub answer : Answer
   pub asked : job_of words ≡ Some job
   pub named : after.named ≡ job.file
-  pub within : length bytes ≤ 1048576
+  pub within : length bytes ≤ MOST_FILE_BYTES
   pub taken : after.taken ≡ length bytes
   pub source : IsSourceAnswer job bytes answer
   pub status : told ≡ answer.status
@@ -103,7 +104,7 @@ pub record IsUsage (words : List (List ℕ)) (old new : SinkState) : Type 0 wher
 
 -- more than 1,048,576 bytes were taken of the file that the words name
 pub record IsLimit (words : List (List ℕ)) (after : ShelfState) (old new : SinkState) : Type 0 where
-  pub over : 1048576 < after.taken
+  pub over : MOST_FILE_BYTES < after.taken
   pub named : file_read words ≡ Some after.named
   pub text : Appends old.text new.text limit_answer.text
 

@@ -8,6 +8,7 @@ use Rattle.std.specs.Char.{is_ascii_digit}
 use Rattle.std.specs.List.{list_all}
 use Rattle.std.specs.Str.{bytes_eq}
 use Rattle.std.specs.Str.Parse.{digits_value}
+use Rattle.m51_cells.specs.declared.limits.TheConstants.{MOST_STEPS}
 
 -- what is asked for
 pub record Job : Type 0 where
@@ -18,7 +19,7 @@ pub record Job : Type 0 where
 unfoldable pub steps_of : List ℕ → Option ℕ
 steps_of text =
     if nat_le 1 (length text) && nat_le (length text) 8 && list_all is_ascii_digit text
-    && nat_le 1 (digits_value 10 text) && nat_le (digits_value 10 text) 10000000
+    && nat_le 1 (digits_value 10 text) && nat_le (digits_value 10 text) MOST_STEPS
     then Some (digits_value 10 text)
     else None
 

@@ -1,5 +1,6 @@
 //! Building a source that was read: assembling, linking, and running the program.
 ghost use Rattle.std.specs.Prelude.{◌≡◌, ◌≤◌, [], ◌∷◌, sum, map};
+ghost use Rattle.m51_cells.specs.declared.limits.TheConstants.{MOST_STEPS};
 ghost use Rattle.m51_print.specs.Lines.{titles_of};
 ghost use Rattle.m51_sim.specs.Boards.{separate_of};
 ghost use Rattle.m51_sim.specs.Runs.{record_of};
@@ -33,7 +34,7 @@ fn filled(runs: &[Run]) -> u32
 // Runs a board, and writes its record.
 #[tactic(auto, unfolding(crate::specs::Cause::IsWritten))]
 fn run<S: Sink>(mut board: Board, steps: u32, out: &mut S) -> Result<Status, Failure>
-    requires bounds { (1 ≤ steps) × (steps ≤ 10000000) }
+    requires bounds { (1 ≤ steps) × (steps ≤ MOST_STEPS) }
     ensures written { IsWritten (run_answer (titles_of board.layout.placed)
         (record_of (separate_machine board.layout board.chip.image) steps (separate_of board)))
         (S.state out.old) (S.state out.new) result }
@@ -56,7 +57,7 @@ fn report<S: Sink>(
     linked: Linked,
     out: &mut S,
 ) -> Result<Status, Failure>
-    requires bounds { (1 ≤ steps) × (steps ≤ 10000000) }
+    requires bounds { (1 ≤ steps) × (steps ≤ MOST_STEPS) }
     requires one { IsOneUnit linked.layout }
     requires roots { linked.roots ≡ 1 ∷ [] }
     requires filled { filled_by linked.written ≤ 65536 }
@@ -81,7 +82,7 @@ fn report<S: Sink>(
 // Links a module and runs it, or says why it is not linked.
 #[tactic(auto, unfolding(crate::specs::Cause::IsModuleWork))]
 fn link<S: Sink>(alloc: Global, steps: u32, parts: &Module, out: &mut S) -> Result<Status, Failure>
-    requires bounds { (1 ≤ steps) × (steps ≤ 10000000) }
+    requires bounds { (1 ≤ steps) × (steps ≤ MOST_STEPS) }
     ensures work { IsModuleWork parts.now steps (S.state out.old) (S.state out.new) result }
     ensures later { (S.state out.old).faults ≤ (S.state out.new).faults }
 {
@@ -103,7 +104,7 @@ pub(crate) fn build<S: Sink>(
     source: &SourceFile,
     out: &mut S,
 ) -> Result<Status, Failure>
-    requires bounds { (1 ≤ steps) × (steps ≤ 10000000) }
+    requires bounds { (1 ≤ steps) × (steps ≤ MOST_STEPS) }
     requires named { source.now.name ≡ file.now }
     ensures work { IsSourceWork (record { steps = steps; file = file.now }) source.now.bytes
         (S.state out.old) (S.state out.new) result }

@@ -2,7 +2,10 @@
 ghost use Rattle.std.specs.Prelude.{◌≡◌, ◌≤◌, IfSome, option_map, string_bytes};
 ghost use Rattle.std.specs.Char.{is_ascii_digit};
 ghost use Rattle.std.specs.List.{list_all};
+ghost use Rattle.m51_cells.specs.declared.limits.TheConstants.{MOST_STEPS};
 ghost use Rattle.m51_chain.specs.Words.{Job, steps_of, is_source, job_of, texts};
+
+use m51_cells::MOST_STEPS;
 
 // What the words ask for: to build a source and to run it for so many steps.
 #[derive(Drop)]
@@ -23,13 +26,13 @@ fn is_digits(text: &[u8]) -> bool
 #[tactic(auto, unfolding(crate::specs::Words::steps_of))]
 fn steps_of(text: &str) -> Option<u32>
     ensures steps { result ≡ steps_of text.now }
-    ensures bounds { IfSome result (λ steps. (1 ≤ steps) × (steps ≤ 10000000)) }
+    ensures bounds { IfSome result (λ steps. (1 ≤ steps) × (steps ≤ MOST_STEPS)) }
 {
     if text.len() > 8 || !is_digits(text.as_bytes()) {
         return None;
     }
     match text.parse::<u32>() {
-        Ok(value) if value >= 1 && value <= 10_000_000 => Some(value),
+        Ok(value) if value >= 1 && value <= MOST_STEPS => Some(value),
         _ => None,
     }
 }
@@ -48,7 +51,7 @@ fn is_source(name: &[u8]) -> bool
 pub(crate) fn job_of(words: &[String]) -> Option<Job<'_>>
     ensures job { option_map (λ job. record { steps = job.steps; file = string_bytes job.file.now }) result
         ≡ job_of (texts words.now) }
-    ensures steps { IfSome result (λ job. (1 ≤ job.steps) × (job.steps ≤ 10000000)) }
+    ensures steps { IfSome result (λ job. (1 ≤ job.steps) × (job.steps ≤ MOST_STEPS)) }
 {
     let [verb, option, number, file] = words else {
         return None;

@@ -55,6 +55,11 @@ reference_is names field.Bit next v r h = stored_reference (is_linked names v.ba
 reference_is names field.Data16 next v r h = stored_reference (is_linked names v.base) (held_of field.Data16 (counted v)) (reference_of field.Data16 v) r h
 reference_is names field.Addr16 next v r h = stored_reference (is_linked names v.base) (held_of field.Addr16 (counted v)) (reference_of field.Addr16 v) r h
 
+-- what a value leaves to the linker in a field is its reference there
+pub linked_is : (names : Meanings) (at : Field) (next : ℕ) (v : Value) (r : Reference) → field_of names at next v ≡ Some (Linked r) → reference_of at v ≡ r
+unfolding field_of
+linked_is names at next v r h = reference_is names at next v r (guarded (is_taken names at v) (taken_of names at next v) (Linked r) h).1
+
 pub references_have_bits : ReferencesHaveBits
 unfolding field_of
 references_have_bits names at next v r is h =

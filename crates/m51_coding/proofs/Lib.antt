@@ -2,5 +2,9 @@ pub mod TakenFields
 pub mod Reaching
 pub mod Leading
 pub mod BitNumbers
+pub mod ReferencesLie
 pub mod Standing
-pub mod StatementRows
+pub mod FormRows
+pub mod OverThree
+pub mod ToldOutcomes
+pub mod OperandFaults

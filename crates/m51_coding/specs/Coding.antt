@@ -10,14 +10,18 @@ use Rattle.m51_isa.specs.Table.{encoded, code_of, length_of as row_length}
 use Rattle.m51_isa.specs.Spelling.{field_in, text_of}
 use Rattle.m51_isa.specs.Search.{row_for}
 use Rattle.m51_isa.specs.Filling.{with_numbers}
+use Rattle.m51_cells.specs.declared.fault.TheConstants.{NO_INSTRUCTION}
 use Rattle.m51_expr.specs.Meanings.{Meanings}
-use Rattle.m51_stmt.specs.declared.statement.Operand.{Operand}
-use Rattle.m51_stmt.specs.Statement.{OperandTree, operand_tree}
-use Rattle.m51_stmt.specs.Looks.{look_of}
+use Rattle.m51_expr.specs.declared.operand.Operand.{Operand}
+use Rattle.m51_expr.specs.Operand.{OperandTree, operand_tree}
+use Rattle.m51_expr.specs.Looks.{look_of}
 use Rattle.m51_coding.specs.declared.coding.Coded.{Coded}
 use Rattle.m51_coding.specs.declared.filling.Held.{Held}
-use Rattle.m51_coding.specs.JumpForm.{behind}
+use Rattle.m51_coding.specs.JumpForm.{address_after}
+use Rattle.m51_coding.specs.declared.outcome.Outcome.{Outcome}
+use Rattle.m51_coding.specs.declared.outcome.Outcome.TheVariants.{Stands}
 use Rattle.m51_coding.specs.Filling.{Answer, and_then, fault, filled, references_of}
+use Rattle.m51_coding.specs.Outcomes.{outcome_of}
 
 -- what an operand that is lent, or none, is
 abbrev pub seen : Option (Bor Operand) → Option OperandTree
@@ -57,29 +61,64 @@ abbrev pub coded_as : Instr → Held → Held → Held → Coded
 coded_as row a b c =
     record { code = code_of (encoded (with_numbers row a.number b.number c.number)); references = references_of a b c }
 
+-- the code of a row, where each operand gives something in its field
+abbrev pub gathered : Instr → Answer Held → Answer Held → Answer Held → Answer Coded
+gathered row first second third =
+    and_then first (λ a. and_then second (λ b. and_then third (λ c. Ok (coded_as row a b c))))
+
+-- what the first operand gives in its field of a row
+abbrev pub first_of : Meanings → Instr → Option OperandTree → Answer Held
+first_of names row operand = filled names (address_after names (row_length row)) (field_in (text_of row).first) operand
+
+-- what the second operand gives
+abbrev pub second_of : Meanings → Instr → Option OperandTree → Answer Held
+second_of names row operand =
+    filled names (address_after names (row_length row)) (field_in (text_of row).second) operand
+
+-- what the third operand gives
+abbrev pub third_of : Meanings → Instr → Option OperandTree → Answer Held
+third_of names row operand = filled names (address_after names (row_length row)) (field_in (text_of row).third) operand
+
 -- the operands fill the fields of the row from left to right
 abbrev pub coded_in : Meanings → Option OperandTree → Option OperandTree → Option OperandTree → Instr → Answer Coded
-coded_in names first second third row =
-    let next = behind names (row_length row) in
-    and_then (filled names next (field_in (text_of row).first) first) (λ a.
-    and_then (filled names next (field_in (text_of row).second) second) (λ b.
-    and_then (filled names next (field_in (text_of row).third) third) (λ c.
-    Ok (coded_as row a b c))))
+coded_in names a b c row = gathered row (first_of names row a) (second_of names row b) (third_of names row c)
 
 -- the answer for the row of a line, if it has one
 abbrev pub coded_by : Meanings → Line → Option Instr → Answer Coded
 coded_by names l (Some row) = coded_in names l.first l.second l.third row
-coded_by names l None = fault 11
+coded_by names l None = fault NO_INSTRUCTION
 
 -- the answer for a line, if it has no more than three operands
 abbrev pub coded_line : Meanings → Option Line → Answer Coded
 coded_line names (Some l) = coded_by names l (line_row l)
-coded_line names None = fault 11
+coded_line names None = fault NO_INSTRUCTION
 
 -- The answer for an instruction of a source: E11 where the table has no such row, else the fault of the leftmost
 -- operand that has one, E7 to E10 or E14, else its bytes and references.
 unfoldable pub coded : Meanings → List ℕ → List OperandTree → Jump → Answer Coded
 coded names mnemonic operands jump = coded_line names (line_of mnemonic operands jump)
+
+-- what three operands come to
+abbrev pub three_outcomes : Answer Held → Answer Held → Answer Held → List Outcome
+three_outcomes a b c = outcome_of a ∷ outcome_of b ∷ outcome_of c ∷ []
+
+-- what the operands come to in the fields of the row
+abbrev pub outcomes_in : Meanings → Option OperandTree → Option OperandTree → Option OperandTree → Instr → List Outcome
+outcomes_in names a b c row = three_outcomes (first_of names row a) (second_of names row b) (third_of names row c)
+
+-- the same for the row of a line, if it has one
+abbrev pub outcomes_by : Meanings → Line → Option Instr → List Outcome
+outcomes_by names l (Some row) = outcomes_in names l.first l.second l.third row
+outcomes_by names l None = Stands ∷ Stands ∷ Stands ∷ []
+
+-- the same for a line, if it has no more than three operands
+abbrev pub outcomes_line : Meanings → Option Line → List Outcome
+outcomes_line names (Some l) = outcomes_by names l (line_row l)
+outcomes_line names None = Stands ∷ Stands ∷ Stands ∷ []
+
+-- What the operands of an instruction of a source come to, from left to right; one that is not there stands.
+unfoldable pub outcomes : Meanings → List ℕ → List OperandTree → Jump → List Outcome
+outcomes names mnemonic operands jump = outcomes_line names (line_of mnemonic operands jump)
 
 -- the length of an instruction of a source, whatever the values of its operands
 unfoldable pub length_of : List ℕ → List OperandTree → Jump → Option ℕ

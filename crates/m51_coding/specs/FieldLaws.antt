@@ -1,5 +1,6 @@
 -- What the definitions promise of fields and of generic jumps.
-use Rattle.std.specs.Prelude.{◌≡◌, ℕ, ◌+◌, ◌*◌, ◌/◌, ◌%◌, ◌<◌, ◌≤◌, IsTrue, Some, IsSome, Ok, nat_lt, if◌then◌else◌}
+use Rattle.std.specs.Prelude.{◌≡◌, ℕ, ◌+◌, ◌*◌, ◌/◌, ◌%◌, ◌<◌, ◌≤◌, IsTrue, Option, Some, None, IsSome, Ok, nat_lt}
+use Rattle.std.specs.Prelude.{if◌then◌else◌}
 use Rattle.m51_expr.specs.declared.value.Part.{Part}
 use Rattle.m51_expr.specs.declared.value.Part.TheVariants.{Whole, Bit}
 use Rattle.m51_expr.specs.declared.value.Value.{Value}
@@ -11,33 +12,31 @@ use Rattle.m51_isa.specs.declared.slot.Field.TheVariants as field
 use Rattle.m51_coding.specs.declared.reference.FieldValue.TheVariants.{Number, Linked}
 use Rattle.m51_coding.specs.declared.reference.Reference.{Reference}
 use Rattle.m51_isa.specs.declared.generics.Jump.{Jump}
-use Rattle.m51_isa.specs.declared.generics.Jump.TheVariants as jump
 use Rattle.m51_isa.specs.declared.generics.Verb.{Verb}
+use Rattle.m51_isa.specs.declared.slot.FieldSlot.{FieldSlot}
+use Rattle.m51_isa.specs.Generic.{jump_row}
+use Rattle.m51_isa.specs.Spelling.{field_in, text_of}
+use Rattle.m51_isa.specs.Table.{length_of}
 use Rattle.m51_coding.specs.Taking.{takes_class}
 use Rattle.m51_coding.specs.FieldValues.{field_of}
-use Rattle.m51_coding.specs.JumpForm.{jump_form_of, behind}
+use Rattle.m51_coding.specs.JumpForm.{jump_form_of, address_after}
 
--- the field of a target in the form
-abbrev pub field_of_form : Jump → Field
-field_of_form jump.Short = field.Rel
-field_of_form jump.Block = field.Addr11
-field_of_form jump.Long = field.Addr16
+-- a target has a field in a row that stands at the statement
+abbrev pub HasFieldIn : Meanings → Value → ℕ → Option FieldSlot → Type 0
+HasFieldIn names v next (Some slot) = IsSome (field_of names slot.field next v)
+HasFieldIn names v next None = ⊥
 
--- how many bytes a jump or call of the form has
-abbrev pub length_of : Jump → ℕ
-length_of jump.Short = 2
-length_of jump.Block = 2
-length_of jump.Long = 3
-
--- a target of a generic jump has a field in the form
-abbrev pub HasField : Meanings → Value → Jump → Type 0
-HasField names v form = IsSome (field_of names (field_of_form form) (behind names (length_of form)) v)
+-- a target of a generic jump has a field in the row of the form
+abbrev pub HasField : Meanings → Verb → Value → Jump → Type 0
+HasField names verb v form =
+    let row = jump_row verb form in
+    HasFieldIn names v (address_after names (length_of row)) (field_in (text_of row).first)
 
 -- A whole target of class CODE or of none is never out of reach of the form that is chosen for it.
 abbrev pub ChosenJumpsReach : Type 0
 ChosenJumpsReach =
     (names : Meanings) (verb : Verb) (v : Value) → IsTrue (takes_class field.Addr16 v.class) → v.part ≡ Whole
-    → HasField names v (jump_form_of names verb (Ok v))
+    → HasField names verb v (jump_form_of names verb (Ok v))
 
 -- an address and a signed byte
 abbrev pub reached_by : ℕ → ℕ → ℕ

@@ -60,7 +60,7 @@ size_of Addr16 = 65536
 size_of Addr11 = 2048
 size_of at = 256
 
--- a number thin the field can hold
+-- a number that the field can hold
 abbrev pub FitsField : Field → FieldValue → Type 0
 FitsField at (Number n) = n < size_of at
 FitsField at (Linked reference) = Unit {0}

@@ -2,12 +2,13 @@
 use Rattle.std.specs.Prelude.{ℕ, ◌==◌, if◌then◌else◌, List, [], ◌∷◌, Option, Some, None, Result, Ok, Err}
 use Rattle.std.specs.Option.{option_or}
 pub use Rattle.m51_cells.specs.Outcome.{and_then}
+use Rattle.m51_cells.specs.declared.fault.TheConstants.{OUT_OF_RANGE}
 use Rattle.m51_expr.specs.declared.value.Value.{Value}
 use Rattle.m51_expr.specs.Tree.{Tree}
 use Rattle.m51_expr.specs.Value.{Valued}
 use Rattle.m51_expr.specs.Meanings.{Meanings}
 use Rattle.m51_expr.specs.Evaluation.{value_of}
-use Rattle.m51_stmt.specs.Statement.{OperandTree, Imm, Plain, NotBit}
+use Rattle.m51_expr.specs.Operand.{OperandTree, Imm, Plain, NotBit}
 use Rattle.m51_coding.specs.declared.reference.Reference.{Reference}
 use Rattle.m51_isa.specs.declared.slot.Field.{Field}
 use Rattle.m51_isa.specs.declared.slot.FieldSlot.{FieldSlot}
@@ -29,16 +30,24 @@ fault k = Err (record { number = k })
 abbrev pub nothing : Held
 nothing = record { number = 0; byte = 0; reference = None }
 
--- a number stands in its field, and 0 where the linker fills it in; a value that has no field there is E14
-abbrev pub holding : ℕ → Option FieldValue → Answer Held
-holding byte (Some (Number n)) = Ok (record { number = n; byte = byte; reference = None })
-holding byte (Some (Linked r)) = Ok (record { number = 0; byte = byte; reference = Some r })
-holding byte None = fault 14
+-- a value that has no field is out of its range or class
+abbrev pub or_out_of_range : Option FieldValue → Answer FieldValue
+or_out_of_range (Some held) = Ok held
+or_out_of_range None = fault OUT_OF_RANGE
+
+-- what a value gives in a field, with the address after the statement
+abbrev pub fielded : Meanings → ℕ → Field → Valued Value → Answer FieldValue
+fielded names next at (Ok v) = or_out_of_range (field_of names at next v)
+fielded names next at (Err e) = fault e.number
+
+-- a field that begins at a byte: its number, and 0 where the linker fills it in
+abbrev pub held_at : ℕ → FieldValue → Held
+held_at byte (Number n) = record { number = n; byte = byte; reference = None }
+held_at byte (Linked r) = record { number = 0; byte = byte; reference = Some r }
 
 -- what a value gives in the field that begins at a byte
 abbrev pub valued : Meanings → ℕ → Field → ℕ → Valued Value → Answer Held
-valued names next field byte (Ok v) = holding byte (field_of names field next v)
-valued names next field byte (Err e) = fault e.number
+valued names next at byte value = and_then (fielded names next at value) (λ held. Ok (held_at byte held))
 
 -- the expression of an operand
 abbrev pub expression : OperandTree → Option Tree

@@ -15,8 +15,8 @@ use Rattle.m51_coding.specs.Bases.{is_current, stands_absolute}
 use Rattle.m51_coding.specs.FieldValues.{distance, is_near, same_block}
 
 -- the address after a statement of so many bytes
-abbrev pub behind : Meanings → ℕ → ℕ
-behind names length = (names.here.number + length) % 65536
+abbrev pub address_after : Meanings → ℕ → ℕ
+address_after names length = (names.here.number + length) % 65536
 
 -- HIGH or LOW of a base
 abbrev pub is_byte : Part → Bool
@@ -44,5 +44,6 @@ shortest names verb next target =
 -- the form of a generic jump or call to a target, which may have a fault
 unfoldable pub jump_form_of : Meanings → Verb → Valued Value → Jump
 jump_form_of names verb (Ok v) =
-    if is_own names v.base && not (is_byte v.part) then shortest names verb (behind names 2) (counted v) else Long
+    if is_own names v.base && not (is_byte v.part) then shortest names verb (address_after names 2) (counted v)
+    else Long
 jump_form_of names verb (Err e) = Long

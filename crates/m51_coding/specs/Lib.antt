@@ -5,6 +5,9 @@ pub mod FieldValues
 pub mod JumpForm
 pub mod FieldLaws
 pub mod Filling
+pub mod Outcomes
+pub mod Items
 pub mod Coding
 pub mod Meaning
 pub mod Lengths
+pub mod OutcomeLaws

@@ -36,7 +36,7 @@ takes_number field.Direct n = nat_le n 0xFF
 takes_number field.Bit n = nat_le n 0xFF
 takes_number at n = true
 
--- whin the field holds of a number: the low byte of data of 8 bits
+-- what the field holds of a number: the low byte of data of 8 bits
 abbrev pub held_of : Field → ℕ → ℕ
 held_of field.Data n = n % 256
 held_of at n = n

@@ -1,6 +1,6 @@
 //! Chooses the form of a generic jump.
 ghost use Rattle.std.specs.Prelude.{◌≡◌};
-ghost use Rattle.m51_coding.specs.JumpForm.{behind, is_byte, is_own, is_short, shortest, jump_form_of};
+ghost use Rattle.m51_coding.specs.JumpForm.{address_after, is_byte, is_own, is_short, shortest, jump_form_of};
 
 use crate::bases::{is_current, stands_absolute};
 use crate::field_values::{distance, is_near, same_block};
@@ -8,9 +8,9 @@ use m51_cells::Base;
 use m51_expr::{ExprError, Lookup, Part, Value, counted};
 use m51_isa::{Jump, Verb};
 
-// The address after a statement of so many bytes.
-fn behind<L: Lookup>(names: &L, length: u16) -> u16
-    ensures { result ≡ behind (L.meanings names.now) length }
+/// The address after a statement of so many bytes, modulo 65,536.
+pub(crate) fn address_after<L: Lookup>(names: &L, length: u16) -> u16
+    ensures { result ≡ address_after (L.meanings names.now) length }
 {
     names.here().number.wrapping_add(length)
 }
@@ -70,7 +70,7 @@ pub fn jump_form<L: Lookup>(names: &L, verb: Verb, target: Result<Value, ExprErr
     match target {
         Ok(value) => {
             if is_own(names, value.base) && !is_byte(value.part) {
-                shortest(names, verb, behind(names, 2), counted(value))
+                shortest(names, verb, address_after(names, 2), counted(value))
             } else {
                 Jump::Long
             }

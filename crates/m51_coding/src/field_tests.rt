@@ -1,18 +1,16 @@
 //! Fields and generic jumps by the rules of operands: the segments 0, 1 and 2 are absolute and 3 and 4 relocatable,
 //! and the segment 0 has no number.
-ghost use Rattle.std.specs.Prelude.{◌≡◌};
-ghost use Rattle.m51_expr.specs.declared.value.Part.TheVariants.{Whole};
 
 use crate::{FieldValue, Reference, field_value, jump_form};
 use m51_cells::{Base, Kind, Name};
-use m51_expr::{ExprError, Lookup, Part, Value};
+use m51_expr::{ExprError, Lookup, Part, Value, whole};
 use m51_isa::{Field, Jump, Verb};
 use m51_module::Form;
 
 // A statement at 1000H of a segment.
 #[derive(Clone, Copy)]
-struct At {
-    segment: u8,
+pub(crate) struct At {
+    pub(crate) segment: u8,
 }
 
 impl Lookup for At {
@@ -21,7 +19,12 @@ impl Lookup for At {
     ghost use Rattle.m51_cells.specs.declared.kind.Kind.TheVariants as kind;
     ghost use Rattle.m51_expr.specs.declared.value.Part.TheVariants.{Whole};
 
-    ghost meanings = { λ t. record { value = λ name. None; here = record { number = 0x1000; class = kind.Code; base = base.Segment t.segment; part = Whole }; fixed = λ s. nat_lt s 3; bitaddressable = λ s. false } };
+    ghost meanings = { λ t. record {
+      value = λ name. None;
+      here = record { number = 0x1000; class = kind.Code; base = base.Segment t.segment; part = Whole };
+      fixed = λ s. nat_lt s 3;
+      bitaddressable = λ s. false;
+    } };
 
     fn value(&self, _name: &Name) -> Option<Value> {
         None
@@ -40,17 +43,6 @@ impl Lookup for At {
     }
 }
 
-fn whole(number: u16, class: Kind, base: Base) -> Value
-    ensures { result ≡ record { number = number; class = class; base = base; part = Whole } }
-{
-    Value {
-        number,
-        class,
-        base,
-        part: Part::Whole,
-    }
-}
-
 // A code address of a segment.
 fn code(segment: u8, number: u16) -> Value {
     whole(number, Kind::Code, Base::Segment(segment))
@@ -61,8 +53,8 @@ fn number(number: u16) -> Value {
 }
 
 // What a value gives two bytes after 1000H of a segment.
-fn given(segment: u8, place: Field, value: Value) -> Option<FieldValue> {
-    field_value(&At { segment }, place, 0x1002, value)
+fn given(segment: u8, field: Field, value: Value) -> Option<FieldValue> {
+    field_value(&At { segment }, field, 0x1002, value)
 }
 
 fn a(number: u16) -> Option<FieldValue> {
@@ -70,17 +62,17 @@ fn a(number: u16) -> Option<FieldValue> {
 }
 
 // The form of the reference that it gives there.
-fn form(segment: u8, place: Field, value: Value) -> Option<Form> {
-    match given(segment, place, value) {
+fn form(segment: u8, field: Field, value: Value) -> Option<Form> {
+    match given(segment, field, value) {
         Some(FieldValue::Linked(reference)) => Some(reference.form),
         _ => None,
     }
 }
 
 // What an external under an operator gives.
-fn of_external(place: Field, part: Part) -> Option<FieldValue> {
+fn of_external(field: Field, part: Part) -> Option<FieldValue> {
     let external = whole(7, Kind::Number, Base::External(5));
-    given(1, place, Value { part, ..external })
+    given(1, field, Value { part, ..external })
 }
 
 fn linked(form: Form, bit: u8) -> Option<FieldValue> {
@@ -93,7 +85,7 @@ fn linked(form: Form, bit: u8) -> Option<FieldValue> {
 }
 
 #[test]
-fn a_reference_has_the_form_of_its_place(rt: HostRuntime) {
+fn a_reference_has_the_form_of_its_field(rt: HostRuntime) {
     assert_eq!(rt;
         of_external(Field::Data, Part::Whole),
         linked(Form::Byte, 0)
@@ -139,7 +131,7 @@ fn an_operator_over_a_base_stands_in_8_bits(rt: HostRuntime) {
 }
 
 #[test]
-fn a_number_is_in_the_range_of_its_place(rt: HostRuntime) {
+fn a_number_is_in_the_range_of_its_field(rt: HostRuntime) {
     assert_eq!(rt; given(1, Field::Data, number(0xFF)), a(0xFF));
     assert_eq!(rt; given(1, Field::Data, number(0x100)), None);
     assert_eq!(rt; given(1, Field::Data, number(0xFEFF)), None);
@@ -150,7 +142,7 @@ fn a_number_is_in_the_range_of_its_place(rt: HostRuntime) {
 }
 
 #[test]
-fn a_value_is_of_the_class_of_its_place(rt: HostRuntime) {
+fn a_value_is_of_the_class_of_its_field(rt: HostRuntime) {
     let direct = whole(0x20, Kind::Direct, Base::None);
     let outside = whole(9, Kind::Xdata, Base::External(5));
     assert_eq!(rt; given(1, Field::Direct, code(1, 0x20)), None);

@@ -1,17 +1,17 @@
 //! What the operands of a line give in the fields of its row.
 ghost use Rattle.std.specs.Prelude.{◌≡◌};
 ghost use Rattle.m51_expr.specs.Tree.{tree_of};
-ghost use Rattle.m51_stmt.specs.Statement.{operand_tree};
+ghost use Rattle.m51_expr.specs.Evaluation.{value_of};
+ghost use Rattle.m51_expr.specs.Operand.{operand_tree};
 ghost use Rattle.m51_coding.specs.Coding.{seen};
-ghost use Rattle.m51_coding.specs.Filling.{nothing, holding, valued, filled_by, filled, expression, beginning_at};
-ghost use Rattle.m51_coding.specs.Filling.{reference_at, references_of};
+ghost use Rattle.m51_coding.specs.Filling.{or_out_of_range, fielded, held_at, filled_by, filled, expression};
+ghost use Rattle.m51_coding.specs.Filling.{beginning_at, reference_at, references_of};
 
 use crate::field_values::field_value;
 use crate::reference::{FieldValue, Reference};
 use m51_cells::OUT_OF_RANGE;
-use m51_expr::{Expr, ExprError, Lookup, Value, value_of};
-use m51_isa::FieldSlot;
-use m51_stmt::Operand;
+use m51_expr::{Expr, ExprError, Lookup, Operand, Value, value_of};
+use m51_isa::{Field, FieldSlot};
 
 /// The fault E`number` of an instruction: 11 where the instruction table has no such row, 7 to 10 for an operand that
 /// has no value, as [`m51_expr::ExprError`] has them, 14 for a value out of range or class.
@@ -42,39 +42,67 @@ const OUT_OF_FIELD: CodingError = CodingError {
     number: OUT_OF_RANGE,
 };
 
-// What a field holds.
-fn holding(byte: u8, held: Option<FieldValue>) -> Result<Held, CodingError>
-    ensures { result ≡ holding byte held }
+// A value that has no field is out of its range or class.
+fn or_out_of_range(held: Option<FieldValue>) -> Result<FieldValue, CodingError>
+    ensures { result ≡ or_out_of_range held }
 {
     match held {
-        Some(FieldValue::Number(number)) => Ok(Held {
-            number,
-            byte,
-            reference: None,
-        }),
-        Some(FieldValue::Linked(reference)) => Ok(Held {
-            number: 0,
-            byte,
-            reference: Some(reference),
-        }),
+        Some(held) => Ok(held),
         None => Err(OUT_OF_FIELD),
     }
 }
 
 // What a value gives in the field.
-fn valued<L: Lookup>(
+fn fielded<L: Lookup>(
     names: &L,
     next: u16,
-    slot: FieldSlot,
+    field: Field,
     value: Result<Value, ExprError>,
-) -> Result<Held, CodingError>
-    ensures { result ≡ valued (L.meanings names.now) next slot.field slot.byte value }
+) -> Result<FieldValue, CodingError>
+    ensures { result ≡ fielded (L.meanings names.now) next field value }
 {
     match value {
-        Ok(value) => holding(slot.byte, field_value(names, slot.field, next, value)),
+        Ok(value) => or_out_of_range(field_value(names, field, next, value)),
         Err(error) => Err(CodingError {
             number: error.number,
         }),
+    }
+}
+
+/// What an expression gives in a field of a statement. `next` is the address after the statement, as for
+/// [`field_value`](crate::field_value).
+///
+/// Errors: E7 to E10 where it has no value, as [`m51_expr::ExprError`] has them, E14 where its value is out of range or
+/// class.
+///
+/// Source: own choice ("Fields").
+pub fn expression_field<L: Lookup>(
+    names: &L,
+    field: Field,
+    next: u16,
+    expr: &Expr,
+) -> Result<FieldValue, CodingError>
+    ensures { let names = L.meanings names.now in
+        result ≡ fielded names next field (value_of names (tree_of expr.now)) }
+{
+    fielded(names, next, field, value_of(expr, names))
+}
+
+// What the field that begins at a byte holds.
+fn held_at(byte: u8, held: FieldValue) -> Held
+    ensures { result ≡ held_at byte held }
+{
+    match held {
+        FieldValue::Number(number) => Held {
+            number,
+            byte,
+            reference: None,
+        },
+        FieldValue::Linked(reference) => Held {
+            number: 0,
+            byte,
+            reference: Some(reference),
+        },
     }
 }
 
@@ -86,7 +114,8 @@ fn of_expression<L: Lookup>(
 ) -> Result<Held, CodingError>
     ensures { result ≡ filled_by (L.meanings names.now) next slot (Some (tree_of expr.now)) }
 {
-    valued(names, next, slot, value_of(expr, names))
+    let held = expression_field(names, slot.field, next, expr)?;
+    Ok(held_at(slot.byte, held))
 }
 
 // What an operand gives in the field.

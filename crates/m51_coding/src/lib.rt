@@ -10,18 +10,22 @@ mod field_laws;
 mod field_tests;
 mod field_values;
 mod filling;
+mod item;
 mod laws;
+mod outcome;
 mod reference;
 mod taking;
 #[cfg(test)]
 mod tests;
 
 pub use choosing::jump_form;
-pub use coding::{Coded, code, length_of};
+pub use coding::{Coded, Coding, code, length_of};
 pub use field_laws::{
     blocks_lead_to_targets, chosen_jumps_reach, references_have_bits, relatives_lead_to_targets,
 };
 pub use field_values::field_value;
-pub use filling::CodingError;
-pub use laws::{coded_stands_for_line, statements_have_rows};
+pub use filling::{CodingError, expression_field};
+pub use item::{Width, item_field, push_item};
+pub use laws::{coded_stands_for_line, forms_have_rows, operands_fail_by_five, outcomes_tell};
+pub use outcome::Outcome;
 pub use reference::{FieldValue, Reference};

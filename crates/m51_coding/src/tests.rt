@@ -1,207 +1,12 @@
-//! Instructions with the bytes that the family manual gives them, at 1000H of an absolute segment.
-ghost use Rattle.std.specs.Prelude.{◌≡◌, slice_index};
-ghost use Rattle.m51_expr.specs.declared.value.Part.TheVariants.{Whole};
-
-use crate::{Coded, code, length_of};
-use m51_cells::{Base, Kind, Name};
-use m51_expr::{Lookup, Part, Value};
+//! Instructions that are built from their operands, at 1000H of an absolute segment.
+use crate::field_tests::At;
+use crate::{code, length_of};
+use m51_cells::{NO_INSTRUCTION, Name};
+use m51_expr::{Expr, Operand};
 use m51_isa::Jump;
-use m51_module::Form;
-use m51_stmt::{Body, Operand, StmtError, read_line};
-use std::alloc::Global;
 use std::test::Fail;
 
-// A statement at 1000H of the absolute segment 1. F and so on are code at 10H of the relocatable segment 2, B and so on
-// data there, and other names have no value.
-#[derive(Clone, Copy)]
-struct Absolute;
-
-fn letter_of(name: &Name) -> u8
-    ensures { result ≡ slice_index name.now 0 }
-{
-    match name.bytes() {
-        [letter, ..] => *letter,
-        [] => 0,
-    }
-}
-
-fn whole(number: u16, class: Kind, base: Base) -> Value
-    ensures { result ≡ record { number = number; class = class; base = base; part = Whole } }
-{
-    Value {
-        number,
-        class,
-        base,
-        part: Part::Whole,
-    }
-}
-
-impl Lookup for Absolute {
-    ghost use Rattle.std.specs.Prelude.{◌==◌, if◌then◌else◌, slice_index, Some, None, false};
-    ghost use Rattle.m51_cells.specs.declared.kind.Base.TheVariants as base;
-    ghost use Rattle.m51_cells.specs.declared.kind.Kind.TheVariants as kind;
-    ghost use Rattle.m51_expr.specs.declared.value.Part.TheVariants.{Whole};
-
-    ghost meanings = { λ t. record { value = λ name. if slice_index name 0 == 70 then Some (record { number = 0x10; class = kind.Code; base = base.Segment 2; part = Whole }) else if slice_index name 0 == 66 then Some (record { number = 0x10; class = kind.Direct; base = base.Segment 2; part = Whole }) else None; here = record { number = 0x1000; class = kind.Code; base = base.Segment 1; part = Whole }; fixed = λ s. s == 1; bitaddressable = λ s. false } };
-
-    fn value(&self, name: &Name) -> Option<Value> {
-        let letter = letter_of(name);
-        if letter == b'F' {
-            Some(whole(0x10, Kind::Code, Base::Segment(2)))
-        } else if letter == b'B' {
-            Some(whole(0x10, Kind::Direct, Base::Segment(2)))
-        } else {
-            None
-        }
-    }
-
-    fn here(&self) -> Value {
-        whole(0x1000, Kind::Code, Base::Segment(1))
-    }
-
-    fn fixed(&self, segment: u8) -> bool {
-        segment == 1
-    }
-
-    fn bitaddressable(&self, _segment: u8) -> bool {
-        false
-    }
-}
-
-// The answer for a line, or the number of its fault, which is 0 for out of memory.
-fn answer(alloc: Global, line: &str, jump: Jump) -> Result<Coded, u8> {
-    let stmt = match read_line(alloc, line) {
-        Ok(stmt) => stmt,
-        Err(StmtError::Fault { number }) => return Err(number),
-        Err(StmtError::Memory) => return Err(0),
-    };
-    match &stmt.body {
-        Body::Code(mnemonic, operands) => {
-            code(&Absolute, mnemonic, operands.as_slice(), jump).map_err(|error| error.number)
-        }
-        _ => Err(12),
-    }
-}
-
-// Each line has its bytes and their number in its comment.
-const LINES: &str = "\
-NOP ; 000000 1\n\
-MOV A,#5 ; 740500 2\n\
-MOV 30H,31H ; 853130 3\n\
-MOV P,#1 ; fault 7\n\
-MOV DPTR,#1234H ; 901234 3\n\
-MOV R7,30H ; AF3000 2\n\
-MOV 30H,@R1 ; 873000 2\n\
-MOV 8,C ; 920800 2\n\
-ADD A,R7 ; 2F0000 1\n\
-SUBB A,#-1 ; 94FF00 2\n\
-XRL 30H,#0FH ; 63300F 3\n\
-ANL C,/22H ; B02200 2\n\
-XCHD A,@R1 ; D70000 1\n\
-MUL AB ; A40000 1\n\
-MOVC A,@A+PC ; 830000 1\n\
-MOVX @DPTR,A ; F00000 1\n\
-PUSH 0E0H ; C0E000 2\n\
-DJNZ R2,$ ; DAFE00 2\n\
-CJNE @R0,#1,$+130 ; B6017F 3\n\
-JB 22H,$-125 ; 202280 3\n\
-AJMP 1705H ; E10500 2\n\
-ACALL 1005H ; 110500 2\n\
-LCALL 1234H ; 121234 3\n\
-JMP @A+DPTR ; 730000 1\n\
-JMP 1005H ; 021005 3\n\
-CALL 1005H ; 121005 3\n\
-LJMP FAR ; 020000 3\n\
-AJMP FAR ; 010000 2\n\
-CJNE A,#100H,X ; fault 14\n\
-CJNE A,#X,$+131 ; fault 7\n\
-CJNE A,#1,$+131 ; fault 14\n\
-AJMP 1805H ; fault 14\n\
-MOV C,1/0 ; fault 9\n\
-MOV BUF+1,#LOW BUF ; 750000 3";
-
-fn told(alloc: Global, line: &str) -> Result<String, Fail> {
-    match answer(alloc, line, Jump::Long) {
-        Ok(coded) => {
-            let [a, b, c] = coded.code.bytes;
-            let len = coded.code.len;
-            Ok(format!(in alloc; "{a:02X}{b:02X}{c:02X} {len}")?)
-        }
-        Err(number) => Ok(format!(in alloc; "fault {number}")?),
-    }
-}
-
-#[test]
-fn rows_have_the_bytes_of_the_manual_and_the_leftmost_fault_comes(
-    rt: HostRuntime,
-) -> Result<(), Fail> {
-    for line in LINES.lines() {
-        let (_, wanted) = line.split_once("; ").ok_or("no comment")?;
-        let told = told(rt.alloc(), line)?;
-        assert_eq!(rt; told.as_str(), wanted, "at {line}");
-    }
-    Ok(())
-}
-
-// The first two bytes of a generic jump in a form.
-fn front(alloc: Global, line: &str, jump: Jump) -> Result<(u8, u8, u8), Fail> {
-    let coded = answer(alloc, line, jump).ok().ok_or("a fault")?;
-    let [a, b, _] = coded.code.bytes;
-    Ok((a, b, coded.code.len))
-}
-
-#[test]
-fn a_generic_jump_stands_for_that_of_its_form(rt: HostRuntime) -> Result<(), Fail> {
-    assert_eq!(rt;
-        front(rt.alloc(), "JMP 1005H", Jump::Short)?,
-        (0x80, 0x03, 2)
-    );
-    assert_eq!(rt;
-        front(rt.alloc(), "JMP 1105H", Jump::Block)?,
-        (0x21, 0x05, 2)
-    );
-    assert_eq!(rt;
-        front(rt.alloc(), "CALL 1105H", Jump::Block)?,
-        (0x31, 0x05, 2)
-    );
-    assert_eq!(rt;
-        front(rt.alloc(), "CALL 1105H", Jump::Long)?,
-        (0x12, 0x11, 3)
-    );
-    Ok(())
-}
-
-// The form of the reference whose field begins at each byte.
-fn forms(alloc: Global, line: &str) -> Result<(Option<Form>, Option<Form>, Option<Form>), Fail> {
-    let coded = answer(alloc, line, Jump::Long).ok().ok_or("a fault")?;
-    let [a, b, c] = coded.references;
-    Ok((
-        a.map(|reference| reference.form),
-        b.map(|reference| reference.form),
-        c.map(|reference| reference.form),
-    ))
-}
-
-#[test]
-fn a_reference_lies_where_its_field_begins(rt: HostRuntime) -> Result<(), Fail> {
-    assert_eq!(rt;
-        forms(rt.alloc(), "LJMP FAR")?,
-        (None, Some(Form::Word), None)
-    );
-    assert_eq!(rt;
-        forms(rt.alloc(), "ACALL FAR")?,
-        (Some(Form::Inblock), None, None)
-    );
-    assert_eq!(rt;
-        forms(rt.alloc(), "MOV 30H,BUF")?,
-        (None, Some(Form::Byte), None)
-    );
-    assert_eq!(rt;
-        forms(rt.alloc(), "MOV BUF,#HIGH FAR")?,
-        (None, Some(Form::Byte), Some(Form::High))
-    );
-    Ok(())
-}
+const STATEMENT: At = At { segment: 1 };
 
 #[test]
 fn what_no_row_has_is_e11_and_has_no_length(rt: HostRuntime) -> Result<(), Fail> {
@@ -209,16 +14,28 @@ fn what_no_row_has_is_e11_and_has_no_length(rt: HostRuntime) -> Result<(), Fail>
     let wrong = [Operand::A, Operand::Ab];
     assert_eq!(rt; length_of(&mov, &wrong, Jump::Long), None);
     assert_eq!(rt;
-        code(&Absolute, &mov, &wrong, Jump::Long).map_err(|e| e.number),
-        Err(11)
+        code(&STATEMENT, &mov, &wrong, Jump::Long)
+            .coded
+            .map_err(|e| e.number),
+        Err(NO_INSTRUCTION)
     );
     assert_eq!(rt;
         length_of(&mov, &[Operand::A, Operand::R(8)], Jump::Long),
         None
     );
-    assert_eq!(rt;
-        length_of(&mov, &[Operand::A, Operand::R(7)], Jump::Long),
-        Some(1)
-    );
+    Ok(())
+}
+
+#[test]
+fn a_row_has_its_bytes_and_their_length(rt: HostRuntime) -> Result<(), Fail> {
+    let mov = Name::of(b"MOV").ok_or("no name")?;
+    let operands = [Operand::R(7), Operand::Imm(Expr::Number(0x12))];
+    let coded = code(&STATEMENT, &mov, &operands, Jump::Long)
+        .coded
+        .ok()
+        .ok_or("a fault")?;
+    assert_eq!(rt; coded.code.bytes, [0x7F, 0x12, 0]);
+    assert_eq!(rt; coded.code.len, 2);
+    assert_eq!(rt; length_of(&mov, &operands, Jump::Long), Some(2));
     Ok(())
 }

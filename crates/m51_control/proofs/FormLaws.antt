@@ -9,6 +9,7 @@ use Rattle.std.proofs.lemmas.Bool.{eq-eqb, and_parts, not-true, or_right}
 use Rattle.std.proofs.lemmas.Bool.Decides.{nat_tests}
 use Rattle.std.proofs.lemmas.Option.{same_Some}
 use Rattle.m51_cells.proofs.Passing.{goes_on, pass_append, weaker}
+use Rattle.m51_cells.proofs.Small.{either}
 use Rattle.m51_control.specs.declared.control.Control.{Control}
 use Rattle.m51_control.specs.declared.control.Control.TheVariants.{Add, Cut, NoOverlay, Order}
 use Rattle.m51_control.specs.declared.control.Class.{Class}
@@ -22,11 +23,6 @@ use Rattle.m51_control.proofs.CutLaws.{cut_sound, cut_complete}
 use Rattle.m51_control.proofs.PartLaws.{is_field_byte, field_lacks}
 use Rattle.m51_control.proofs.NameLaws.{name_sound, name_complete, name_field, names_sound, names_complete, names_bytes, is_list_byte, word_sound, word_complete, word_field}
 use Rattle.m51_control.proofs.ReserveLaws.{WritesBounds, WritesReserve, reserve_sound, reserve_complete}
-
--- one of two ways to a value
-either : {A P : Type 0} (b : Bool) (x y : Option A) (z : A) → cond b x y ≡ Some z → (b ≡ true → x ≡ Some z → P) → (b ≡ false → y ≡ Some z → P) → P
-either true x y z h first second = first refl h
-either false x y z h first second = second refl h
 
 add_says : (word inside : List ℕ) (control : Control) → word ≡ codes "OVERLAY" → add inside ≡ Some control → Says word inside control
 add_says word inside control is h =

@@ -9,7 +9,9 @@ use Rattle.std.proofs.Math.Seq.{take-append_seam, drop-cons, drop-length, get_or
 use Rattle.m51_cells.specs.Name.{name_of}
 use Rattle.m51_cells.proofs.Passing.{goes_on, pass_append, weaker}
 use Rattle.m51_control.specs.declared.control.Control.{Control}
-use Rattle.m51_control.specs.Parts.{opening, closing, is_blank, is_sign, cut_at, before_last, before_blanks}
+use Rattle.m51_cells.specs.Blanks.{is_blank}
+use Rattle.m51_cells.specs.declared.limits.TheConstants.{MOST_LINE_BYTES}
+use Rattle.m51_control.specs.Parts.{opening, closing, is_sign, cut_at, before_last, before_blanks}
 use Rattle.m51_control.specs.Grammar.{by_word, call_of, control_of}
 use Rattle.m51_control.specs.Written.{AreBlanks, Writes}
 use Rattle.m51_control.proofs.CutLaws.{Lacks, cut_sound, cut_complete}
@@ -80,13 +82,13 @@ call_complete line call w =
     ∙ ap (λ o. option_and_then (λ word. option_and_then (λ inside. Some (word, inside)) (before_last closing after)) o) w.is_word
     ∙ ap (λ o. option_and_then (λ inside. Some (call.0, inside)) o) (last_complete closing call.1)
 
-long_or_not : (control : Control) (line : List ℕ) (t : Bool) → nat_lt 255 (length line) ≡ t → cond t None (option_and_then (λ (call : List ℕ × List ℕ). by_word call.0 call.1) (call_of line)) ≡ Some control → Writes line control
+long_or_not : (control : Control) (line : List ℕ) (t : Bool) → nat_lt MOST_LINE_BYTES (length line) ≡ t → cond t None (option_and_then (λ (call : List ℕ × List ℕ). by_word call.0 call.1) (call_of line)) ≡ Some control → Writes line control
 long_or_not control line true long h = absurd (cc)
 long_or_not control line false long h =
     let call = goes_on _ (call_of line) control h in
     let w = call_sound line call.value call.found in
     record {
-      short = ltb-false 255 (length line) long;
+      short = ltb-false MOST_LINE_BYTES (length line) long;
       part = w.part;
       word = call.value.0;
       blanks = w.blanks;
@@ -100,10 +102,10 @@ long_or_not control line false long h =
 line_complete : (line : List ℕ) (control : Control) → Writes line control → control_of line ≡ Some control
 line_complete line control w =
     let call : WritesCall line (w.word, w.inside) = record { part = w.part; blanks = w.blanks; is_word = w.is_word; blank = w.blank; is = w.is } in
-    ap (λ t. cond t None (option_and_then (λ (call : List ℕ × List ℕ). by_word call.0 call.1) (call_of line))) (le-ltb 255 (length line) w.short)
+    ap (λ t. cond t None (option_and_then (λ (call : List ℕ × List ℕ). by_word call.0 call.1) (call_of line))) (le-ltb MOST_LINE_BYTES (length line) w.short)
     ∙ ap (λ o. option_and_then (λ (call : List ℕ × List ℕ). by_word call.0 call.1) o) (call_complete line (w.word, w.inside) call)
     ∙ says_complete w.word w.inside control w.says
 
 -- what is read of a line is what is written in it
 pub line_law : (line : List ℕ) (control : Control) → (control_of line ≡ Some control) ↔ Writes line control
-line_law line control = (long_or_not control line (nat_lt 255 (length line)) refl, line_complete line control)
+line_law line control = (long_or_not control line (nat_lt MOST_LINE_BYTES (length line)) refl, line_complete line control)

@@ -3,7 +3,8 @@ use Rattle.std.proofs.Common.{◌≡◌, ℕ, ◌+◌, ◌≤◌, false, cond, L
 use Rattle.std.specs.List.{All}
 use Rattle.std.proofs.lemmas.List.Elements.{All-append, All-from_recursion}
 use Rattle.m51_control.specs.declared.control.Control.{Control}
-use Rattle.m51_control.specs.Grammar.{control_of, is_skipped}
+use Rattle.m51_control.specs.Grammar.{control_of}
+use Rattle.m51_cells.specs.Blanks.{is_skipped}
 use Rattle.m51_control.specs.Controls.{Read, with_line, read_from, IsAllowed}
 
 -- names before those that follow

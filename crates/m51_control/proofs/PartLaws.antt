@@ -8,7 +8,8 @@ use Rattle.std.proofs.lemmas.Bool.Decides.{nat_tests}
 use Rattle.std.proofs.lemmas.Bool.{and_parts, or_right}
 use Rattle.m51_cells.specs.Name.{is_name_byte}
 use Rattle.m51_cells.proofs.Passing.{front_passes, pass_append, run_len, stops_at, weaker}
-use Rattle.m51_control.specs.Parts.{at_sign, is_blank, is_sign, before_blanks, part_of}
+use Rattle.m51_cells.specs.Blanks.{is_blank}
+use Rattle.m51_control.specs.Parts.{at_sign, is_sign, before_blanks, part_of}
 use Rattle.m51_control.specs.Written.{AreBlanks, Surrounds}
 use Rattle.m51_control.proofs.CutLaws.{Lacks}
 

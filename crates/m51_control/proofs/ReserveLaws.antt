@@ -12,7 +12,8 @@ use Rattle.m51_lex.specs.Tokens.{tokens_of}
 use Rattle.m51_cells.proofs.Passing.{goes_on, guarded, pass_append, weaker}
 use Rattle.m51_control.specs.declared.control.Control.{Control}
 use Rattle.m51_control.specs.declared.control.Control.TheVariants.{Reserve}
-use Rattle.m51_control.specs.Parts.{opening, closing, hyphen, is_blank, is_sign, cut_at, part_of, word_in}
+use Rattle.m51_cells.specs.Blanks.{is_blank}
+use Rattle.m51_control.specs.Parts.{opening, closing, hyphen, is_sign, cut_at, part_of, word_in}
 use Rattle.m51_control.specs.Reserve.{number_of_tokens, number_of, number_in, bounds_of, space_of, is_range, IsRange, reserve_of, closed, memory_of, reserve}
 use Rattle.m51_control.specs.Written.{AreBlanks, WritesWord, WritesNumber}
 use Rattle.m51_control.proofs.CutLaws.{Lacks, cut_sound, cut_complete}

@@ -4,12 +4,13 @@ use Rattle.std.specs.Prelude.{Err}
 use Rattle.std.specs.List.{All}
 use Rattle.std.specs.Str.Lines.{lines}
 use Rattle.m51_cells.specs.declared.limits.TheConstants.{MOST_CONTROL_LINES}
+use Rattle.m51_cells.specs.Blanks.{is_skipped}
 use Rattle.m51_control.specs.declared.control.Control.{Control}
 use Rattle.m51_control.specs.declared.control.Control.TheVariants.{Reserve}
 use Rattle.m51_control.specs.declared.error.ControlError.{ControlError}
 use Rattle.m51_control.specs.declared.error.ControlError.TheVariants.{C1, Limit, Memory}
 use Rattle.m51_control.specs.Reserve.{IsRange}
-use Rattle.m51_control.specs.Grammar.{control_of, is_skipped}
+use Rattle.m51_control.specs.Grammar.{control_of}
 
 -- controls with the numbers of their lines, or why there are none
 abbrev pub Read : Type 0

@@ -1,16 +1,16 @@
 -- The grammar of control lines.
-use Rattle.std.specs.Prelude.{ℕ, Bool, true, ◌||◌, ◌==◌, nat_lt, if◌then◌else◌, List, [], ◌∷◌, length, codes, Option}
+use Rattle.std.specs.Prelude.{ℕ, nat_lt, if◌then◌else◌, List, length, codes, Option}
 use Rattle.std.specs.Prelude.{Some, None}
-use Rattle.std.specs.List.{list_all, list_any}
+use Rattle.std.specs.List.{list_any}
 use Rattle.std.specs.Str.{bytes_eq}
 use Rattle.m51_cells.specs.Name.{name_of}
-use Rattle.m51_lex.specs.Characters.{semicolon}
 use Rattle.m51_control.specs.declared.control.Control.{Control}
 use Rattle.m51_control.specs.declared.control.Control.TheVariants.{Add, Cut, NoOverlay, Order}
 use Rattle.m51_control.specs.declared.control.Class.{Class}
 use Rattle.m51_control.specs.declared.control.Class.TheVariants as class
 use Rattle.m51_control.specs.declared.naming.Role.TheVariants as role
-use Rattle.m51_control.specs.Parts.{◌>>=◌, opening, closing, comma, greater, tilde, is_blank, is_sign, cut_at}
+use Rattle.m51_cells.specs.declared.limits.TheConstants.{MOST_LINE_BYTES}
+use Rattle.m51_control.specs.Parts.{◌>>=◌, opening, closing, comma, greater, tilde, is_sign, cut_at}
 use Rattle.m51_control.specs.Parts.{before_last, before_blanks, word_in}
 use Rattle.m51_control.specs.Naming.{named, names_in}
 use Rattle.m51_control.specs.Reserve.{reserve}
@@ -86,9 +86,5 @@ call_of line = do
 
 -- the control of a line, which has at most 255 bytes
 abbrev pub control_of : List ℕ → Option Control
-control_of line = if nat_lt 255 (length line) then None else call_of line >>= (λ call. by_word call.0 call.1)
-
--- a line that says nothing: it is empty, holds only blanks, or begins with ;
-abbrev pub is_skipped : List ℕ → Bool
-is_skipped [] = true
-is_skipped (first ∷ rest) = first == semicolon || list_all is_blank (first ∷ rest)
+control_of line =
+    if nat_lt MOST_LINE_BYTES (length line) then None else call_of line >>= (λ call. by_word call.0 call.1)

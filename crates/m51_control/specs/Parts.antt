@@ -1,10 +1,10 @@
 -- The parts of a control line: words and signs, round which blanks may stand.
-use Rattle.std.specs.Prelude.{◌≡◌, ℕ, ◌-◌, Bool, ◌||◌, ◌&&◌, ◌==◌, nat_lt, if◌then◌else◌, List, [], ◌∷◌, take, drop}
+use Rattle.std.specs.Prelude.{◌≡◌, ℕ, ◌-◌, Bool, ◌&&◌, ◌==◌, nat_lt, if◌then◌else◌, List, [], ◌∷◌, take, drop}
 use Rattle.std.specs.Prelude.{length, Option}
 use Rattle.std.specs.Prelude.{Some, None, option_and_then, slice_index}
 use Rattle.std.specs.List.{list_all, prefix_len, position_or_len, slice_split, before_first, after_first}
+use Rattle.m51_cells.specs.Blanks.{is_blank}
 use Rattle.m51_cells.specs.Name.{name_of}
-use Rattle.m51_lex.specs.Characters.{space, tab}
 
 -- goes on with a value, where there is one
 infixl 10 ◌>>=◌
@@ -32,10 +32,6 @@ at_sign = 0x40
 
 abbrev pub tilde : ℕ
 tilde = 0x7E
-
--- a space or a tab
-abbrev pub is_blank : ℕ → Bool
-is_blank byte = byte == space || byte == tab
 
 -- the byte is this sign
 abbrev pub is_sign : ℕ → ℕ → Bool

@@ -11,7 +11,8 @@ use Rattle.m51_lex.specs.declared.token.What.TheVariants.{Number}
 use Rattle.m51_lex.specs.Tokens.{Cut, tokens_of}
 use Rattle.m51_control.specs.declared.control.Control.{Control}
 use Rattle.m51_control.specs.declared.control.Control.TheVariants.{Reserve}
-use Rattle.m51_control.specs.Parts.{◌>>=◌, opening, closing, hyphen, is_blank, cut_at, part_of, word_in}
+use Rattle.m51_cells.specs.Blanks.{is_blank}
+use Rattle.m51_control.specs.Parts.{◌>>=◌, opening, closing, hyphen, cut_at, part_of, word_in}
 
 -- the number that a token is
 abbrev pub number_of_token : What → Option ℕ

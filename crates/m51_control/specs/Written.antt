@@ -8,7 +8,9 @@ use Rattle.m51_control.specs.declared.control.Control.TheVariants.{Add, Cut, NoO
 use Rattle.m51_control.specs.declared.control.Class.{Class}
 use Rattle.m51_control.specs.declared.naming.Role.{Role}
 use Rattle.m51_control.specs.declared.naming.Role.TheVariants as role
-use Rattle.m51_control.specs.Parts.{opening, closing, comma, hyphen, greater, tilde, is_blank}
+use Rattle.m51_cells.specs.Blanks.{is_blank}
+use Rattle.m51_cells.specs.declared.limits.TheConstants.{MOST_LINE_BYTES}
+use Rattle.m51_control.specs.Parts.{opening, closing, comma, hyphen, greater, tilde}
 use Rattle.m51_control.specs.Naming.{name_as}
 use Rattle.m51_control.specs.Reserve.{IsRange, number_of, space_of}
 use Rattle.m51_control.specs.Grammar.{class_named}
@@ -83,7 +85,7 @@ pub data Says (word inside : List ℕ) (control : Control) : Type 0 where
 
 -- The line writes the control: a word in either case, blanks, and a text in parentheses; none stands before or after.
 pub record Writes (line : List ℕ) (control : Control) : Type 0 where
-  pub short : length line ≤ 255
+  pub short : length line ≤ MOST_LINE_BYTES
   pub part : List ℕ
   pub word : List ℕ
   pub blanks : List ℕ

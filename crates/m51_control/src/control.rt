@@ -32,7 +32,7 @@ pub enum Control {
     Add(Name, Names),
     /// `OVERLAY(u ~ v, w)`: the first unit calls none of the others, though it refers to them.
     Cut(Name, Names),
-    /// `NOOVERLAY(u)`: the locals of the unit share no cell with any other segment.
+    /// `NOOVERLAY(u)`: the locals and arguments of the unit share no cell with any other segment.
     NoOverlay(Name),
     /// `RESERVE(DATA(lo-hi))` or `RESERVE(XDATA(lo-hi))`: no relocatable segment lies in these bytes of internal RAM or
     /// external data memory, the first and the last among them.

@@ -8,7 +8,8 @@ use std::alloc::Global;
 use std::marker::Model;
 
 /// Controls, each with the number of its line, which contracts see as the list of these pairs. There are at most 1,000,
-/// and each reserve is a range of RAM, up to 0FFH, or of external data memory, with at most 65,535 bytes.
+/// and each reserve is a range of RAM, up to 0FFH, or of external data memory, up to 0FFFFH, where it has at most
+/// 65,535 bytes.
 ///
 /// Source: own choice ("Control lines").
 #[derive(Drop)]

@@ -16,7 +16,7 @@ pub enum ControlError {
     /// There are over 1,000 lines.
     #[error("there are over 1,000 control lines")]
     Limit,
-    /// Want of memory.
+    /// Out of memory.
     #[error("out of memory")]
     Memory,
 }

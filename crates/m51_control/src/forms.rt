@@ -4,13 +4,13 @@ ghost use Rattle.std.specs.List.{list_any};
 ghost use Rattle.m51_control.specs.Controls.{IsAllowed};
 ghost use Rattle.m51_control.specs.Parts.{is_sign};
 ghost use Rattle.m51_control.specs.Grammar.{add, cut, overlay, no_overlay, class_named, ordered_of, order, by_word};
-ghost use Rattle.m51_control.specs.Grammar.{call_of, control_of, is_skipped};
+ghost use Rattle.m51_control.specs.Grammar.{call_of, control_of};
 
 use crate::naming::{Role, named, names_in};
-use crate::parts::{are_blanks, before_blanks, before_last, cut_at, word_in};
+use crate::parts::{before_blanks, before_last, cut_at, word_in};
 use crate::reserving::reserve;
 use crate::{Class, Control};
-use m51_cells::{Name, NoMemory};
+use m51_cells::{MOST_LINE_BYTES, Name, NoMemory};
 use std::alloc::Global;
 
 // Whether this sign stands in the text.
@@ -150,21 +150,11 @@ pub(crate) fn control_of(alloc: Global, line: &[u8]) -> Result<Option<Control>, 
     ensures control { IfOk result (λ control. control ≡ control_of line.now) }
     ensures allowed { IfOk result (λ control. IfSome control IsAllowed) }
 {
-    if line.len() > 255 {
+    if line.len() > MOST_LINE_BYTES {
         return Ok(None);
     }
     match call_of(line) {
         Some((word, inside)) => by_word(alloc, word.bytes(), inside),
         None => Ok(None),
-    }
-}
-
-// Whether a line says nothing: it is empty, holds only blanks, or begins with `;`.
-pub(crate) fn is_skipped(line: &[u8]) -> bool
-    ensures { result ≡ is_skipped line.now }
-{
-    match line {
-        [] => true,
-        [first, ..] => *first == b';' || are_blanks(line),
     }
 }

@@ -1,40 +1,10 @@
 //! The parts of a control line.
 ghost use Rattle.std.specs.Prelude.{◌≡◌, ◌≤◌, ◌<◌, IfSome, MatchOption, length, option_map};
-ghost use Rattle.std.specs.List.{list_all, prefix_len, position_or_len};
-ghost use Rattle.m51_control.specs.Parts.{IsOnePart, SplitsInto, is_blank, is_sign, cut_at, before_last, before_blanks};
+ghost use Rattle.std.specs.List.{position_or_len};
+ghost use Rattle.m51_control.specs.Parts.{IsOnePart, SplitsInto, is_sign, cut_at, before_last, before_blanks};
 ghost use Rattle.m51_control.specs.Parts.{part_of, word_in};
 
-use m51_cells::Name;
-
-// Whether the byte is a space or a tab.
-pub(crate) fn is_blank(byte: u8) -> bool
-    ensures { result ≡ is_blank byte }
-{
-    byte == b' ' || byte == b'\t'
-}
-
-// Whether each byte is a space or a tab.
-pub(crate) fn are_blanks(text: &[u8]) -> bool
-    ensures { result ≡ list_all is_blank text.now }
-{
-    text.iter().all(|byte| is_blank(*byte))
-}
-
-// How many blanks come first.
-fn blank_len(text: &[u8]) -> usize
-    ensures len { result ≡ prefix_len is_blank text.now }
-    ensures within { result ≤ length text.now }
-{
-    text.iter().take_while(|byte| is_blank(**byte)).count()
-}
-
-// How many bytes stand before the first blank.
-fn part_len(text: &[u8]) -> usize
-    ensures len { result ≡ position_or_len is_blank text.now }
-    ensures within { result ≤ length text.now }
-{
-    text.iter().take_while(|byte| !is_blank(**byte)).count()
-}
+use m51_cells::{Name, are_blanks, blank_len, part_len};
 
 // How many bytes stand before the first of these signs.
 fn sign_place(sign: u8, text: &[u8]) -> usize

@@ -10,22 +10,9 @@ ghost use Rattle.m51_control.specs.Controls.{read_from, controls_of, refusal_of}
 
 use crate::controls::Controls;
 use crate::error::ControlError;
-use crate::forms::{control_of, is_skipped};
-use m51_cells::{MOST_CONTROL_LINES, first_line};
+use crate::forms::control_of;
+use m51_cells::{MOST_CONTROL_LINES, first_line, is_skipped, line_count};
 use std::alloc::Global;
-
-// How many lines there are.
-fn line_count(bytes: &[u8]) -> usize
-    ensures { result ≡ length (lines bytes.now) }
-{
-    let mut count = 0;
-    let mut rest = bytes;
-    while let Some((_line, after)) = first_line(rest) {
-        count += 1;
-        rest = after;
-    }
-    count
-}
 
 // The controls of at most 1,000 lines.
 fn read_lines(alloc: Global, bytes: &[u8]) -> Result<Controls, ControlError>
@@ -52,8 +39,8 @@ fn read_lines(alloc: Global, bytes: &[u8]) -> Result<Controls, ControlError>
 /// Reads a file of control lines. A line ends in LF or CR LF, which the last may lack. A line that is empty, holds only
 /// blanks or begins with `;` is skipped, and counts.
 ///
-/// Errors: `Limit` for over 1,000 lines, or else `C1` with the first line that is no control, counted from 1; or want
-/// of memory.
+/// Errors: `Limit` for over 1,000 lines, or else `C1` with the first line that is neither skipped nor a control,
+/// counted from 1 with the skipped ones; out of memory.
 ///
 /// Source: own choice ("Control lines").
 pub fn read_controls(alloc: Global, bytes: &[u8]) -> Result<Controls, ControlError>

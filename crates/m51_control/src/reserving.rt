@@ -7,8 +7,8 @@ ghost use Rattle.m51_control.specs.Reserve.{number_of_tokens, number_of, number_
 ghost use Rattle.m51_control.specs.Reserve.{IsRange, reserve_of, closed, memory_of, reserve};
 
 use crate::Control;
-use crate::parts::{are_blanks, cut_at, part_of, word_in};
-use m51_cells::{NoMemory, Space};
+use crate::parts::{cut_at, part_of, word_in};
+use m51_cells::{NoMemory, Space, are_blanks};
 use m51_lex::{LexError, Token, What, tokens};
 use std::alloc::Global;
 

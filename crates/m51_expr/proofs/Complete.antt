@@ -1,13 +1,11 @@
 -- What is in the grammar, and does not go on, is read.
-use Rattle.std.proofs.Common.{◌≡◌, ℕ, ◌+◌, ◌-◌, ◌*◌, ◌<◌, ◌≤◌, ◌==◌, cond, true, List, length, Option, Some, None, option_map, refl, sym, ap, ◌∙◌, arith, subst, ⊎_elim, slice_get}
+use Rattle.std.proofs.Common.{◌≡◌, ℕ, ◌+◌, ◌-◌, ◌*◌, ◌<◌, ◌≤◌, ◌==◌, cond, true, List, length, Option, Some, None, refl, sym, ap, ◌∙◌, arith, subst, ⊎_elim, slice_get}
 use Rattle.std.proofs.str.Laws.{order}
-use Rattle.m51_lex.specs.declared.token.Token.{Token}
 use Rattle.std.proofs.lemmas.Option.{slice_get_within}
 use Rattle.m51_expr.specs.declared.symbol.Symbol.{Symbol}
-use Rattle.m51_expr.specs.Symbol.{symbol_of, symbol_at}
 use Rattle.m51_expr.specs.Tree.{Tree, One, Two}
 use Rattle.m51_expr.specs.Ranks.{prefix_of, is_open, is_close, leaf_of}
-use Rattle.m51_expr.specs.Reading.{Line, Reads, and_on, closed, leaf_at, read, more, enough, expression_at}
+use Rattle.m51_expr.specs.Reading.{Line, line_of, Reads, and_on, closed, leaf_at, read, more, enough, expression_in}
 use Rattle.m51_expr.specs.Grammar.{Writes, Leaf, Parens, Before, Between, Tighter, Ends, IsExpression}
 use Rattle.m51_expr.proofs.Ranking.{of_prefix, infix_below, leaf_no_prefix, leaf_not_open, open_no_prefix, close_no_infix, no_tighter_infix, no_looser_prefix, ends_at, ends_above}
 use Rattle.m51_expr.proofs.Steps.{below, read_operand, read_prefix, read_plain, more_ends, more_goes}
@@ -126,29 +124,21 @@ complete {line} {rank} {at} {e} {to} (Tighter low inner) n some ends =
 pub complete_at : (n : ℕ) (line : Line) (at : ℕ) (e : Tree) (to : ℕ) → IsExpression line 0 at e to → enough (to - at) 0 ≤ n → read n line 0 at ≡ Some (e, to)
 complete_at n line at e to found some = finish n line 0 at e to (omega arith) some found.ends (complete found.writes n some (ends_above line 0 (0 + 1) to (omega arith) found.ends))
 
--- a symbol stands within the tokens
-some_within : (line : List ℕ) (tokens : List Token) (at : ℕ) (o : Option Token) → slice_get tokens at ≡ o → (s : Symbol) → option_map (symbol_of line) o ≡ Some s → at < length tokens
-some_within line tokens at None is s h = absurd (cc h)
-some_within line tokens at (Some t) is s h = slice_get_within tokens at t is
+leaf_within : (symbols : List Symbol) (at : ℕ) (o : Option Symbol) → slice_get symbols at ≡ o → (e : Tree) → leaf_of o ≡ Some e → at < length symbols
+leaf_within symbols at None is e h = absurd (cc h)
+leaf_within symbols at (Some s) is e h = slice_get_within symbols at s is
 
-symbol_within : (line : List ℕ) (tokens : List Token) (at : ℕ) (s : Symbol) → symbol_at line tokens at ≡ Some s → at < length tokens
-symbol_within line tokens at s h = some_within line tokens at (slice_get tokens at) refl s h
+close_within : (symbols : List Symbol) (at : ℕ) (o : Option Symbol) → slice_get symbols at ≡ o → is_close o ≡ true → at < length symbols
+close_within symbols at None is h = absurd (cc h)
+close_within symbols at (Some s) is h = slice_get_within symbols at s is
 
-leaf_within : (line : List ℕ) (tokens : List Token) (at : ℕ) (o : Option Symbol) → symbol_at line tokens at ≡ o → (e : Tree) → leaf_of o ≡ Some e → at < length tokens
-leaf_within line tokens at None is e h = absurd (cc h)
-leaf_within line tokens at (Some s) is e h = symbol_within line tokens at s is
+-- what symbols write ends within them
+pub ends_within : (symbols : List Symbol) {rank from : ℕ} {e : Tree} {to : ℕ} → Writes (line_of symbols) rank from e to → to ≤ length symbols
+ends_within symbols {rank} {from} {e} {to} (Leaf is leaf end) = omega (arith, end, leaf_within symbols from (slice_get symbols from) refl e leaf)
+ends_within symbols (Parens {last = last} is open' inner close end) = omega (arith, end, close_within symbols last (slice_get symbols last) refl close)
+ends_within symbols (Before is inner) = ends_within symbols inner
+ends_within symbols (Between lefts is rights) = ends_within symbols rights
+ends_within symbols (Tighter low inner) = ends_within symbols inner
 
-close_within : (line : List ℕ) (tokens : List Token) (at : ℕ) (o : Option Symbol) → symbol_at line tokens at ≡ o → is_close o ≡ true → at < length tokens
-close_within line tokens at None is h = absurd (cc h)
-close_within line tokens at (Some s) is h = symbol_within line tokens at s is
-
--- what the tokens of a line write ends within them
-ends_within : (line : List ℕ) (tokens : List Token) {rank from : ℕ} {e : Tree} {to : ℕ} → Writes (symbol_at line tokens) rank from e to → to ≤ length tokens
-ends_within line tokens {rank} {from} {e} {to} (Leaf is leaf end) = omega (arith, end, leaf_within line tokens from (symbol_at line tokens from) refl e leaf)
-ends_within line tokens (Parens {last = last} is open' inner close end) = omega (arith, end, close_within line tokens last (symbol_at line tokens last) refl close)
-ends_within line tokens (Before is inner) = ends_within line tokens inner
-ends_within line tokens (Between lefts is rights) = ends_within line tokens rights
-ends_within line tokens (Tighter low inner) = ends_within line tokens inner
-
-pub expression_is : (line : List ℕ) (tokens : List Token) (from : ℕ) (e : Tree) (to : ℕ) → IsExpression (symbol_at line tokens) 0 from e to → expression_at line tokens from ≡ Some (e, to)
-expression_is line tokens from e to found = complete_at (enough (length tokens - from) 0) (symbol_at line tokens) from e to found (omega (arith, ends_within line tokens found.writes))
+pub expression_is : (symbols : List Symbol) (e : Tree) (to : ℕ) → IsExpression (line_of symbols) 0 0 e to → expression_in symbols ≡ Some (e, to)
+expression_is symbols e to found = complete_at (enough (length symbols) 0) (line_of symbols) 0 e to found (omega (arith, ends_within symbols found.writes))

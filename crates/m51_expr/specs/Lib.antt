@@ -9,3 +9,6 @@ pub mod Meanings
 pub mod Operators
 pub mod Bits
 pub mod Evaluation
+pub mod Operand
+pub mod Looks
+pub mod FaultLaws

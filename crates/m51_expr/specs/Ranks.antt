@@ -1,8 +1,9 @@
 -- The ranks of operators. A higher rank is tighter.
-use Rattle.std.specs.Prelude.{ℕ, Bool, true, false, ◌==◌, if◌then◌else◌, Option, Some, None}
+use Rattle.std.specs.Prelude.{ℕ, ◌+◌, ◌*◌, Bool, true, false, ◌==◌, if◌then◌else◌, List, [], ◌∷◌, Option, Some, None}
+use Rattle.std.specs.Prelude.{option_map}
 use Rattle.m51_expr.specs.declared.symbol.Symbol.{Symbol}
 use Rattle.m51_expr.specs.declared.symbol.Symbol.TheVariants.{Number, Name, Here, Open, Close, Plus, Minus, Prefix}
-use Rattle.m51_expr.specs.declared.symbol.Symbol.TheVariants.{Infix}
+use Rattle.m51_expr.specs.declared.symbol.Symbol.TheVariants.{Infix, Text}
 use Rattle.m51_expr.specs.declared.tree.Unary.{Unary}
 use Rattle.m51_expr.specs.declared.tree.Unary.TheVariants as unary
 use Rattle.m51_expr.specs.declared.tree.Binary.{Binary}
@@ -68,9 +69,16 @@ abbrev pub is_close : Option Symbol → Bool
 is_close (Some Close) = true
 is_close _ = false
 
--- the tree that a symbol is of itself: a number, a name, the place of the statement
+-- the number that a text of one or two characters is, the first one high
+abbrev pub text_value : List ℕ → Option ℕ
+text_value (c ∷ []) = Some c
+text_value (c ∷ d ∷ []) = Some (256 * c + d)
+text_value other = None
+
+-- the tree that a symbol is of itself: a number, a short text as a number, a name, the place of the statement
 abbrev pub leaf_of : Option Symbol → Option Tree
 leaf_of (Some (Number n)) = Some (tree.Number n)
+leaf_of (Some (Text characters)) = option_map tree.Number (text_value characters)
 leaf_of (Some (Name name)) = Some (tree.Name name)
 leaf_of (Some Here) = Some tree.Here
 leaf_of _ = None

@@ -1,9 +1,8 @@
 -- The tree that symbols write, by the ranks of their operators, as a function. What it means is said in Grammar.
 use Rattle.std.specs.Prelude.{ℕ, zero, suc, ◌+◌, ◌-◌, ◌*◌, ◌==◌, if◌then◌else◌, List, length, Option, Some, None}
-use Rattle.std.specs.Prelude.{Result, Ok, Err, Bool, true, false}
+use Rattle.std.specs.Prelude.{Result, Ok, Err, Bool, true, false, slice_get}
 use Rattle.m51_cells.specs.Outcome.{Gives}
 use Rattle.m51_cells.specs.declared.fault.TheConstants.{NO_EXPRESSION}
-use Rattle.m51_lex.specs.declared.token.Token.{Token}
 use Rattle.m51_expr.specs.declared.tree.Unary.{Unary}
 use Rattle.m51_expr.specs.declared.tree.Binary.{Binary}
 use Rattle.m51_expr.specs.declared.tree.Expr.{Expr}
@@ -11,7 +10,6 @@ use Rattle.m51_expr.specs.declared.fault.ReadError.{ReadError}
 use Rattle.m51_expr.specs.declared.fault.ReadError.TheVariants.{Fault, Memory}
 use Rattle.m51_expr.specs.declared.symbol.Symbol.{Symbol}
 use Rattle.m51_expr.specs.Tree.{Tree, One, Two, tree_of}
-use Rattle.m51_expr.specs.Symbol.{symbol_at}
 use Rattle.m51_expr.specs.Ranks.{prefix_of, infix_of, is_open, is_close, leaf_of}
 
 -- the symbol at each place
@@ -75,9 +73,13 @@ unfoldable mutual
 abbrev pub enough : ℕ → ℕ → ℕ
 enough left rank = 10 * left + (9 - rank)
 
--- the expression that begins at a place of the tokens, or none
-abbrev pub expression_at : List ℕ → List Token → ℕ → Reads
-expression_at line tokens at = read (enough (length tokens - at) 0) (symbol_at line tokens) 0 at
+-- the symbol at each place of a list, and none past its end
+abbrev pub line_of : List Symbol → Line
+line_of symbols at = slice_get symbols at
+
+-- the longest expression that the symbols begin with, and how many of them it has, or none
+abbrev pub expression_in : List Symbol → Reads
+expression_in symbols = read (enough (length symbols) 0) (line_of symbols) 0 0
 
 -- the tree and the place that a function handed out
 abbrev pub tree_and_place : Expr × ℕ → Tree × ℕ

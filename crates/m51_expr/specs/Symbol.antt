@@ -1,6 +1,6 @@
 -- What a token is in an expression (the assembler's rules of words, texts and signs).
-use Rattle.std.specs.Prelude.{ℕ, ◌+◌, ◌-◌, ◌*◌, ◌==◌, if◌then◌else◌, List, [], ◌∷◌, length, Option, Some, None}
-use Rattle.std.specs.Prelude.{option_map, codes, slice_get, slice_range, max}
+use Rattle.std.specs.Prelude.{ℕ, ◌-◌, ◌==◌, if◌then◌else◌, List, [], ◌∷◌, length, Option, Some, None}
+use Rattle.std.specs.Prelude.{codes, slice_range, max}
 use Rattle.std.specs.Str.{bytes_eq}
 use Rattle.m51_cells.specs.Name.{name_of}
 use Rattle.m51_lex.specs.Characters.{quote}
@@ -14,26 +14,15 @@ use Rattle.m51_expr.specs.declared.tree.Unary.TheVariants as unary
 use Rattle.m51_expr.specs.declared.tree.Binary.TheVariants as binary
 use Rattle.m51_expr.specs.Words.{is_language_word}
 
--- The first character of what stands between quotes, and what follows it. Two quotes stand for one.
-abbrev pub next_character : List ℕ → Option (ℕ × List ℕ)
-next_character [] = None
-next_character (c ∷ []) = Some (c, [])
-next_character (c ∷ d ∷ more) = if c == quote then Some (c, more) else Some (c, d ∷ more)
+-- The characters of what stands between quotes. Two quotes stand for one.
+abbrev pub characters : List ℕ → List ℕ
+characters [] = []
+characters (c ∷ []) = c ∷ []
+characters (c ∷ d ∷ more) = if c == quote then c ∷ characters more else c ∷ characters (d ∷ more)
 
--- a character with the one that follows it, if no third does
-abbrev pub two_characters : ℕ → Option (ℕ × List ℕ) → Option ℕ
-two_characters first None = Some first
-two_characters first (Some (second, [])) = Some (256 * first + second)
-two_characters first (Some (second, c ∷ more)) = None
-
--- the same from the first character on
-abbrev pub one_or_two_characters : Option (ℕ × List ℕ) → Option ℕ
-one_or_two_characters None = None
-one_or_two_characters (Some (first, more)) = two_characters first (next_character more)
-
--- the number that a text of one or two characters is, the first one high
-abbrev pub text_value : List ℕ → Option ℕ
-text_value text = one_or_two_characters (next_character text)
+-- what stands between the quotes of a text
+abbrev pub between_quotes : List ℕ → List ℕ
+between_quotes text = slice_range text 1 (max (length text) 2 - 1)
 
 -- what a sign is, by its character, which stands after it; no other character is a sign
 abbrev pub sign_symbol : ℕ → Symbol
@@ -81,11 +70,6 @@ operator_or_word word None = if is_language_word word then Word word else Name w
 abbrev pub word_symbol : List ℕ → Symbol
 word_symbol word = operator_or_word word (operator_of word)
 
--- a text with a number, or one without
-abbrev pub number_or_text : Option ℕ → Symbol
-number_or_text (Some n) = Number n
-number_or_text None = Text
-
 -- a word, where its bytes are a name; never asked of others, since a name has at most 31 bytes
 abbrev pub word_or_other : Option (List ℕ) → Symbol
 word_or_other (Some word) = word_symbol word
@@ -95,13 +79,9 @@ word_or_other None = Other
 abbrev pub symbol_by : What → List ℕ → Symbol
 symbol_by what.Name text = word_or_other (name_of text)
 symbol_by (what.Number n) text = Number n
-symbol_by what.Text text = number_or_text (text_value (slice_range text 1 (max (length text) 2 - 1)))
+symbol_by what.Text text = Text (characters (between_quotes text))
 symbol_by (what.Sign sign) text = sign_symbol sign
 
 -- what a token of the line is
 unfoldable pub symbol_of : List ℕ → Token → Symbol
 symbol_of line t = symbol_by t.what (slice_range line t.from t.to)
-
--- what the token at a place is
-abbrev pub symbol_at : List ℕ → List Token → ℕ → Option Symbol
-symbol_at line tokens at = option_map (symbol_of line) (slice_get tokens at)

@@ -1,6 +1,7 @@
 -- Values of expressions: what parts and bit addresses are (this project's rules of values).
 use Rattle.std.specs.Prelude.{ℕ, ◌+◌, ◌-◌, ◌*◌, ◌/◌, ◌%◌, ◌==◌, Bool, true, false, ◌&&◌, nat_lt, nat_le, if◌then◌else◌}
 use Rattle.std.specs.Prelude.{Option, Some, None, Result, Err, unwrap_or}
+use Rattle.m51_cells.specs.declared.kind.Base.{Base}
 use Rattle.m51_cells.specs.declared.kind.Base.TheVariants as base
 use Rattle.m51_cells.specs.declared.kind.Kind.{Kind}
 use Rattle.m51_expr.specs.declared.value.Part.{Part}
@@ -16,9 +17,13 @@ Valued A = Result A ExprError
 abbrev pub fault : {A : Type 0} → ℕ → Valued A
 fault k = Err (record { number = k })
 
+-- a number that counts from a base, under no operator
+abbrev pub whole : ℕ → Kind → Base → Value
+whole n class b = record { number = n; class = class; base = b; part = Whole }
+
 -- a number without a base
 abbrev pub plain : ℕ → Kind → Value
-plain n class = record { number = n; class = class; base = base.None; part = Whole }
+plain n class = whole n class base.None
 
 -- neither HIGH, LOW nor the dot stands over the number
 abbrev pub is_whole : Part → Bool

@@ -2,17 +2,7 @@
 use Rattle.std.specs.Prelude.{ℕ, Bool, ◌||◌, List, [], ◌∷◌, codes}
 use Rattle.std.specs.List.{list_any}
 use Rattle.std.specs.Str.{bytes_eq}
-
--- the instructions, with the generic JMP and CALL
-abbrev pub mnemonics : List (List ℕ)
-mnemonics =
-    codes "ACALL" ∷ codes "ADD" ∷ codes "ADDC" ∷ codes "AJMP" ∷ codes "ANL" ∷ codes "CALL" ∷ codes "CJNE" ∷
-    codes "CLR" ∷ codes "CPL" ∷ codes "DA" ∷ codes "DEC" ∷ codes "DIV" ∷ codes "DJNZ" ∷ codes "INC" ∷
-    codes "JB" ∷ codes "JBC" ∷ codes "JC" ∷ codes "JMP" ∷ codes "JNB" ∷ codes "JNC" ∷ codes "JNZ" ∷
-    codes "JZ" ∷ codes "LCALL" ∷ codes "LJMP" ∷ codes "MOV" ∷ codes "MOVC" ∷ codes "MOVX" ∷ codes "MUL" ∷
-    codes "NOP" ∷ codes "ORL" ∷ codes "POP" ∷ codes "PUSH" ∷ codes "RET" ∷ codes "RETI" ∷ codes "RL" ∷
-    codes "RLC" ∷ codes "RR" ∷ codes "RRC" ∷ codes "SETB" ∷ codes "SJMP" ∷ codes "SUBB" ∷ codes "SWAP" ∷
-    codes "XCH" ∷ codes "XCHD" ∷ codes "XRL" ∷ []
+use Rattle.m51_isa.specs.Mnemonics.{mnemonics}
 
 -- the words that begin directives and definitions, and AT
 abbrev pub directives : List (List ℕ)

@@ -1,10 +1,13 @@
-//! Reads the expressions of an assembler line as trees, and gives their values.
+//! Reads the expressions of an assembler line as trees, gives their values, and says what operands of instructions are.
 #![tactic(auto)]
 
 mod bits;
 mod evaluating;
 mod fault;
+mod laws;
+mod looks;
 mod lookup;
+mod operand;
 mod operators;
 mod ranks;
 mod reading;
@@ -17,10 +20,14 @@ mod words;
 
 pub use evaluating::value_of;
 pub use fault::{ExprError, ReadError};
+pub use laws::values_fail_by_four;
+pub use looks::{has_form, look_of};
 pub use lookup::{Lookup, is_absolute, is_unplaced};
 pub use m51_cells::Base;
+pub use operand::{Item, Items, Operand, Operands};
+pub use ranks::{is_close, is_open};
 pub use reading::read_expr;
-pub use symbol::{Symbol, symbol_at};
+pub use symbol::{Symbol, symbols};
 pub use tree::{Binary, Expr, Unary};
-pub use value::{Part, Value, bit_address, counted, plain};
+pub use value::{Part, Value, bit_address, counted, plain, whole};
 pub use words::{BANK_REGISTERS, is_reserved};

@@ -1,17 +1,14 @@
 //! Reads expressions by the ranks of their operators.
-ghost use Rattle.std.specs.Prelude.{◌≡◌, ◌≤◌, ◌<◌, ◌-◌, ℕ, All, IfOk, Some, length, ◌+◌};
-ghost use Rattle.m51_lex.specs.Tokens.{IsWithin};
-ghost use Rattle.m51_expr.specs.Symbol.{symbol_at};
+ghost use Rattle.std.specs.Prelude.{◌≡◌, ◌≤◌, ◌<◌, ◌-◌, ℕ, IfOk, IsSome, Some, length, ◌+◌, option_copied};
 ghost use Rattle.m51_expr.specs.Tree.{Tree, tree_of};
 ghost use Rattle.m51_expr.specs.Grammar.{IsExpression};
-ghost use Rattle.m51_expr.specs.Reading.{GivesTree, read, more, operand, enough, expression_at};
+ghost use Rattle.m51_expr.specs.Reading.{GivesTree, line_of, read, more, operand, enough, expression_in};
 
 use crate::fault::ReadError;
-use crate::ranks::{OPERAND, infix_of, leaf_of, prefix_of};
-use crate::symbol::{Symbol, symbol_at};
+use crate::ranks::{OPERAND, infix_of, is_close, is_open, leaf_of, prefix_of};
+use crate::symbol::Symbol;
 use crate::tree::{Expr, one, two};
 use m51_cells::NO_EXPRESSION;
-use m51_lex::Token;
 use std::alloc::Global;
 
 // No expression stands there.
@@ -19,32 +16,37 @@ const FAULT: ReadError = ReadError::Fault {
     number: NO_EXPRESSION,
 };
 
+// The symbol at a place, if there is one.
+fn symbol_at(symbols: &[Symbol], at: usize) -> Option<&Symbol>
+    ensures symbol { option_copied result ≡ line_of symbols.now at }
+    ensures within { IsSome result → at < length symbols.now }
+{
+    if at >= symbols.len() {
+        None
+    } else {
+        Some(&symbols[at])
+    }
+}
+
 // The expression of this rank that begins at a place, and the place after it.
 #[cycle(reader)]
-fn read(
-    alloc: Global,
-    line: &[u8],
-    tokens: &[Token],
-    rank: u8,
-    at: usize,
-) -> Result<(Expr, usize), ReadError>
+fn read(alloc: Global, symbols: &[Symbol], rank: u8, at: usize) -> Result<(Expr, usize), ReadError>
     requires rank { rank ≤ 8 }
-    requires tokens { All (IsWithin (length line.now)) tokens.now }
-    ensures gives { (n : ℕ) → enough (length tokens.now - at) rank ≤ n
-        → GivesTree result (read n (symbol_at line.now tokens.now) rank at) }
-    ensures within { IfOk result (λ r. (at < r.1) × (r.1 ≤ length tokens.now)) }
+    ensures gives { (n : ℕ) → enough (length symbols.now - at) rank ≤ n
+        → GivesTree result (read n (line_of symbols.now) rank at) }
+    ensures within { IfOk result (λ r. (at < r.1) × (r.1 ≤ length symbols.now)) }
 {
     if rank == OPERAND {
-        return operand(alloc, line, tokens, at);
+        return operand(alloc, symbols, at);
     }
-    match prefix_of(&symbol_at(line, tokens, at), rank) {
+    match prefix_of(symbol_at(symbols, at), rank) {
         Some(op) => {
-            let (inner, next) = read(alloc, line, tokens, rank, at + 1)?;
+            let (inner, next) = read(alloc, symbols, rank, at + 1)?;
             Ok((one(alloc, op, inner)?, next))
         }
         None => {
-            let (left, next) = read(alloc, line, tokens, rank + 1, at)?;
-            more(alloc, line, tokens, rank, left, next)
+            let (left, next) = read(alloc, symbols, rank + 1, at)?;
+            more(alloc, symbols, rank, left, next)
         }
     }
 }
@@ -53,77 +55,63 @@ fn read(
 #[cycle(reader)]
 fn more(
     alloc: Global,
-    line: &[u8],
-    tokens: &[Token],
+    symbols: &[Symbol],
     rank: u8,
     left: Expr,
     at: usize,
 ) -> Result<(Expr, usize), ReadError>
     requires rank { rank < 8 }
-    requires tokens { All (IsWithin (length line.now)) tokens.now }
-    requires within { at ≤ length tokens.now }
-    ensures gives { (n : ℕ) → enough (length tokens.now - at) 8 ≤ n
-        → GivesTree result (more n (symbol_at line.now tokens.now) rank (tree_of left) at) }
-    ensures within { IfOk result (λ r. (at ≤ r.1) × (r.1 ≤ length tokens.now)) }
+    requires within { at ≤ length symbols.now }
+    ensures gives { (n : ℕ) → enough (length symbols.now - at) 8 ≤ n
+        → GivesTree result (more n (line_of symbols.now) rank (tree_of left) at) }
+    ensures within { IfOk result (λ r. (at ≤ r.1) × (r.1 ≤ length symbols.now)) }
 {
-    let Some(op) = infix_of(&symbol_at(line, tokens, at), rank) else {
+    let Some(op) = infix_of(symbol_at(symbols, at), rank) else {
         return Ok((left, at));
     };
-    let (right, next) = read(alloc, line, tokens, rank + 1, at + 1)?;
+    let (right, next) = read(alloc, symbols, rank + 1, at + 1)?;
     let both = two(alloc, op, left, right)?;
-    more(alloc, line, tokens, rank, both, next)
+    more(alloc, symbols, rank, both, next)
 }
 
 // A number, a name, the place of the statement, or an expression in parentheses.
 #[cycle(reader)]
-fn operand(
-    alloc: Global,
-    line: &[u8],
-    tokens: &[Token],
-    at: usize,
-) -> Result<(Expr, usize), ReadError>
-    requires tokens { All (IsWithin (length line.now)) tokens.now }
-    ensures gives { (n : ℕ) → enough (length tokens.now - at) 9 ≤ n
+fn operand(alloc: Global, symbols: &[Symbol], at: usize) -> Result<(Expr, usize), ReadError>
+    ensures gives { (n : ℕ) → enough (length symbols.now - at) 9 ≤ n
         → GivesTree result
-        (operand (symbol_at line.now tokens.now) at (read n (symbol_at line.now tokens.now) 0 (at + 1))) }
-    ensures within { IfOk result (λ r. (at < r.1) × (r.1 ≤ length tokens.now)) }
+        (operand (line_of symbols.now) at (read n (line_of symbols.now) 0 (at + 1))) }
+    ensures within { IfOk result (λ r. (at < r.1) × (r.1 ≤ length symbols.now)) }
 {
-    let symbol = symbol_at(line, tokens, at);
-    if symbol.as_ref().is_some_and(Symbol::is_open) {
-        let (inner, next) = read(alloc, line, tokens, 0, at + 1)?;
-        if symbol_at(line, tokens, next).is_some_and(|sign| sign.is_close()) {
+    let symbol = symbol_at(symbols, at);
+    if is_open(symbol) {
+        let (inner, next) = read(alloc, symbols, 0, at + 1)?;
+        if is_close(symbol_at(symbols, next)) {
             Ok((inner, next + 1))
         } else {
             Err(FAULT)
         }
     } else {
-        match leaf_of(&symbol) {
+        match leaf_of(symbol) {
             Some(leaf) => Ok((leaf, at + 1)),
             None => Err(FAULT),
         }
     }
 }
 
-/// The longest expression that begins at a place of the line's tokens, and the place after it, counted in tokens.
+/// The longest expression that the symbols begin with, and how many of them it has.
 ///
-/// Errors: E6 where no expression stands there; or out of memory.
+/// Errors: E6 where no expression begins them; or out of memory.
 ///
 /// Source: own choice ("Ranks of operators").
-pub fn read_expr(
-    alloc: Global,
-    line: &str,
-    tokens: &[Token],
-    from: usize,
-) -> Result<(Expr, usize), ReadError>
-    requires { All (IsWithin (length line.now)) tokens.now }
+pub fn read_expr(alloc: Global, symbols: &[Symbol]) -> Result<(Expr, usize), ReadError>
     // The tree that reading by ranks gives, or E6.
-    ensures gives { GivesTree result (expression_at line.now tokens.now from) }
+    ensures gives { GivesTree result (expression_in symbols.now) }
     // It is an expression of the grammar.
-    ensures sound { IfOk result (λ r. IsExpression (symbol_at line.now tokens.now) 0 from (tree_of r.0) r.1) }
+    ensures sound { IfOk result (λ r. IsExpression (line_of symbols.now) 0 0 (tree_of r.0) r.1) }
     // An expression of the grammar is this one: so there is one at most, and E6 comes only where there is none.
-    ensures complete { (e : Tree) (to : ℕ) → IsExpression (symbol_at line.now tokens.now) 0 from e to
+    ensures complete { (e : Tree) (to : ℕ) → IsExpression (line_of symbols.now) 0 0 e to
         → GivesTree result (Some (e, to)) }
-    ensures within { IfOk result (λ r. (from < r.1) × (r.1 ≤ length tokens.now)) }
+    ensures within { IfOk result (λ r. (0 < r.1) × (r.1 ≤ length symbols.now)) }
 {
-    read(alloc, line.as_bytes(), tokens, 0, from)
+    read(alloc, symbols, 0, 0)
 }

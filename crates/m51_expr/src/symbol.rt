@@ -1,28 +1,30 @@
 //! What a token is in an expression.
-ghost use Rattle.std.specs.Prelude.{◌≡◌, ◌<◌, All, IsSome, length, option_map, Some};
+ghost use Rattle.std.specs.Prelude.{◌≡◌, ◌<◌, ◌++◌, All, IfOk, length, map};
+ghost use Rattle.m51_cells.specs.Name.{name_of};
 ghost use Rattle.m51_lex.specs.Tokens.{IsWithin};
-ghost use Rattle.m51_expr.specs.Ranks.{is_open, is_close};
-ghost use Rattle.m51_expr.specs.Symbol.{next_character, text_value, sign_symbol, operator_of, word_symbol, symbol_of};
-ghost use Rattle.m51_expr.specs.Symbol.{symbol_at};
+ghost use Rattle.m51_expr.specs.declared.symbol.Symbol.TheVariants.{Text};
+ghost use Rattle.m51_expr.specs.Symbol.{characters, between_quotes, sign_symbol, operator_of, word_or_other};
+ghost use Rattle.m51_expr.specs.Symbol.{word_symbol, symbol_of};
 
 use crate::tree::{Binary, Unary};
 use crate::words::is_language_word;
-use m51_cells::Name;
+use m51_cells::{Bytes, Name, NoMemory};
 use m51_lex::{Token, What};
+use std::alloc::Global;
 
 /// What a token is in an expression.
 ///
 /// Source: own choice ("Words and names").
 #[derive(Drop)]
 pub enum Symbol {
-    /// A number, or a text of one or two characters as a number, the first character high.
+    /// A number.
     Number(u16),
+    /// A text, by its characters.
+    Text(Bytes),
     /// A name, which is no reserved word, or one of `AR0` to `AR7`.
     Name(Name),
     /// A reserved word that is neither an operator nor one of `AR0` to `AR7`.
     Word(Name),
-    /// A text of no character, or of more than two.
-    Text,
     /// `$`
     Here,
     /// `(`
@@ -49,49 +51,20 @@ pub enum Symbol {
     Other,
 }
 
-impl Symbol {
-    /// Whether it is an opening parenthesis.
-    ///
-    /// Source: own choice ("Words and names").
-    pub fn is_open(&self) -> bool
-        ensures { result ≡ is_open (Some self.now) }
-    {
-        matches!(self, Symbol::Open)
-    }
-
-    /// Whether it is a closing parenthesis.
-    ///
-    /// Source: own choice ("Words and names").
-    pub fn is_close(&self) -> bool
-        ensures { result ≡ is_close (Some self.now) }
-    {
-        matches!(self, Symbol::Close)
-    }
-}
-
-// The first character of what stands between quotes, and what follows it. Two quotes stand for one.
-fn next_character(text: &[u8]) -> Option<(u8, &[u8])>
-    ensures { option_map (λ c. (c.0, c.1.now)) result ≡ next_character text.now }
+// The characters of what stands between quotes, after some that are read. Two quotes stand for one.
+fn characters(text: &[u8], mut done: Bytes) -> Result<Bytes, NoMemory>
+    ensures { IfOk result (λ all. all ≡ done ++ characters text.now) }
 {
     match text {
-        [] => None,
-        [b'\'', _, more @ ..] => Some((b'\'', more)),
-        [first, more @ ..] => Some((*first, more)),
-    }
-}
-
-// The number that a text of one or two characters is.
-fn text_value(text: &[u8]) -> Option<u16>
-    ensures { result ≡ text_value text.now }
-{
-    let (first, rest) = next_character(text)?;
-    let Some((second, rest)) = next_character(rest) else {
-        return Some(u16::from(first));
-    };
-    if rest.is_empty() {
-        Some(u16::from(first) * 256 + u16::from(second))
-    } else {
-        None
+        [] => Ok(done),
+        [b'\'', _, more @ ..] => {
+            done.push(b'\'')?;
+            characters(more, done)
+        }
+        [first, more @ ..] => {
+            done.push(*first)?;
+            characters(more, done)
+        }
     }
 }
 
@@ -167,37 +140,53 @@ fn word_symbol(word: Name) -> Symbol
     }
 }
 
-// What a token of the line is.
-#[tactic(auto, unfolding(crate::specs::Symbol::symbol_of))]
-fn symbol_of(line: &[u8], token: &Token) -> Symbol
-    requires { IsWithin (length line.now) token.now }
-    ensures { result ≡ symbol_of line.now token.now }
+// What a word is, in either case.
+fn named(text: &[u8]) -> Symbol
+    ensures { result ≡ word_or_other (name_of text.now) }
 {
-    let text = &line[token.from as usize..token.to as usize];
-    match token.what {
-        What::Number(n) => Symbol::Number(n),
-        What::Sign(sign) => sign_symbol(sign),
-        What::Name => match Name::of(text) {
-            Some(word) => word_symbol(word),
-            None => Symbol::Other,
-        },
-        What::Text => match text_value(&text[1..text.len().max(2) - 1]) {
-            Some(n) => Symbol::Number(n),
-            None => Symbol::Text,
-        },
+    match Name::of(text) {
+        Some(word) => word_symbol(word),
+        None => Symbol::Other,
     }
 }
 
-/// What the token at a place of the line's tokens is, if there is one.
+// A text, of which the quotes are among the bytes.
+fn quoted(alloc: Global, text: &[u8]) -> Result<Symbol, NoMemory>
+    requires { 0 < length text.now }
+    ensures { IfOk result (λ symbol. symbol ≡ Text (characters (between_quotes text.now))) }
+{
+    let inner = &text[1..text.len().max(2) - 1];
+    Ok(Symbol::Text(characters(inner, Bytes::new(alloc))?))
+}
+
+// What a token of the line is.
+#[tactic(auto, unfolding(crate::specs::Symbol::symbol_of))]
+fn symbol_of(alloc: Global, line: &[u8], token: &Token) -> Result<Symbol, NoMemory>
+    requires { IsWithin (length line.now) token.now }
+    ensures { IfOk result (λ symbol. symbol ≡ symbol_of line.now token.now) }
+{
+    let text = &line[token.from as usize..token.to as usize];
+    match token.what {
+        What::Number(n) => Ok(Symbol::Number(n)),
+        What::Sign(sign) => Ok(sign_symbol(sign)),
+        What::Name => Ok(named(text)),
+        What::Text => quoted(alloc, text),
+    }
+}
+
+/// What the tokens of the line are, in order.
+///
+/// Errors: want of memory.
 ///
 /// Source: own choice ("Words and names").
-pub fn symbol_at(line: &[u8], tokens: &[Token], at: usize) -> Option<Symbol>
+pub fn symbols(alloc: Global, line: &str, tokens: &[Token]) -> Result<Vec<Symbol>, NoMemory>
     requires { All (IsWithin (length line.now)) tokens.now }
-    ensures symbol { result ≡ symbol_at line.now tokens.now at }
-    ensures within { IsSome result → at < length tokens.now }
+    ensures { IfOk result (λ symbols. symbols.items ≡ map (symbol_of line.now) tokens.now) }
 {
-    if at >= tokens.len() {
-        return None;
+    let bytes = line.as_bytes();
+    let mut out = Vec::new(alloc);
+    for token in tokens {
+        out.push(symbol_of(alloc, bytes, token)?)?;
     }
-    Some(symbol_of(line, &tokens[at]))
+    Ok(out)
 }

@@ -1,8 +1,7 @@
 //! Expressions with the values and faults that the rules of expressions give them.
 ghost use Rattle.std.specs.Prelude.{◌≡◌, slice_index};
-ghost use Rattle.m51_expr.specs.declared.value.Part.TheVariants.{Whole};
 
-use crate::{Base, Lookup, Part, ReadError, Value, read_expr, value_of};
+use crate::{Base, Lookup, Part, ReadError, Value, read_expr, symbols, value_of, whole};
 use m51_cells::{Kind, Name};
 use m51_lex::{LexError, tokens};
 use std::alloc::Global;
@@ -57,17 +56,6 @@ impl Lookup for OneLetter {
     }
 }
 
-fn whole(number: u16, class: Kind, base: Base) -> Value
-    ensures { result ≡ record { number = number; class = class; base = base; part = Whole } }
-{
-    Value {
-        number,
-        class,
-        base,
-        part: Part::Whole,
-    }
-}
-
 fn names() -> OneLetter {
     OneLetter {
         values: [
@@ -89,7 +77,10 @@ fn answer(alloc: Global, line: &str) -> Result<Value, u8> {
         Err(LexError::Fault { number }) => return Err(number),
         Err(LexError::Memory) => return Err(0),
     };
-    match read_expr(alloc, line, &found, 0) {
+    let Ok(symbols) = symbols(alloc, line, &found) else {
+        return Err(0);
+    };
+    match read_expr(alloc, &symbols) {
         Ok((expr, _next)) => value_of(&expr, &names()).map_err(|error| error.number),
         Err(ReadError::Fault { number }) => Err(number),
         Err(ReadError::Memory) => Err(0),

@@ -1,6 +1,6 @@
 //! Values of expressions.
 ghost use Rattle.std.specs.Prelude.{◌≡◌};
-ghost use Rattle.m51_expr.specs.Value.{plain, is_whole, bit_address, counted};
+ghost use Rattle.m51_expr.specs.Value.{whole, plain, is_whole, bit_address, counted};
 
 use m51_cells::{Base, Kind};
 
@@ -32,18 +32,27 @@ pub struct Value {
     pub part: Part,
 }
 
+/// A value of a number that counts from a base, under no operator.
+///
+/// Source: own choice ("Values with a base").
+pub fn whole(number: u16, class: Kind, base: Base) -> Value
+    ensures { result ≡ whole number class base }
+{
+    Value {
+        number,
+        class,
+        base,
+        part: Part::Whole,
+    }
+}
+
 /// A value of a number and a class, without a base and whole.
 ///
 /// Source: own choice ("Values with a base").
 pub fn plain(number: u16, class: Kind) -> Value
     ensures { result ≡ plain number class }
 {
-    Value {
-        number,
-        class,
-        base: Base::None,
-        part: Part::Whole,
-    }
+    whole(number, class, Base::None)
 }
 
 /// Whether neither `HIGH`, `LOW` nor `.` stands over the number.

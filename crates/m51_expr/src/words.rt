@@ -4,12 +4,7 @@ ghost use Rattle.std.specs.List.{list_any};
 ghost use Rattle.std.specs.Str.{bytes_eq};
 ghost use Rattle.m51_expr.specs.Words.{is_language_word, is_reserved};
 
-const MNEMONICS: [&[u8]; 45] = [
-    b"ACALL", b"ADD", b"ADDC", b"AJMP", b"ANL", b"CALL", b"CJNE", b"CLR", b"CPL", b"DA", b"DEC",
-    b"DIV", b"DJNZ", b"INC", b"JB", b"JBC", b"JC", b"JMP", b"JNB", b"JNC", b"JNZ", b"JZ", b"LCALL",
-    b"LJMP", b"MOV", b"MOVC", b"MOVX", b"MUL", b"NOP", b"ORL", b"POP", b"PUSH", b"RET", b"RETI",
-    b"RL", b"RLC", b"RR", b"RRC", b"SETB", b"SJMP", b"SUBB", b"SWAP", b"XCH", b"XCHD", b"XRL",
-];
+use m51_isa::is_mnemonic;
 
 const DIRECTIVES: [&[u8]; 20] = [
     b"AT", b"BSEG", b"CSEG", b"DB", b"DBIT", b"DS", b"DSEG", b"DW", b"END", b"EQU", b"EXTRN",
@@ -56,11 +51,11 @@ fn is_among(word: &[u8], words: &[&[u8]]) -> bool
 
 /// Whether the word, in upper case, is a mnemonic, a directive, a kind, a type or a register of instructions: such a
 /// word begins no expression.
-#[tactic(auto, unfolding(crate::specs::Words::is_language_word))]
+#[tactic(auto, unfolding(crate::specs::Words::is_language_word, m51_isa::specs::Mnemonics::is_mnemonic))]
 pub(crate) fn is_language_word(word: &[u8]) -> bool
     ensures { result ≡ is_language_word word.now }
 {
-    is_among(word, &MNEMONICS)
+    is_mnemonic(word)
         || is_among(word, &DIRECTIVES)
         || is_among(word, &KINDS_AND_TYPES)
         || is_among(word, &REGISTERS)

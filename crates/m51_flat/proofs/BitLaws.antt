@@ -3,12 +3,13 @@ use Rattle.std.proofs.Common.{◌≡◌, ◌≢◌, ℕ, zero, suc, ◌+◌, ◌
 use Rattle.std.specs.Prelude.{◌==◌}
 use Rattle.std.specs.Int.{bit_at}
 use Rattle.std.proofs.lemmas.Bool.Decides.{eqb_tells}
+use Rattle.m51_isa.proofs.Distinct.{of_register}
 use Rattle.m51_alu.specs.declared.sum.Sum.{Sum}
 use Rattle.m51_alu.specs.Arithmetic.{bit_of}
 use Rattle.m51_flat.specs.Sfr.{with_bit}
 use Rattle.m51_flat.specs.Parts.{with_flags}
 use Rattle.m51_flat.specs.BitLaws.{OneBitIsReplaced, HasFlags, FlagsAreWritten, BitsAreTurned}
-use Rattle.m51_flat.proofs.Bytes.{below_8, bit_same, bit_other}
+use Rattle.m51_flat.proofs.Bytes.{bit_same, bit_other}
 
 pub one_bit_is_replaced : OneBitIsReplaced
 one_bit_is_replaced byte k j b h i =
@@ -37,16 +38,16 @@ unfolding with_flags
 flags_are_written s psw = flags_of s psw
 
 rotated_right : (a k : ℕ) → a < 256 → k < 8 → bit_at (a / 2 + 128 * (a % 2)) k ≡ bit_at a ((k + 1) % 8)
-rotated_right a k h = below_8 (λ k. bit_at (a / 2 + 128 * (a % 2)) k ≡ bit_at a ((k + 1) % 8)) (omega (arith, h)) (omega (arith, h)) (omega (arith, h)) (omega (arith, h)) (omega (arith, h)) (omega (arith, h)) (omega (arith, h)) (omega (arith, h)) k
+rotated_right a k h = of_register (λ k. bit_at (a / 2 + 128 * (a % 2)) k ≡ bit_at a ((k + 1) % 8)) (omega (arith, h)) (omega (arith, h)) (omega (arith, h)) (omega (arith, h)) (omega (arith, h)) (omega (arith, h)) (omega (arith, h)) (omega (arith, h)) k
 
 rotated_left : (a k : ℕ) → a < 256 → k < 8 → bit_at (a % 128 * 2 + a / 128) k ≡ bit_at a ((k + 7) % 8)
-rotated_left a k h = below_8 (λ k. bit_at (a % 128 * 2 + a / 128) k ≡ bit_at a ((k + 7) % 8)) (omega (arith, h)) (omega (arith, h)) (omega (arith, h)) (omega (arith, h)) (omega (arith, h)) (omega (arith, h)) (omega (arith, h)) (omega (arith, h)) k
+rotated_left a k h = of_register (λ k. bit_at (a % 128 * 2 + a / 128) k ≡ bit_at a ((k + 7) % 8)) (omega (arith, h)) (omega (arith, h)) (omega (arith, h)) (omega (arith, h)) (omega (arith, h)) (omega (arith, h)) (omega (arith, h)) (omega (arith, h)) k
 
 swapped : (a k : ℕ) → a < 256 → k < 8 → bit_at (a % 16 * 16 + a / 16) k ≡ bit_at a ((k + 4) % 8)
-swapped a k h = below_8 (λ k. bit_at (a % 16 * 16 + a / 16) k ≡ bit_at a ((k + 4) % 8)) (omega (arith, h)) (omega (arith, h)) (omega (arith, h)) (omega (arith, h)) (omega (arith, h)) (omega (arith, h)) (omega (arith, h)) (omega (arith, h)) k
+swapped a k h = of_register (λ k. bit_at (a % 16 * 16 + a / 16) k ≡ bit_at a ((k + 4) % 8)) (omega (arith, h)) (omega (arith, h)) (omega (arith, h)) (omega (arith, h)) (omega (arith, h)) (omega (arith, h)) (omega (arith, h)) (omega (arith, h)) k
 
 complemented : (a k : ℕ) → a < 256 → k < 8 → bit_at (255 - a) k + bit_at a k ≡ 1
-complemented a k h = below_8 (λ k. bit_at (255 - a) k + bit_at a k ≡ 1) (omega (arith, h)) (omega (arith, h)) (omega (arith, h)) (omega (arith, h)) (omega (arith, h)) (omega (arith, h)) (omega (arith, h)) (omega (arith, h)) k
+complemented a k h = of_register (λ k. bit_at (255 - a) k + bit_at a k ≡ 1) (omega (arith, h)) (omega (arith, h)) (omega (arith, h)) (omega (arith, h)) (omega (arith, h)) (omega (arith, h)) (omega (arith, h)) (omega (arith, h)) k
 
 below_7 : (P : ℕ → Type 0) → P 0 → P 1 → P 2 → P 3 → P 4 → P 5 → P 6 → (n : ℕ) → n < 7 → P n
 below_7 P p0 p1 p2 p3 p4 p5 p6 zero h = p0

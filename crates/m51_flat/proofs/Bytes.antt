@@ -6,6 +6,7 @@ use Rattle.std.proofs.Math.Arith.{mod-mul}
 use Rattle.std.proofs.lemmas.Bool.{lt-ltb}
 use Rattle.std.proofs.lemmas.Nat.Bits.{bit_at-suc, bit_at_set_same, bit_at_set_other, bit_at_clear_same, bit_at_clear_other}
 use Rattle.std.proofs.lemmas.Bool.Decides.{eqb_tells}
+use Rattle.m51_isa.proofs.Distinct.{of_register}
 use Rattle.m51_alu.specs.Arithmetic.{bit_of}
 use Rattle.m51_flat.specs.declared.state.Put.TheVariants.{Bit}
 use Rattle.m51_flat.specs.declared.state.Seen.TheVariants.{Value}
@@ -13,17 +14,6 @@ use Rattle.m51_flat.specs.States.{CellState, States, Holds, Absent, on_value, an
 use Rattle.m51_flat.specs.Flat.{FlatBytes, flat_cells}
 use Rattle.m51_flat.specs.Sfr.{with_bit}
 use Rattle.m51_flat.proofs.Flat.{same_states}
-
-pub below_8 : (P : ℕ → Type 0) → P 0 → P 1 → P 2 → P 3 → P 4 → P 5 → P 6 → P 7 → (n : ℕ) → n < 8 → P n
-below_8 P p0 p1 p2 p3 p4 p5 p6 p7 zero h = p0
-below_8 P p0 p1 p2 p3 p4 p5 p6 p7 (suc zero) h = p1
-below_8 P p0 p1 p2 p3 p4 p5 p6 p7 (suc (suc zero)) h = p2
-below_8 P p0 p1 p2 p3 p4 p5 p6 p7 (suc (suc (suc zero))) h = p3
-below_8 P p0 p1 p2 p3 p4 p5 p6 p7 (suc (suc (suc (suc zero)))) h = p4
-below_8 P p0 p1 p2 p3 p4 p5 p6 p7 (suc (suc (suc (suc (suc zero))))) h = p5
-below_8 P p0 p1 p2 p3 p4 p5 p6 p7 (suc (suc (suc (suc (suc (suc zero)))))) h = p6
-below_8 P p0 p1 p2 p3 p4 p5 p6 p7 (suc (suc (suc (suc (suc (suc (suc zero))))))) h = p7
-below_8 P p0 p1 p2 p3 p4 p5 p6 p7 (suc (suc (suc (suc (suc (suc (suc (suc n)))))))) h = absurd (omega arith)
 
 two_pow_suc : (k : ℕ) → 2 ^ suc k ≡ 2 ^ k * 2
 two_pow_suc k = grind arith
@@ -57,7 +47,7 @@ flat_byte m a inside h =
     ∙ ap Value (omega arith)
 
 weight : (k : ℕ) → k < 8 → 1 * 2 ^ k % 2 ^ 8 ≡ 2 ^ k
-weight k h = below_8 (λ k. 1 * 2 ^ k % 2 ^ 8 ≡ 2 ^ k) refl refl refl refl refl refl refl refl k h
+weight k h = of_register (λ k. 1 * 2 ^ k % 2 ^ 8 ≡ 2 ^ k) refl refl refl refl refl refl refl refl k h
 
 -- the bits of a byte with one bit replaced
 pub bit_same : (byte k : ℕ) (b : Bool) → k < 8 → bit_at (with_bit byte k b) k ≡ bit_of b

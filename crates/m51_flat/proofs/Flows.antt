@@ -180,7 +180,8 @@ sp_written v e len =
     let inside : 1 < length e.cpu.regs = omega (arith, len) in
     get_or-set_other regs 80 1 byte 0 (other_place 1 (lit< tt)) ∙ get_or-set_same e.cpu.regs 1 v 0 inside
 
-latch_of : (cpu : Cpu) (pc a : ℕ) → latch (record cpu { pc = pc }) a ≡ latch cpu a
+-- registers do not depend on PC
+pub latch_of : (cpu : Cpu) (pc a : ℕ) → latch (record cpu { pc = pc }) a ≡ latch cpu a
 unfolding latch
 latch_of cpu pc a = refl
 

@@ -19,7 +19,7 @@ use Rattle.m51_flat.specs.Laws.{Always, Follows, HasParity, IfDone, next_address
 use Rattle.m51_flat.specs.Reset.{reset_cpu}
 use Rattle.m51_flat.proofs.Readings.{readings}
 use Rattle.m51_flat.proofs.Parity.{IsRight, plan_right}
-use Rattle.m51_flat.specs.LevelLaws.{LevelsFollow, may_hold_off}
+use Rattle.m51_flat.specs.LevelLaws.{LevelsFollow, writes_ie_or_ip}
 use Rattle.m51_flat.proofs.Flows.{flow_is_kept}
 use Rattle.m51_flat.proofs.Levels.{levels_are_kept}
 use Rattle.m51_isa.specs.Table.{flow_of}
@@ -92,8 +92,8 @@ pub keeps_control : (r : Outcome) (cpu : Cpu) (s : States) (barred : Cell → Bo
 keeps_control r cpu s barred instr image ext e len = subst (λ r. IfDone r (λ e. Follows (flow_of instr) (next_address cpu instr) (latch cpu sp) e)) (sym e) (outcome_control cpu s barred instr image ext len)
 
 -- so are the levels in progress
-pub keeps_levels : (r : Outcome) (cpu : Cpu) (s : States) (barred : Cell → Bool) (instr : Instr) (image : List ℕ) (ext : Pins) → r ≡ outcome_of cpu s barred instr image ext → IfDone r (λ e. LevelsFollow (flow_of instr) (may_hold_off instr) cpu e)
+pub keeps_levels : (r : Outcome) (cpu : Cpu) (s : States) (barred : Cell → Bool) (instr : Instr) (image : List ℕ) (ext : Pins) → r ≡ outcome_of cpu s barred instr image ext → IfDone r (λ e. LevelsFollow (flow_of instr) (writes_ie_or_ip cpu instr) cpu e)
 unfolding outcome_of
 keeps_levels r cpu s barred instr image ext e =
-    subst (λ r. IfDone r (λ e. LevelsFollow (flow_of instr) (may_hold_off instr) cpu e)) (sym e)
-    (always_done (λ e. LevelsFollow (flow_of instr) (may_hold_off instr) cpu e) barred s (plan_of cpu instr image ext) (levels_are_kept cpu instr image ext))
+    subst (λ r. IfDone r (λ e. LevelsFollow (flow_of instr) (writes_ie_or_ip cpu instr) cpu e)) (sym e)
+    (always_done (λ e. LevelsFollow (flow_of instr) (writes_ie_or_ip cpu instr) cpu e) barred s (plan_of cpu instr image ext) (levels_are_kept cpu instr image ext))

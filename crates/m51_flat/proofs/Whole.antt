@@ -68,7 +68,8 @@ first_open : (barred : Cell → Bool) → ((c : Cell) → barred c ≡ false) �
 first_open barred h zero n = refl
 first_open barred h (suc k) n = ap (λ b. cond b (Some (ram_cell n)) (first_barred barred k (n + 1))) (h (ram_cell n)) ∙ first_open barred h k (n + 1)
 
-shut_open : (barred : Cell → Bool) → ((c : Cell) → barred c ≡ false) → (put : Put) → shut_of barred put ≡ None
+-- where no cell is barred, each put may be written
+pub shut_open : (barred : Cell → Bool) → ((c : Cell) → barred c ≡ false) → (put : Put) → shut_of barred put ≡ None
 unfolding shut_of
 shut_open barred h Nothing = refl
 shut_open barred h (Byte address value) = first_open barred h 8 (8 * address)

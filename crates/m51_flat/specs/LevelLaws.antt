@@ -1,5 +1,5 @@
 -- The levels in progress, and what holds interrupts off, after an instruction, from the family manual.
-use Rattle.std.specs.Prelude.{◌≡◌, ℕ, Bool, true, false, ◌&&◌, ◌||◌, ◌==◌, List}
+use Rattle.std.specs.Prelude.{◌≡◌, ℕ, ◌%◌, Bool, true, false, ◌&&◌, ◌||◌, ◌==◌, List}
 use Rattle.m51_isa.specs.declared.instr.Flow.{Flow}
 use Rattle.m51_isa.specs.declared.instr.Flow.TheVariants.{Reti as FlowReti}
 use Rattle.m51_isa.specs.declared.instr.Instr.{Instr}
@@ -12,7 +12,7 @@ use Rattle.m51_flat.specs.declared.actions.Place.TheVariants.{Direct}
 use Rattle.m51_flat.specs.declared.actions.Action.{Action}
 use Rattle.m51_flat.specs.declared.actions.Action.TheVariants.{Assign, Combine, Change, Exchange, ExchangeDigit, Pop}
 use Rattle.m51_flat.specs.declared.actions.Action.TheVariants.{StoreBit, FlipBit, TestAndClear, CountDown}
-use Rattle.m51_flat.specs.Sfr.{ie, ip}
+use Rattle.m51_flat.specs.Sfr.{flag, ie, ip}
 use Rattle.m51_flat.specs.Operands.{byte_of_bit}
 use Rattle.m51_flat.specs.Actions.{action_of}
 use Rattle.m51_flat.specs.Meaning.{plan_of}
@@ -26,29 +26,29 @@ abbrev pub place_holds_off : Place → Bool
 place_holds_off (Direct a) = holds_off a
 place_holds_off _ = false
 
--- the operand that is written is such a register, or a bit of one
-abbrev pub writes_held : Action → Bool
-writes_held (Assign place from) = place_holds_off place
-writes_held (Combine op place from) = place_holds_off place
-writes_held (Change count place) = place_holds_off place
-writes_held (Exchange place) = place_holds_off place
-writes_held (ExchangeDigit place) = place_holds_off place
-writes_held (Pop place) = place_holds_off place
-writes_held (CountDown place rel) = place_holds_off place
-writes_held (StoreBit from bit) = holds_off (byte_of_bit bit)
-writes_held (FlipBit bit) = holds_off (byte_of_bit bit)
-writes_held (TestAndClear bit rel) = holds_off (byte_of_bit bit)
-writes_held _ = false
+-- the operand that is written is such a register, or a bit of one; JBC writes its bit only where it is 1
+abbrev pub writes_by : Cpu → Action → Bool
+writes_by cpu (Assign place from) = place_holds_off place
+writes_by cpu (Combine op place from) = place_holds_off place
+writes_by cpu (Change count place) = place_holds_off place
+writes_by cpu (Exchange place) = place_holds_off place
+writes_by cpu (ExchangeDigit place) = place_holds_off place
+writes_by cpu (Pop place) = place_holds_off place
+writes_by cpu (CountDown place rel) = place_holds_off place
+writes_by cpu (StoreBit from bit) = holds_off (byte_of_bit bit)
+writes_by cpu (FlipBit bit) = holds_off (byte_of_bit bit)
+writes_by cpu (TestAndClear bit rel) = holds_off (byte_of_bit bit) && flag cpu (byte_of_bit bit) (bit % 8)
+writes_by cpu _ = false
 
--- an instruction that may hold interrupts off for a step, RETI aside
-abbrev pub may_hold_off : Instr → Bool
-may_hold_off instr = writes_held (action_of instr)
+-- an instruction writes IE, IP or a bit of them
+abbrev pub writes_ie_or_ip : Cpu → Instr → Bool
+writes_ie_or_ip cpu instr = writes_by cpu (action_of instr)
 
--- both levels are as before, and interrupts are held off only where the operand that is written does so
+-- both levels are as before, and interrupts are held off exactly where IE or IP was written
 pub record KeepsLevels (writes : Bool) (old : Cpu) (e : Effect) : Type 0 where
   pub low : e.cpu.low ≡ old.low
   pub high : e.cpu.high ≡ old.high
-  pub held : writes ≡ false → e.cpu.held ≡ false
+  pub held : e.cpu.held ≡ writes
 
 -- the higher level ends, and interrupts are held off
 pub record EndsLevel (old : Cpu) (e : Effect) : Type 0 where
@@ -65,4 +65,4 @@ LevelsFollow _ writes old e = KeepsLevels writes old e
 abbrev pub LevelsAreKept : Type 0
 LevelsAreKept =
     (cpu : Cpu) (instr : Instr) (image : List ℕ) (ext : Pins)
-    → Always (λ e. LevelsFollow (flow_of instr) (may_hold_off instr) cpu e) (plan_of cpu instr image ext)
+    → Always (λ e. LevelsFollow (flow_of instr) (writes_ie_or_ip cpu instr) cpu e) (plan_of cpu instr image ext)

@@ -4,7 +4,7 @@ ghost use Rattle.m51_isa.specs.Table.{flow_of};
 ghost use Rattle.m51_flat.specs.declared.state.Outcome.TheVariants.{Done};
 ghost use Rattle.m51_flat.specs.Causes.{IsBarred, IsCause, IsWhole, unless_down};
 ghost use Rattle.m51_flat.specs.Laws.{Follows, HasParity, IfDone, next_address};
-ghost use Rattle.m51_flat.specs.LevelLaws.{LevelsFollow, may_hold_off};
+ghost use Rattle.m51_flat.specs.LevelLaws.{LevelsFollow, writes_ie_or_ip};
 ghost use Rattle.m51_flat.specs.Meaning.{allowed, outcome_of, outcome_over, plan_of, started, unless_barred};
 ghost use Rattle.m51_flat.specs.Reads.{Agrees, CellMap, result_over};
 ghost use Rattle.m51_flat.specs.Reset.{reset_cpu, reset_values};
@@ -161,9 +161,10 @@ pub fn exec<M: CellStore>(cpu: &Cpu, store: &M, instr: &Instr, image: &[u8], ext
     ensures control { IfDone result (λ e.
         Follows (flow_of instr.now) (next_address cpu.now instr.now) (latch cpu.now sp) e) }
 
-    // RETI ends the higher level in progress, and all others keep both. Interrupts are held off after RETI, and else
-    // only where the operand that is written is IE, IP or a bit of them.
-    ensures levels { IfDone result (λ e. LevelsFollow (flow_of instr.now) (may_hold_off instr.now) cpu.now e) }
+    // RETI ends the higher level in progress, and all others keep both. Interrupts are held off exactly after RETI and
+    // after a write of IE, IP or a bit of them.
+    ensures levels { IfDone result (λ e.
+        LevelsFollow (flow_of instr.now) (writes_ie_or_ip cpu.now instr.now) cpu.now e) }
 {
     run(cpu, store, instr, image, ext)
 }

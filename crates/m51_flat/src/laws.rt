@@ -88,7 +88,8 @@ pub fn calls_are_made()
 {}
 
 /// Whatever is read, RETI ends the higher level in progress and every other instruction leaves both. Interrupts are
-/// held off after RETI, and else only where the operand that is written is IE, IP or a bit of them.
+/// held off exactly after RETI and after an instruction that writes IE, IP or a bit of them; JBC writes its bit only
+/// where it is 1.
 ///
 /// Source: family manual.
 pub fn levels_are_kept()

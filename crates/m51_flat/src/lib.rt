@@ -31,6 +31,6 @@ pub use laws::{
     power_goes_down, readings_agree, registers_are_written, stores_keep_the_rest,
 };
 pub use ram::FlatRam;
-pub use state::{Cpu, Effect, Outcome, Pins, Put, Seen, Source, Transfer};
+pub use state::{Cpu, Effect, Level, Outcome, Pins, Put, Seen, Source, Transfer};
 pub use store::CellStore;
 pub use writing::jump;

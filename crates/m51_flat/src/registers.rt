@@ -21,7 +21,7 @@ impl Cpu {
         }
     }
 
-    /// A bit of a register, counted from bit 0.
+    /// Whether a bit of a register is 1: bit 0 is the lowest, and `bit` is 0 to 7.
     ///
     /// Source: family manual.
     #[tactic(auto, unfolding(crate::specs::Sfr::flag))]
@@ -46,10 +46,10 @@ impl Cpu {
         }
     }
 
-    /// A device stores a value in a register: nothing is sent, no port is told and no interrupt is held off.
-    /// An address without a register ignores it.
+    /// Stores a byte in the register at an address, as a device does: nothing is sent, no port is told, no interrupt is
+    /// held off, and PSW keeps its bit 0. An address without a register ignores it.
     ///
-    /// Source: family manual.
+    /// Source: family manual; own choice ("Devices and registers").
     #[tactic(auto, unfolding(crate::specs::Sfr::with_latch))]
     pub fn set_latch(&mut self, address: u8, value: u8)
         ensures { self.new ≡ with_latch self.old address value }
@@ -59,9 +59,10 @@ impl Cpu {
         }
     }
 
-    /// A device writes one bit of a register.
+    /// Writes one bit, 0 to 7, of the register at an address, as a device does: the other seven stay, and all else is
+    /// as for `set_latch`.
     ///
-    /// Source: family manual.
+    /// Source: family manual; own choice ("Devices and registers").
     #[tactic(auto, unfolding(crate::specs::Sfr::with_flag))]
     pub fn set_flag(&mut self, address: u8, bit: u8, value: bool)
         requires { bit < 8 }

@@ -67,6 +67,17 @@ pub struct Cpu {
     pub held: bool,
 }
 
+/// A level of interrupts.
+///
+/// Source: family manual.
+#[derive(Clone, Copy, Debug, PartialEq, Eq)]
+pub enum Level {
+    /// The level of a source whose bit of IP is 0.
+    Low,
+    /// The level of a source whose bit of IP is 1.
+    High,
+}
+
 /// A source of interrupts, in their order.
 ///
 /// Source: family manual.

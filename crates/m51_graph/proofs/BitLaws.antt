@@ -102,6 +102,10 @@ rows_passed old new through k same each u v = elim (cases_lt u (length old)) as 
       ∙ sym (ap (λ b. b || (pair_at old u k && bit through v)) (pair_past old u v past) ∙ ap (λ b. b && bit through v) (pair_past old u k past))
 ]
 
+pub and_true : (a : Bool) → a ≡ (a && true)
+and_true true = refl
+and_true false = refl
+
 -- tests that agree everywhere are one
 pub same_pairs : (p q : ℕ → ℕ → Bool) → ((u v : ℕ) → p u v ≡ q u v) → p ≡ q
 same_pairs p q h i = λ u v. h u v i

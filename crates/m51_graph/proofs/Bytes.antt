@@ -4,7 +4,7 @@ use Rattle.std.proofs.Math.Nat.{pow-suc}
 use Rattle.std.specs.List.{Contains}
 use Rattle.std.proofs.lemmas.Bool.{cases_Bool}
 use Rattle.std.proofs.lemmas.List.{take_more}
-use Rattle.m51_module.proofs.Owning.{contains_behind, first_or_behind, none_in_empty}
+use Rattle.m51_cells.proofs.Small.{contains_after, first_or_after, none_in_empty}
 use Rattle.m51_graph.specs.Relating.{AddsBits, bits_of}
 
 bits_push : (test : ℕ → Bool) (xs : List ℕ) (y weight : ℕ) → weight ≡ 2 ^ length xs → bits_of test (xs ++ y ∷ []) ≡ bits_of test xs + cond (test y) weight 0
@@ -51,7 +51,7 @@ pub bits_same : (p q : ℕ → Bool) (xs : List ℕ) → bits_of p xs ≡ bits_o
 bits_same p q [] h x is = absurd (none_in_empty x is)
 bits_same p q (y ∷ ys) h x is =
     let parts = bit_same (p y) (q y) (bits_of p ys) (bits_of q ys) h in
-    elim (first_or_behind y ys x is) as (λ _. p x ≡ q x) [
+    elim (first_or_after y ys x is) as (λ _. p x ≡ q x) [
       | inl here ↦ subst (λ z. p z ≡ q z) here parts.0
       | inr later ↦ bits_same p q ys parts.1 x later
     ]
@@ -61,14 +61,14 @@ pub bits_agree : (p q : ℕ → Bool) (xs : List ℕ) → ((x : ℕ) → Contain
 bits_agree p q [] h = refl
 bits_agree p q (y ∷ ys) h =
     ap (λ b. bit_if b + 2 * bits_of p ys) (h y (0, omega arith, refl))
-    ∙ ap (λ n. bit_if (q y) + 2 * n) (bits_agree p q ys (λ x is. h x (contains_behind y ys x is)))
+    ∙ ap (λ n. bit_if (q y) + 2 * n) (bits_agree p q ys (λ x is. h x (contains_after y ys x is)))
 
 -- no bit
 pub bits_zero : (p : ℕ → Bool) (xs : List ℕ) → bits_of p xs ≡ 0 → (x : ℕ) → Contains xs x → p x ≡ false
 bits_zero p [] h x is = absurd (none_in_empty x is)
 bits_zero p (y ∷ ys) h x is =
     let parts = bit_same (p y) false (bits_of p ys) 0 (h ∙ omega arith) in
-    elim (first_or_behind y ys x is) as (λ _. p x ≡ false) [
+    elim (first_or_after y ys x is) as (λ _. p x ≡ false) [
       | inl here ↦ subst (λ z. p z ≡ false) here parts.0
       | inr later ↦ bits_zero p ys parts.1 x later
     ]
@@ -85,6 +85,6 @@ bits_some p (y ∷ ys) = elim (cases_Bool (p y)) as (λ _. (bits_of p (y ∷ ys)
   | inl first ↦ inr (record { x = y; is = (0, omega arith, refl); passes = first })
   | inr fails ↦ elim (bits_some p ys) as (λ _. (bits_of p (y ∷ ys) ≡ 0) ⊎ Passes p (y ∷ ys)) [
     | inl none ↦ inl (ap (λ b. bit_if b + 2 * bits_of p ys) fails ∙ omega (arith, none))
-    | inr later ↦ inr (record { x = later.x; is = contains_behind y ys later.x later.is; passes = later.passes })
+    | inr later ↦ inr (record { x = later.x; is = contains_after y ys later.x later.is; passes = later.passes })
   ]
 ]

@@ -6,7 +6,7 @@ use Rattle.std.proofs.lemmas.List.Elements.{Contains-push_cases, Contains-get_or
 use Rattle.std.proofs.lemmas.List.Sums.{sum_by-set, sum_by-cons}
 use Rattle.std.proofs.lemmas.Bool.{false≢true}
 use Rattle.m51_module.specs.Walks.{Edges, HasEdge, IsWalk, last_of, Reaches}
-use Rattle.m51_module.proofs.Owning.{none_in_empty}
+use Rattle.m51_cells.proofs.Small.{none_in_empty}
 use Rattle.m51_module.proofs.Units.{same_or_not}
 use Rattle.m51_module.proofs.Reach.{last_on, reach_edge, reach_on, walk_on}
 use Rattle.m51_graph.specs.Leading.{leads}
@@ -15,30 +15,30 @@ use Rattle.m51_graph.specs.Graph.{LeadWithin}
 use Rattle.m51_graph.specs.Levels.{EndsWalk, IsLevel}
 use Rattle.m51_graph.proofs.Deciding.{leads_tells}
 
-abbrev one_if : Bool → ℕ
+abbrev pub one_if : Bool → ℕ
 one_if true = 1
 one_if false = 0
 
 -- how many numbers below n pass a test
-abbrev tally : (ℕ → Bool) → ℕ → ℕ
+abbrev pub tally : (ℕ → Bool) → ℕ → ℕ
 tally p zero = 0
 tally p (suc n) = one_if (p n) + tally p n
 
-tally_le : (p : ℕ → Bool) (n : ℕ) → tally p n ≤ n
+pub tally_le : (p : ℕ → Bool) (n : ℕ) → tally p n ≤ n
 tally_le p zero = omega arith
 tally_le p (suc n) = let h = tally_le p n in elim (p n) as (λ b. one_if b + tally p n ≤ suc n) [ true ↦ omega (arith, h) | false ↦ omega (arith, h) ]
 
 -- a number counts no more under a weaker test
-one_le : (a b : Bool) → (a ≡ true → b ≡ true) → one_if a ≤ one_if b
+pub one_le : (a b : Bool) → (a ≡ true → b ≡ true) → one_if a ≤ one_if b
 one_le true b h = subst (λ c. 1 ≤ one_if c) (sym (h refl)) (omega arith)
 one_le false b h = omega arith
 
-tally_mono : (p q : ℕ → Bool) (n : ℕ) → ((w : ℕ) → p w ≡ true → q w ≡ true) → tally p n ≤ tally q n
+pub tally_mono : (p q : ℕ → Bool) (n : ℕ) → ((w : ℕ) → p w ≡ true → q w ≡ true) → tally p n ≤ tally q n
 tally_mono p q zero h = omega arith
 tally_mono p q (suc n) h = omega (arith, tally_mono p q n h, one_le (p n) (q n) (h n))
 
 -- nor does it where it passes the weaker one alone: it counts more
-tally_lt : (p q : ℕ → Bool) (n w : ℕ) → w < n → ((u : ℕ) → p u ≡ true → q u ≡ true) → p w ≡ false → q w ≡ true → tally p n < tally q n
+pub tally_lt : (p q : ℕ → Bool) (n w : ℕ) → w < n → ((u : ℕ) → p u ≡ true → q u ≡ true) → p w ≡ false → q w ≡ true → tally p n < tally q n
 tally_lt p q zero w below h lacks passes = absurd (omega (arith, below))
 tally_lt p q (suc n) w below h lacks passes = elim (same_or_not w n) as (λ _. tally p (suc n) < tally q (suc n)) [
   | inl e ↦
@@ -50,14 +50,14 @@ tally_lt p q (suc n) w below h lacks passes = elim (same_or_not w n) as (λ _. t
 
 module _ (n : ℕ) (edges : Edges) (within : LeadWithin n edges) (no_cycle : (u : ℕ) → Reaches edges u u → ⊥) where
   -- how many units reach a unit
-  abbrev rank : ℕ → ℕ
+  abbrev pub rank : ℕ → ℕ
   rank v = tally (λ w. leads edges w v) n
 
   not_itself : (u : ℕ) → leads edges u u ≡ false
   not_itself u = elim (leads edges u u) as (λ b. (b ≡ true → ⊥) → b ≡ false) [ true ↦ λ h. absurd (h refl) | false ↦ λ h. refl ] (λ h. no_cycle u ((leads_tells edges u u).0 h))
 
   -- more of them along an edge
-  rank_edge : (u v : ℕ) → HasEdge edges u v → rank u < rank v
+  pub rank_edge : (u v : ℕ) → HasEdge edges u v → rank u < rank v
   rank_edge u v e = tally_lt (λ w. leads edges w u) (λ w. leads edges w v) n u (within.within u v e).0
       (λ w h. (leads_tells edges w v).1 (reach_on edges w u v ((leads_tells edges w u).0 h) e))
       (not_itself u) ((leads_tells edges u v).1 (reach_edge edges u v e))
@@ -151,7 +151,7 @@ climbs_more edges i d old now new rose false within below h c =
     (climbs_pass edges (take i edges) edge.0 edge.1 old now rose (omega (arith, h.0)) c))
 
 -- a sum of numbers that have a bound
-sum_most : (most : ℕ) (xs : List ℕ) → ((i : ℕ) → i < length xs → get_or xs i 0 ≤ most) → sum xs ≤ most * length xs
+pub sum_most : (most : ℕ) (xs : List ℕ) → ((i : ℕ) → i < length xs → get_or xs i 0 ≤ most) → sum xs ≤ most * length xs
 sum_most most [] h = omega arith
 sum_most most (x ∷ xs) h =
     let rest = sum_most most xs (λ i below. h (suc i) (omega arith)) in

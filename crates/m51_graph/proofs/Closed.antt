@@ -7,7 +7,7 @@ use Rattle.std.proofs.lemmas.Bool.Decides.{Decides-eqb}
 use Rattle.std.proofs.lemmas.List.Folds.{Any-from_list_any, list_any_at, list_any_more}
 use Rattle.m51_module.specs.Walks.{Edges, HasEdge, IsWalk, last_of, Reaches}
 use Rattle.m51_module.proofs.Reach.{reach_edge}
-use Rattle.m51_graph.specs.Rows.{closed_below, no_pair, with_pair}
+use Rattle.m51_graph.specs.Rows.{closed_below, flipped, with_pair}
 use Rattle.m51_graph.specs.Drawing.{edge_test, same_edge}
 use Rattle.m51_graph.specs.Graph.{LeadWithin}
 use Rattle.m51_graph.specs.Leading.{leads}
@@ -29,11 +29,11 @@ edge_tells edges u v =
     )
 
 -- one edge more
-swap_or : (a b : Bool) → (a || b) ≡ (b || a)
-swap_or true true = refl
-swap_or true false = refl
-swap_or false true = refl
-swap_or false false = refl
+pub or_swap : (a b : Bool) → (a || b) ≡ (b || a)
+or_swap true true = refl
+or_swap true false = refl
+or_swap false true = refl
+or_swap false false = refl
 
 pub edge_more : (edges : Edges) (i : ℕ) (d : ℕ × ℕ) (has : ℕ → ℕ → Bool) → i < length edges → has ≡ edge_test (take i edges)
     → with_pair (get_or edges i d).0 (get_or edges i d).1 has ≡ edge_test (take (i + 1) edges)
@@ -41,8 +41,25 @@ edge_more edges i d has below is =
     let edge : ℕ × ℕ = get_or edges i d in
     same_pairs (with_pair edge.0 edge.1 has) (edge_test (take (i + 1) edges))
     (λ u v. ap (λ (p : ℕ → ℕ → Bool). (nat_eq u edge.0 && nat_eq v edge.1) || p u v) is
-    ∙ swap_or (nat_eq u edge.0 && nat_eq v edge.1) (edge_test (take i edges) u v)
+    ∙ or_swap (nat_eq u edge.0 && nat_eq v edge.1) (edge_test (take i edges) u v)
     ∙ sym (list_any_more (same_edge (u, v)) edges i d below))
+
+pub and_swap : (a b : Bool) → (a && b) ≡ (b && a)
+and_swap true true = refl
+and_swap true false = refl
+and_swap false true = refl
+and_swap false false = refl
+
+-- one edge more, the other way round
+pub caller_more : (edges : Edges) (i : ℕ) (d : ℕ × ℕ) (has : ℕ → ℕ → Bool) → i < length edges → has ≡ flipped (edge_test (take i edges))
+    → with_pair (get_or edges i d).1 (get_or edges i d).0 has ≡ flipped (edge_test (take (i + 1) edges))
+caller_more edges i d has below is =
+    let edge : ℕ × ℕ = get_or edges i d in
+    same_pairs (with_pair edge.1 edge.0 has) (flipped (edge_test (take (i + 1) edges)))
+    (λ u v. ap (λ (p : ℕ → ℕ → Bool). (nat_eq u edge.1 && nat_eq v edge.0) || p u v) is
+    ∙ ap (λ b. b || edge_test (take i edges) v u) (and_swap (nat_eq u edge.1) (nat_eq v edge.0))
+    ∙ or_swap (nat_eq v edge.0 && nat_eq u edge.1) (edge_test (take i edges) v u)
+    ∙ sym (list_any_more (same_edge (v, u)) edges i d below))
 
 module _ (edges : Edges) (has : ℕ → ℕ → Bool) (tells : (u v : ℕ) → Decides (has u v) (HasEdge edges u v)) where
   -- a walk without the unit k between its ends, or one to k and one on from it

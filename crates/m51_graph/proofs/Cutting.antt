@@ -4,10 +4,16 @@ use Rattle.std.specs.Prelude.{IfSome}
 use Rattle.std.specs.List.{list_any}
 use Rattle.std.proofs.lemmas.List.Folds.{list_any_more}
 use Rattle.m51_control.specs.declared.control.Control.{Control}
+use Rattle.m51_module.specs.declared.content.Fixup.{Fixup}
+use Rattle.m51_module.specs.declared.parts.ModuleParts.{ModuleParts}
 use Rattle.m51_module.specs.Walks.{Edges}
+use Rattle.m51_resolve.specs.Joining.{segments_of}
 use Rattle.m51_graph.specs.Conditions.{IsWithin}
-use Rattle.m51_graph.specs.Drawing.{cuts, edge_named, is_cut, is_edge}
-use Rattle.m51_graph.proofs.Within.{EdgeWithin, named_within}
+use Rattle.m51_graph.specs.Drawing.{cuts, edge_named, fixup_edge, is_cut, is_edge}
+use Rattle.m51_graph.specs.Locals.{is_apart, keeps_apart}
+use Rattle.m51_graph.specs.Units.{units_of}
+use Rattle.m51_graph.proofs.Closed.{or_swap}
+use Rattle.m51_graph.proofs.Within.{EdgeWithin, fixup_within, named_within, titles_are}
 
 -- an edge between named units, if there is one, is among the units
 within_of : (count : ℕ) (found : Option (ℕ × ℕ)) → EdgeWithin count found → IfSome found (λ edge. IsWithin count edge)
@@ -16,6 +22,11 @@ within_of count (Some e) h = record { from = h.0; to = h.1 }
 
 pub named_there : (titles : List (List ℕ)) (from name : List ℕ) → IfSome (edge_named titles from name) (λ edge. IsWithin (length titles) edge)
 named_there titles from name = within_of (length titles) (edge_named titles from name) (named_within titles from name)
+
+pub fixup_there : (modules : List ModuleParts) (m : ℕ) (f : Fixup) → IfSome (fixup_edge modules m f) (λ edge. IsWithin (length (units_of (segments_of modules))) edge)
+fixup_there modules m f =
+    within_of (length (units_of (segments_of modules))) (fixup_edge modules m f)
+    (subst (λ n. EdgeWithin n (fixup_edge modules m f)) (titles_are (segments_of modules)) (fixup_within modules m f))
 
 swap_or : (a b c : Bool) → (b || (c || a)) ≡ (c || (a || b))
 swap_or a true true = refl
@@ -46,3 +57,14 @@ same_tests p q h i = λ edge. h edge.0 edge.1 i
 -- the same edges are left
 pub same_left : (p q : ℕ × ℕ → Bool) (edges : Edges) → ((u v : ℕ) → p (u, v) ≡ q (u, v)) → filter (λ edge. not (p edge)) edges ≡ filter (λ edge. not (q edge)) edges
 same_left p q edges h = ap (λ (r : ℕ × ℕ → Bool). filter (λ edge. not (r edge)) edges) (same_tests p q h)
+
+-- a row of bits has one unit more, and then all that lines keep apart
+pub apart_more : (titles : List (List ℕ)) (controls : List (ℕ × Control)) (i : ℕ) (d : ℕ × Control) (unit : ℕ) (now new : Bool) → i < length controls
+    → new ≡ (keeps_apart titles unit (get_or controls i d).1 || now) → now ≡ is_apart titles (take i controls) unit → new ≡ is_apart titles (take (i + 1) controls) unit
+apart_more titles controls i d unit now new below is before =
+    is ∙ ap (λ b. keeps_apart titles unit (get_or controls i d).1 || b) before
+    ∙ or_swap (keeps_apart titles unit (get_or controls i d).1) (is_apart titles (take i controls) unit)
+    ∙ sym (list_any_more (λ (line : ℕ × Control). keeps_apart titles unit line.1) controls i d below)
+
+pub same_units : (p q : ℕ → Bool) → ((unit : ℕ) → p unit ≡ q unit) → p ≡ q
+same_units p q h i = λ unit. h unit i

@@ -4,7 +4,7 @@ use Rattle.std.specs.Bool.{Decides}
 use Rattle.std.proofs.lemmas.Bool.{false≢true}
 use Rattle.std.proofs.lemmas.Bool.Decides.{Decides-eqb, same_from_decides}
 use Rattle.m51_module.specs.Walks.{Edges, HasEdge, IsWalk, last_of, Reaches}
-use Rattle.m51_module.proofs.Owning.{contains_behind, first_or_behind, none_in_empty}
+use Rattle.m51_cells.proofs.Small.{contains_after, first_or_after, none_in_empty}
 use Rattle.m51_module.proofs.Reach.{reach_edge, reach_on, reach_from, lead_on}
 use Rattle.m51_graph.specs.Leading.{leads}
 
@@ -20,7 +20,7 @@ reach_trans edges u v w one two =
 -- a walk stays one where there are more edges
 walk_more : (edge : ℕ × ℕ) (edges : Edges) (u : ℕ) (more : List ℕ) → IsWalk edges u more → IsWalk (edge ∷ edges) u more
 walk_more edge edges u [] walk = tt
-walk_more edge edges u (v ∷ more) walk = (contains_behind edge edges (u, v) walk.0, walk_more edge edges v more walk.1)
+walk_more edge edges u (v ∷ more) walk = (contains_after edge edges (u, v) walk.0, walk_more edge edges v more walk.1)
 
 reach_more : (edge : ℕ × ℕ) (edges : Edges) (u v : ℕ) → Reaches edges u v → Reaches (edge ∷ edges) u v
 reach_more edge edges u v r = record { next = r.next; more = r.more; walk = walk_more edge edges u (r.next ∷ r.more) r.walk; ends = r.ends }
@@ -39,7 +39,7 @@ leads_on edges u v w e (inl same) = subst (λ x. Reaches edges u x) same (reach_
 leads_on edges u v w e (inr r) = reach_from edges u v w e r
 
 split_on : (edge : ℕ × ℕ) (edges : Edges) (u v w : ℕ) → HasEdge (edge ∷ edges) u v → Leads edges v w ⊎ (Leads edges v edge.0 × Leads edges edge.1 w) → Splits edge edges u w
-split_on edge edges u v w e rest = elim (first_or_behind edge edges (u, v) e) as (λ _. Splits edge edges u w) [
+split_on edge edges u v w e rest = elim (first_or_after edge edges (u, v) e) as (λ _. Splits edge edges u w) [
   | inl here ↦
       let from : u ≡ edge.0 = sym (ap (λ (p : ℕ × ℕ). p.0) here) in
       let to : v ≡ edge.1 = sym (ap (λ (p : ℕ × ℕ). p.1) here) in

@@ -1,13 +1,14 @@
 -- Edges drawn one after another, and what fixups of valid modules refer to.
 use Rattle.std.proofs.Common.{◌≡◌, ℕ, zero, suc, ◌+◌, ◌<◌, true, Bool, List, [], ◌∷◌, ◌++◌, length, ltb, drop, get_or, Option, Some, None, refl, sym, ap, subst, ◌∙◌, arith, add-one, drop-cons, append_assoc}
 use Rattle.std.specs.Prelude.{IsSome, is_some, flat_map, slice_get, option_and_then}
-use Rattle.std.specs.List.{All, Contains, range_with_len}
+use Rattle.std.specs.List.{All, Contains, cons_option, filter_map, range_with_len}
 use Rattle.std.proofs.lemmas.Grind.{flat_map-append}
 use Rattle.std.proofs.lemmas.List.Elements.{All-contains, Contains-get_or}
 use borrow.Author.Tests.{ltb-true}
 use Rattle.m51_cells.specs.declared.kind.Kind.{Kind}
 use Rattle.m51_cells.specs.declared.kind.Base.{Base}
 use Rattle.m51_cells.specs.declared.kind.Base.TheVariants.{None as NoBase, Segment as InSegment, External as OfExternal}
+use Rattle.m51_cells.proofs.Small.{range_suc}
 use Rattle.m51_control.specs.declared.control.Control.{Control}
 use Rattle.m51_module.specs.declared.content.Fixup.{Fixup}
 use Rattle.m51_module.specs.declared.content.Form.{Form}
@@ -22,6 +23,7 @@ use Rattle.m51_resolve.specs.Joining.{segment_at}
 use Rattle.m51_resolve.specs.Publics.{external_at}
 use Rattle.m51_graph.specs.Conditions.{IsBaseIn, IsTargetThere}
 use Rattle.m51_graph.specs.Drawing.{with_edge, with_edges, with_added, added_by, module_edges}
+use Rattle.m51_graph.specs.DrawnEdges.{with_found}
 
 -- some edges, and then more
 pub with_append : (edges one two : Edges) → with_edges edges (one ++ two) ≡ with_edges (with_edges edges one) two
@@ -43,11 +45,19 @@ added_step titles controls i d old new below is =
     ∙ sym (with_append old here (lines (drop (i + 1) controls)))
     ∙ ap (λ cs. with_edges old (lines cs)) (sym (drop_rest controls i d below))
 
--- one more module
-range_more : (first n : ℕ) → range_with_len first (suc n) ≡ range_with_len first n ++ (first + n) ∷ []
-range_more first zero = ap (λ k. k ∷ []) (omega arith)
-range_more first (suc n) = ap (λ ks. first ∷ ks) (range_more (first + 1) n ∙ ap (λ k. range_with_len (first + 1) n ++ k ∷ []) (omega arith))
+-- with one more, if it is there
+found_first : (now rest : Edges) (found : Option (ℕ × ℕ)) → with_edges (with_found now found) rest ≡ with_edges now (cons_option found rest)
+found_first now rest None = refl
+found_first now rest (Some e) = refl
 
+pub found_more : {A : Type 0} (f : A → Option (ℕ × ℕ)) (xs : List A) (i : ℕ) (d : A) (now new : Edges) → i < length xs → new ≡ with_found now (f (get_or xs i d))
+    → with_edges new (filter_map f (drop (i + 1) xs)) ≡ with_edges now (filter_map f (drop i xs))
+found_more f xs i d now new below is =
+    let rest = filter_map f (drop (i + 1) xs) in
+    ap (λ (edges : Edges). with_edges edges rest) is ∙ found_first now rest (f (get_or xs i d))
+    ∙ ap (λ ys. with_edges now (filter_map f ys)) (sym (drop_rest xs i d below))
+
+-- one more module
 append_none : (edges : Edges) → edges ++ [] ≡ edges
 append_none [] = refl
 append_none (e ∷ edges) = ap (λ es. e ∷ es) (append_none edges)
@@ -60,7 +70,7 @@ modules_step modules m edges new is before =
     is ∙ ap (λ (es : Edges). with_edges es (module_edges modules m)) before
     ∙ sym (with_append [] done (module_edges modules m))
     ∙ ap (with_edges []) (sym (ap (λ n. flat_map (module_edges modules) (range_with_len 0 n)) (add-one m)
-    ∙ ap (flat_map (module_edges modules)) (range_more 0 m)
+    ∙ ap (flat_map (module_edges modules)) (range_suc 0 m)
     ∙ flat_map-append (module_edges modules) (range_with_len 0 m) ((0 + m) ∷ [])
     ∙ ap (λ es. done ++ es) (ap (λ k. flat_map (module_edges modules) (k ∷ [])) (omega arith) ∙ append_none (module_edges modules m))))
 

@@ -8,12 +8,13 @@ use Rattle.std.proofs.lemmas.List.Elements.{Contains-append_cases, Contains-appe
 use Rattle.std.proofs.lemmas.List.Folds.{Any-from_list_any, list_any_at}
 use Rattle.std.proofs.lemmas.List.FromFn.{get_or-range_with_len, length-range_with_len}
 use Rattle.std.proofs.lemmas.Option.{slice_get_within}
+use Rattle.m51_cells.proofs.Small.{contains_first}
 use Rattle.m51_control.specs.declared.control.Control.{Control}
 use Rattle.m51_control.specs.declared.control.Control.TheVariants.{Add, Cut, NoOverlay, Reserve, Order}
 use Rattle.m51_module.specs.declared.content.Fixup.{Fixup}
 use Rattle.m51_module.specs.declared.parts.ModuleParts.{ModuleParts}
 use Rattle.m51_module.specs.Walks.{Edges, HasEdge}
-use Rattle.m51_module.proofs.Owning.{contains_behind, first_or_behind, none_in_empty}
+use Rattle.m51_cells.proofs.Small.{contains_after, first_or_after, none_in_empty}
 use Rattle.m51_resolve.specs.Joining.{segments_of}
 use Rattle.m51_graph.specs.Drawing.{added_by, cuts, edge_between, edge_named, edge_test, edges_of, fixup_edge, fixup_edges, has_edge, is_cut, is_edge, module_edges, same_edge, with_added, with_edge, with_edges}
 use Rattle.m51_graph.specs.Targets.{target_unit, unit_with}
@@ -21,16 +22,13 @@ use Rattle.m51_graph.specs.Laws.{EdgesAre, IsAdded, IsCut, RefersTo}
 use Rattle.m51_graph.specs.Units.{named, unit_titles}
 use Rattle.m51_graph.proofs.Closed.{edge_tells}
 
-here : {X : Type 0} (x : X) (xs : List X) → Contains (x ∷ xs) x
-here x xs = (0, omega arith, refl)
-
 -- an edge that is drawn is there, as those before it are
 drawn_in : (edges : Edges) (one e : ℕ × ℕ) → Contains (with_edge edges one) e → Contains edges e ⊎ (one ≡ e)
 drawn_in edges one e h = elim (cases_Bool (has_edge edges one)) as (λ _. Contains edges e ⊎ (one ≡ e)) [
   | inl there ↦ inl (subst (λ b. Contains (cond b edges (edges ++ one ∷ [])) e) there h)
   | inr new ↦ elim (Contains-append_cases edges (one ∷ []) e (subst (λ b. Contains (cond b edges (edges ++ one ∷ [])) e) new h)) as (λ _. Contains edges e ⊎ (one ≡ e)) [
     | inl before ↦ inl before
-    | inr last ↦ elim (first_or_behind one [] e last) as (λ _. Contains edges e ⊎ (one ≡ e)) [ inl is ↦ inr is | inr none ↦ absurd (none_in_empty e none) ]
+    | inr last ↦ elim (first_or_after one [] e last) as (λ _. Contains edges e ⊎ (one ≡ e)) [ inl is ↦ inr is | inr none ↦ absurd (none_in_empty e none) ]
   ]
 ]
 
@@ -48,9 +46,9 @@ all_drawn_in edges [] e h = inl h
 all_drawn_in edges (one ∷ more) e h = elim (all_drawn_in (with_edge edges one) more e h) as (λ _. Contains edges e ⊎ Contains (one ∷ more) e) [
   | inl before ↦ elim (drawn_in edges one e before) as (λ _. Contains edges e ⊎ Contains (one ∷ more) e) [
     | inl old ↦ inl old
-    | inr is ↦ inr (subst (λ x. Contains (one ∷ more) x) is (here one more))
+    | inr is ↦ inr (subst (λ x. Contains (one ∷ more) x) is (contains_first one more))
   ]
-  | inr later ↦ inr (contains_behind one more e later)
+  | inr later ↦ inr (contains_after one more e later)
 ]
 
 all_drawn_kept : (edges more : Edges) (e : ℕ × ℕ) → Contains edges e → Contains (with_edges edges more) e
@@ -59,7 +57,7 @@ all_drawn_kept edges (one ∷ more) e h = all_drawn_kept (with_edge edges one) m
 
 all_drawn : (edges more : Edges) (e : ℕ × ℕ) → Contains more e → Contains (with_edges edges more) e
 all_drawn edges [] e h = absurd (none_in_empty e h)
-all_drawn edges (one ∷ more) e h = elim (first_or_behind one more e h) as (λ _. Contains (with_edges (with_edge edges one) more) e) [
+all_drawn edges (one ∷ more) e h = elim (first_or_after one more e h) as (λ _. Contains (with_edges (with_edge edges one) more) e) [
   | inl is ↦ all_drawn_kept (with_edge edges one) more e (subst (λ x. Contains (with_edge edges one) x) is (drawn_new edges one))
   | inr later ↦ all_drawn (with_edge edges one) more e later
 ]
@@ -72,23 +70,23 @@ record Maker {X Y : Type 0} (f : X → Option Y) (xs : List X) (y : Y) : Type 0 
 
 made_option : {Y : Type 0} (found : Option Y) (ys : List Y) (y : Y) → Contains (cons_option found ys) y → (found ≡ Some y) ⊎ Contains ys y
 made_option None ys y h = inr h
-made_option (Some z) ys y h = elim (first_or_behind z ys y h) as (λ _. (Some z ≡ Some y) ⊎ Contains ys y) [ inl is ↦ inl (ap (λ w. Some w) is) | inr later ↦ inr later ]
+made_option (Some z) ys y h = elim (first_or_after z ys y h) as (λ _. (Some z ≡ Some y) ⊎ Contains ys y) [ inl is ↦ inl (ap (λ w. Some w) is) | inr later ↦ inr later ]
 
 option_kept : {Y : Type 0} (found : Option Y) (ys : List Y) (y : Y) → Contains ys y → Contains (cons_option found ys) y
 option_kept None ys y h = h
-option_kept (Some z) ys y h = contains_behind z ys y h
+option_kept (Some z) ys y h = contains_after z ys y h
 
 maker_of : {X Y : Type 0} (f : X → Option Y) (xs : List X) (y : Y) → Contains (filter_map f xs) y → Maker f xs y
 maker_of f [] y h = absurd (none_in_empty y h)
 maker_of f (x ∷ xs) y h = elim (made_option (f x) (filter_map f xs) y h) as (λ _. Maker f (x ∷ xs) y) [
-  | inl makes ↦ record { x = x; is = here x xs; makes = makes }
-  | inr later ↦ let m = maker_of f xs y later in record { x = m.x; is = contains_behind x xs m.x m.is; makes = m.makes }
+  | inl makes ↦ record { x = x; is = contains_first x xs; makes = makes }
+  | inr later ↦ let m = maker_of f xs y later in record { x = m.x; is = contains_after x xs m.x m.is; makes = m.makes }
 ]
 
 made_by : {X Y : Type 0} (f : X → Option Y) (xs : List X) (y : Y) (x : X) → Contains xs x → f x ≡ Some y → Contains (filter_map f xs) y
 made_by f [] y x h e = absurd (none_in_empty x h)
-made_by f (z ∷ xs) y x h e = elim (first_or_behind z xs x h) as (λ _. Contains (cons_option (f z) (filter_map f xs)) y) [
-  | inl is ↦ subst (λ found. Contains (cons_option found (filter_map f xs)) y) (sym (ap f is ∙ e)) (here y (filter_map f xs))
+made_by f (z ∷ xs) y x h e = elim (first_or_after z xs x h) as (λ _. Contains (cons_option (f z) (filter_map f xs)) y) [
+  | inl is ↦ subst (λ found. Contains (cons_option found (filter_map f xs)) y) (sym (ap f is ∙ e)) (contains_first y (filter_map f xs))
   | inr later ↦ option_kept (f z) (filter_map f xs) y (made_by f xs y x later e)
 ]
 
@@ -100,13 +98,13 @@ record Part {X Y : Type 0} (f : X → List Y) (xs : List X) (y : Y) : Type 0 whe
 part_with : {X Y : Type 0} (f : X → List Y) (xs : List X) (y : Y) → Contains (flat_map f xs) y → Part f xs y
 part_with f [] y h = absurd (none_in_empty y h)
 part_with f (x ∷ xs) y h = elim (Contains-append_cases (f x) (flat_map f xs) y h) as (λ _. Part f (x ∷ xs) y) [
-  | inl first ↦ record { x = x; is = here x xs; has = first }
-  | inr later ↦ let p = part_with f xs y later in record { x = p.x; is = contains_behind x xs p.x p.is; has = p.has }
+  | inl first ↦ record { x = x; is = contains_first x xs; has = first }
+  | inr later ↦ let p = part_with f xs y later in record { x = p.x; is = contains_after x xs p.x p.is; has = p.has }
 ]
 
 in_part : {X Y : Type 0} (f : X → List Y) (xs : List X) (y : Y) (x : X) → Contains xs x → Contains (f x) y → Contains (flat_map f xs) y
 in_part f [] y x h k = absurd (none_in_empty x h)
-in_part f (z ∷ xs) y x h k = elim (first_or_behind z xs x h) as (λ _. Contains (f z ++ flat_map f xs) y) [
+in_part f (z ∷ xs) y x h k = elim (first_or_after z xs x h) as (λ _. Contains (f z ++ flat_map f xs) y) [
   | inl is ↦ Contains-append_left (f z) (flat_map f xs) y (subst (λ w. Contains (f w) y) (sym is) k)
   | inr later ↦ Contains-append_right (f z) (flat_map f xs) y (in_part f xs y x later k)
 ]
@@ -245,21 +243,21 @@ module _ (titles : List (List ℕ)) (u v : ℕ) where
 left_in : (p : ℕ × ℕ → Bool) (edges : Edges) (e : ℕ × ℕ) → Contains (filter p edges) e → Contains edges e × (p e ≡ true)
 left_in p [] e h = absurd (none_in_empty e h)
 left_in p (x ∷ edges) e h = elim (cases_Bool (p x)) as (λ _. Contains (x ∷ edges) e × (p e ≡ true)) [
-  | inl passes ↦ elim (first_or_behind x (filter p edges) e (subst (λ b. Contains (cond b (x ∷ filter p edges) (filter p edges)) e) passes h)) as (λ _. Contains (x ∷ edges) e × (p e ≡ true)) [
-    | inl is ↦ (subst (λ w. Contains (x ∷ edges) w) is (here x edges), ap p (sym is) ∙ passes)
-    | inr later ↦ let rest = left_in p edges e later in (contains_behind x edges e rest.0, rest.1)
+  | inl passes ↦ elim (first_or_after x (filter p edges) e (subst (λ b. Contains (cond b (x ∷ filter p edges) (filter p edges)) e) passes h)) as (λ _. Contains (x ∷ edges) e × (p e ≡ true)) [
+    | inl is ↦ (subst (λ w. Contains (x ∷ edges) w) is (contains_first x edges), ap p (sym is) ∙ passes)
+    | inr later ↦ let rest = left_in p edges e later in (contains_after x edges e rest.0, rest.1)
   ]
-  | inr fails ↦ let rest = left_in p edges e (subst (λ b. Contains (cond b (x ∷ filter p edges) (filter p edges)) e) fails h) in (contains_behind x edges e rest.0, rest.1)
+  | inr fails ↦ let rest = left_in p edges e (subst (λ b. Contains (cond b (x ∷ filter p edges) (filter p edges)) e) fails h) in (contains_after x edges e rest.0, rest.1)
 ]
 
 is_left : (p : ℕ × ℕ → Bool) (edges : Edges) (e : ℕ × ℕ) → Contains edges e → p e ≡ true → Contains (filter p edges) e
 is_left p [] e h passes = absurd (none_in_empty e h)
-is_left p (x ∷ edges) e h passes = elim (first_or_behind x edges e h) as (λ _. Contains (filter p (x ∷ edges)) e) [
+is_left p (x ∷ edges) e h passes = elim (first_or_after x edges e h) as (λ _. Contains (filter p (x ∷ edges)) e) [
   | inl is ↦
       let first : p x ≡ true = ap p is ∙ passes in
-      subst (λ b. Contains (cond b (x ∷ filter p edges) (filter p edges)) e) (sym first) (subst (λ w. Contains (x ∷ filter p edges) w) is (here x (filter p edges)))
+      subst (λ b. Contains (cond b (x ∷ filter p edges) (filter p edges)) e) (sym first) (subst (λ w. Contains (x ∷ filter p edges) w) is (contains_first x (filter p edges)))
   | inr later ↦ elim (p x) as (λ b. Contains (cond b (x ∷ filter p edges) (filter p edges)) e) [
-    | true ↦ contains_behind x (filter p edges) e (is_left p edges e later passes)
+    | true ↦ contains_after x (filter p edges) e (is_left p edges e later passes)
     | false ↦ is_left p edges e later passes
   ]
 ]

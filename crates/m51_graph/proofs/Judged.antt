@@ -12,7 +12,7 @@ use Rattle.m51_module.specs.declared.linked.Refusal.{Refusal}
 use Rattle.m51_module.specs.declared.linked.Refusal.TheVariants.{L8}
 use Rattle.m51_module.specs.Roots.{vectors}
 use Rattle.m51_module.specs.Walks.{Edges, Reaches}
-use Rattle.m51_module.proofs.Owning.{contains_behind, first_or_behind, none_in_empty}
+use Rattle.m51_cells.proofs.Small.{contains_after, first_or_after, none_in_empty}
 use Rattle.m51_module.proofs.Units.{same_or_not}
 use Rattle.m51_graph.specs.declared.parts.GraphParts.{GraphParts}
 use Rattle.m51_graph.specs.Graph.{AreOfUnits, IsGraph, IsOwn, Owns, UnitLiesUnder}
@@ -75,7 +75,7 @@ cyclic_none reach unit (title ∷ more) h k below =
     ]
 
 -- the rules of all units
-none_of_both : (one two : Option Refusal) → option_or one two ≡ None → (one ≡ None) × (two ≡ None)
+pub none_of_both : (one two : Option Refusal) → option_or one two ≡ None → (one ≡ None) × (two ≡ None)
 none_of_both None two h = (refl, h)
 none_of_both (Some r) two h = absurd (cc h)
 
@@ -92,12 +92,12 @@ none_under_two reach g unit (title ∷ more) h (suc k) below =
 -- what passes the test is among what is left
 pub filter_keeps : (p : ℕ → Bool) (xs : List ℕ) (x : ℕ) → Contains xs x → p x ≡ true → Contains (filter p xs) x
 filter_keeps p [] x h passes = absurd (none_in_empty x h)
-filter_keeps p (y ∷ ys) x h passes = elim (first_or_behind y ys x h) as (λ _. Contains (filter p (y ∷ ys)) x) [
+filter_keeps p (y ∷ ys) x h passes = elim (first_or_after y ys x h) as (λ _. Contains (filter p (y ∷ ys)) x) [
   | inl here ↦
       let first : p y ≡ true = ap p here ∙ passes in
       subst (λ b. Contains (cond b (y ∷ filter p ys) (filter p ys)) x) (sym first) (0, omega arith, here)
   | inr behind ↦ elim (p y) as (λ b. Contains (cond b (y ∷ filter p ys) (filter p ys)) x) [
-    | true ↦ contains_behind y (filter p ys) x (filter_keeps p ys x behind passes)
+    | true ↦ contains_after y (filter p ys) x (filter_keeps p ys x behind passes)
     | false ↦ filter_keeps p ys x behind passes
   ]
 ]
@@ -105,8 +105,8 @@ filter_keeps p (y ∷ ys) x h passes = elim (first_or_behind y ys x h) as (λ _.
 -- a unit without that refusal lies under one root at most
 at_most_one : (title xs : List ℕ) (x y : ℕ) → under_two title xs ≡ None → Contains xs x → Contains xs y → x ≡ y
 at_most_one title [] x y h in_x in_y = absurd (none_in_empty x in_x)
-at_most_one title (a ∷ []) x y h in_x in_y = elim (first_or_behind a [] x in_x) as (λ _. x ≡ y) [
-  | inl here ↦ elim (first_or_behind a [] y in_y) as (λ _. x ≡ y) [
+at_most_one title (a ∷ []) x y h in_x in_y = elim (first_or_after a [] x in_x) as (λ _. x ≡ y) [
+  | inl here ↦ elim (first_or_after a [] y in_y) as (λ _. x ≡ y) [
     | inl there ↦ sym here ∙ there
     | inr behind ↦ absurd (none_in_empty y behind)
   ]

@@ -12,3 +12,7 @@ pub mod Closed
 pub mod Cutting
 pub mod EdgeLaws
 pub mod Judged
+pub mod NamedUnits
+pub mod OrderKeys
+pub mod PassedPairs
+pub mod Seen

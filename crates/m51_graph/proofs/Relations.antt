@@ -13,7 +13,7 @@ use Rattle.m51_module.specs.Walks.{Edges, HasEdge, IsWalk, Reaches, last_of}
 use Rattle.m51_module.proofs.Conflicts.{related_back}
 use Rattle.m51_module.proofs.Reach.{under_on}
 use Rattle.m51_graph.specs.declared.parts.GraphParts.{GraphParts}
-use Rattle.m51_graph.specs.declared.tables.Owned.{Owned}
+use Rattle.m51_graph.specs.declared.owner_pairs.Owned.{Owned}
 use Rattle.m51_graph.specs.declared.tables.Tables.{Tables}
 use Rattle.m51_graph.specs.Rows.{pairs}
 use Rattle.m51_graph.specs.Drawing.{edge_test}
@@ -117,12 +117,11 @@ module _ (g : GraphParts) (units : AreOfUnits g) where
   )
 
   abbrev Splits : ℕ → ℕ → Type 0
-  Splits one two = ((byte one ≡ 0) ⊎ (byte two ≡ 0)) ⊎ (byte one ≢ byte two)
+  Splits one two = (byte two ≡ 0) ⊎ (byte one ≢ byte two)
 
   splits_tell : (one two : ℕ) → Decides (are_apart (byte one) (byte two)) (Splits one two)
   splits_tell one two =
-      or_decides (nat_eq (byte one) 0 || nat_eq (byte two) 0) (not (nat_eq (byte one) (byte two)))
-      (or_decides (nat_eq (byte one) 0) (nat_eq (byte two) 0) (Decides-eqb (byte one) 0) (Decides-eqb (byte two) 0)) (not_tells (byte one) (byte two))
+      or_decides (nat_eq (byte two) 0) (not (nat_eq (byte one) (byte two))) (Decides-eqb (byte two) 0) (not_tells (byte one) (byte two))
 
   from_other : (one two : ℕ) → HasOne one → HasOne two → byte one ≢ byte two → Related one two
   from_other one two only only' ne = elim (bits_some (above g one) vectors) as (λ _. Related one two) [
@@ -143,9 +142,13 @@ module _ (g : GraphParts) (units : AreOfUnits g) where
 
   from_splits : (one two : ℕ) → HasOne one → HasOne two → Splits one two → Related one two
   from_splits one two only only' (inr ne) = from_other one two only only' ne
-  from_splits one two only only' (inl zero) = elim zero as (λ _. Related one two) [
-    | inl first ↦ FirstUnderNone (none_under one first)
-    | inr second ↦ SecondUnderNone (none_under two second)
+  from_splits one two only only' (inl zero) = SecondUnderNone (none_under two zero)
+
+  -- where the first is under no root, the second is under none too or has another byte
+  first_none : (one two : ℕ) → byte one ≡ 0 → Splits one two
+  first_none one two zero = elim (cases_eq (byte two) 0) as (λ _. Splits one two) [
+    | inl same ↦ inl same
+    | inr other ↦ inr (λ e. other (sym e ∙ zero))
   ]
 
   under_two : (one two x y : ℕ) → HasOne two → x ≢ y → UnitLiesUnder g x one → UnitLiesUnder g y two → byte one ≢ byte two
@@ -179,8 +182,8 @@ module _ (g : GraphParts) (units : AreOfUnits g) where
       | Same e ↦ inl (inl (inl e))
       | Before r ↦ inl (inl (inr r))
       | After r ↦ inl (inr r)
-      | FirstUnderNone none ↦ inr (inl (inl (zero_byte one none)))
-      | SecondUnderNone none ↦ inr (inl (inr (zero_byte two none)))
+      | FirstUnderNone none ↦ inr (first_none one two (zero_byte one none))
+      | SecondUnderNone none ↦ inr (inl (zero_byte two none))
       | UnderTwo x y ne p q ↦ inr (inr (under_two one two x y only' ne p q))
     ]),
   )

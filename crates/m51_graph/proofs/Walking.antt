@@ -87,7 +87,7 @@ find_from p (suc n) from (suc count) below passes fails =
     ∙ ap (λ (k : ℕ). Some k) (sym next)
 
 -- the first below n that passes
-find_least : (p : ℕ → Bool) (n count : ℕ) → count < n → p count ≡ true → ((k : ℕ) → k < count → p k ≡ false) → find p (range_with_len 0 n) ≡ Some count
+pub find_least : (p : ℕ → Bool) (n count : ℕ) → count < n → p count ≡ true → ((k : ℕ) → k < count → p k ≡ false) → find p (range_with_len 0 n) ≡ Some count
 find_least p n count below passes fails =
     let same : (k : ℕ) → 0 + k ≡ k = λ k. omega arith in
     find_from p n 0 count below (ap p (same count) ∙ passes) (λ k less. ap p (same k) ∙ fails k less) ∙ ap (λ (k : ℕ). Some k) (same count)

@@ -18,7 +18,7 @@ use Rattle.m51_module.specs.declared.content.Fixup.{Fixup}
 use Rattle.m51_module.specs.declared.parts.ModuleParts.{ModuleParts}
 use Rattle.m51_module.specs.Roots.{vectors}
 use Rattle.m51_module.specs.Walks.{Edges, HasEdge}
-use Rattle.m51_module.proofs.Owning.{contains_behind, first_or_behind, none_in_empty}
+use Rattle.m51_cells.proofs.Small.{contains_after, first_or_after, none_in_empty}
 use Rattle.m51_resolve.specs.declared.segment.JoinedSegment.{JoinedSegment}
 use Rattle.m51_resolve.specs.Joining.{segments_of}
 use Rattle.m51_resolve.specs.Publics.{public_of}
@@ -67,7 +67,7 @@ within_none count = record { within = λ u v h. absurd (none_in_empty (u, v) h) 
 
 within_first : (count : ℕ) (e : ℕ × ℕ) (edges : Edges) → (e.0 < count) × (e.1 < count) → LeadWithin count edges → LeadWithin count (e ∷ edges)
 within_first count e edges h rest = record {
-  within = λ u v k. elim (first_or_behind e edges (u, v) k) as (λ _. (u < count) × (v < count)) [
+  within = λ u v k. elim (first_or_after e edges (u, v) k) as (λ _. (u < count) × (v < count)) [
     | inl here ↦ subst (λ (p : ℕ × ℕ). (p.0 < count) × (p.1 < count)) here h
     | inr behind ↦ rest.within u v behind
   ];
@@ -77,7 +77,7 @@ first_within : (count : ℕ) (e : ℕ × ℕ) (edges : Edges) → LeadWithin cou
 first_within count e edges h = h.within e.0 e.1 (0, omega arith, refl)
 
 rest_within : (count : ℕ) (e : ℕ × ℕ) (edges : Edges) → LeadWithin count (e ∷ edges) → LeadWithin count edges
-rest_within count e edges h = record { within = λ u v k. h.within u v (contains_behind e edges (u, v) k) }
+rest_within count e edges h = record { within = λ u v k. h.within u v (contains_after e edges (u, v) k) }
 
 within_append : (count : ℕ) (one two : Edges) → LeadWithin count one → LeadWithin count two → LeadWithin count (one ++ two)
 within_append count one two h k = record {
@@ -134,10 +134,13 @@ module _ (modules : List ModuleParts) where
   target_below m (InSegment s) = unit_below m s
   target_below m (OfExternal e) = public_below (public_of modules m e).0 (public_base modules (public_of modules m e).0 (public_of modules m e).1)
 
+  pub fixup_within : (m : ℕ) (f : Fixup) → EdgeWithin (length (unit_titles (segments_of modules))) (fixup_edge modules m f)
+  fixup_within m f = between_within count _ _ (unit_below m f.segment) (target_below m f.target)
+
   module_within : (m : ℕ) → LeadWithin count (module_edges modules m)
   module_within m = elim (slice_get modules m) as (λ found. LeadWithin count (option_map_or (λ (parts : ModuleParts). filter_map (fixup_edge modules m) parts.fixups) found [])) [
     | None ↦ within_none count
-    | Some parts ↦ within_filter_map count (fixup_edge modules m) (λ (f : Fixup). between_within count _ _ (unit_below m f.segment) (target_below m f.target)) parts.fixups
+    | Some parts ↦ within_filter_map count (fixup_edge modules m) (fixup_within m) parts.fixups
   ]
 
   pub fixups_within : LeadWithin (length (unit_titles (segments_of modules))) (fixup_edges modules)
@@ -179,7 +182,7 @@ roots_fit unit (j ∷ more) x u h =
     let rest = roots_from (unit + 1) more in
     let later : Contains rest (x, u) → RootFit (unit + length (j ∷ more)) x u = λ k. let fit = roots_fit (unit + 1) more x u k in (fit.0, omega (arith, fit.1)) in
     elim (cases_Bool (is_root j)) as (λ _. RootFit (unit + length (j ∷ more)) x u) [
-      | inl root ↦ elim (first_or_behind (j.base, unit) rest (x, u) (subst (λ b. Contains (cond b ((j.base, unit) ∷ rest) rest) (x, u)) root h)) as (λ _. RootFit (unit + length (j ∷ more)) x u) [
+      | inl root ↦ elim (first_or_after (j.base, unit) rest (x, u) (subst (λ b. Contains (cond b ((j.base, unit) ∷ rest) rest) (x, u)) root h)) as (λ _. RootFit (unit + length (j ∷ more)) x u) [
         | inl here ↦ (subst (λ v. Contains vectors v) (ap (λ (p : ℕ × ℕ). p.0) here) (vector_is j root), omega (arith, ap (λ (p : ℕ × ℕ). p.1) here))
         | inr behind ↦ later behind
       ]
@@ -187,17 +190,17 @@ roots_fit unit (j ∷ more) x u h =
     ]
 
 -- own units are units
-apart_below : (titles : List (List ℕ)) (controls : List (ℕ × Control)) (found : Option ℕ) → Below (length titles) found → Below (length titles) (unless_apart titles controls found)
-apart_below titles controls None h = tt
-apart_below titles controls (Some unit) h = elim (is_apart titles controls unit) as (λ b. Below (length titles) (cond b None (Some unit))) [ true ↦ tt | false ↦ h ]
+apart_below : (most : ℕ) (apart : ℕ → Bool) (found : Option ℕ) → Below most found → Below most (unless_apart apart found)
+apart_below most apart None h = tt
+apart_below most apart (Some unit) h = elim (apart unit) as (λ b. Below most (cond b None (Some unit))) [ true ↦ tt | false ↦ h ]
 
 own_below : (titles : List (List ℕ)) (name : Option (List ℕ)) → Below (length titles) (option_and_then (named titles) name)
 own_below titles None = tt
 own_below titles (Some name) = position_below _ titles
 
 overlaid_below : (titles : List (List ℕ)) (controls : List (ℕ × Control)) (j : JoinedSegment) → Below (length titles) (overlaid_by titles controls j)
-overlaid_below titles controls j = elim j.overlay as (λ b. Below (length titles) (cond b (unless_apart titles controls (own_unit titles j)) None)) [
-  | true ↦ apart_below titles controls (own_unit titles j) (own_below titles (own_name j))
+overlaid_below titles controls j = elim j.overlay as (λ b. Below (length titles) (cond b (unless_apart (is_apart titles controls) (own_unit titles j)) None)) [
+  | true ↦ apart_below (length titles) (is_apart titles controls) (own_unit titles j) (own_below titles (own_name j))
   | false ↦ tt
 ]
 

@@ -1,6 +1,7 @@
 -- The edges of a program: where a fixup placed in one unit refers to another, or a control line adds one, and no line
 -- cuts it.
-use Rattle.std.specs.Prelude.{ℕ, Bool, false, not, ◌&&◌, nat_eq, if◌then◌else◌, List, [], ◌∷◌, ◌++◌, filter, flat_map, length, slice_get, Option, Some, None}
+use Rattle.std.specs.Prelude.{ℕ, Bool, false, not, ◌&&◌, nat_eq, if◌then◌else◌, List, [], ◌∷◌, ◌++◌, filter, flat_map}
+use Rattle.std.specs.Prelude.{length, slice_get, Option, Some, None}
 use Rattle.std.specs.List.{list_any, filter_map, range_with_len}
 use Rattle.std.specs.Option.{option_map_or}
 use Rattle.m51_control.specs.declared.control.Control.{Control}

@@ -1,6 +1,7 @@
 -- What a graph says of its units and segments.
 use Rattle.std.specs.Prelude.{◌≡◌, ◌⊎◌, ℕ, ◌/◌, ◌%◌, ◌<◌, ◌≤◌, ◌↔◌, true, List, [], ◌∷◌, length, slice_get, Some}
 use Rattle.std.specs.List.{Contains}
+use Rattle.m51_cells.specs.declared.limits.TheConstants.{MOST_UNITS}
 use Rattle.m51_module.specs.Conflict.{InConflict}
 use Rattle.m51_module.specs.Program.{ProgramGraph}
 use Rattle.m51_module.specs.Roots.{vectors, LiesUnder}
@@ -58,7 +59,7 @@ AreRootBits g unit bits = AreBits g unit vectors bits
 
 -- edges, roots and owners are of units, of which there are at most 1,000
 pub record AreOfUnits (g : GraphParts) : Type 0 where
-  pub few_units : length g.units ≤ 1000
+  pub few_units : length g.units ≤ MOST_UNITS
   pub edges : LeadWithin (length g.units) g.edges
   pub roots : (vector unit : ℕ) → IsRootAt g vector unit → Contains vectors vector × (unit < length g.units)
   pub own : (unit segment : ℕ) → IsOwn g unit segment → unit < length g.units

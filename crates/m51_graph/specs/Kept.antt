@@ -8,7 +8,7 @@ use Rattle.m51_graph.specs.Climbing.{AreSettled, AreWalked}
 use Rattle.m51_graph.specs.Drawing.{edge_test}
 use Rattle.m51_graph.specs.Graph.{IsGraph}
 use Rattle.m51_graph.specs.Leading.{leads}
-use Rattle.m51_graph.specs.Relating.{root_byte}
+use Rattle.m51_graph.specs.Relating.{AreOwnerPairs, root_byte}
 
 -- the tables are those of the parts
 pub record AreTables (g : GraphParts) (t : Tables) : Type 0 where
@@ -20,6 +20,7 @@ pub record AreTables (g : GraphParts) (t : Tables) : Type 0 where
   pub level_count : length t.levels.items ≡ length g.units
   pub walked : AreWalked g.edges t.levels.items
   pub settled : AreSettled g.edges t.levels.items
+  pub owners : AreOwnerPairs (edge_test g.edges) (leads g.edges) t.under.items (length g.units) t.owners
 
 -- the parts are those of a graph, and the tables are theirs
 pub record IsKept (g : GraphParts) (t : Tables) : Type 0 where

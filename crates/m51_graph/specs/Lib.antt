@@ -2,6 +2,7 @@ pub mod Bits
 pub mod Climbing
 pub mod Conditions
 pub mod Drawing
+pub mod DrawnEdges
 pub mod Graph
 pub mod Graphs
 pub mod Kept
@@ -10,6 +11,8 @@ pub mod Leading
 pub mod Levels
 pub mod Lines
 pub mod Locals
+pub mod Numbered
+pub mod Ordering
 pub mod Relating
 pub mod Rows
 pub mod Targets

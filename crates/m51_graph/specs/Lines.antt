@@ -1,5 +1,6 @@
 -- Which control lines fit a program.
-use Rattle.std.specs.Prelude.{ℕ, Bool, true, false, not, ◌&&◌, List, [], ◌∷◌, find, is_none, is_some, Option, Some, None, option_map}
+use Rattle.std.specs.Prelude.{ℕ, Bool, true, false, not, ◌&&◌, List, [], ◌∷◌, find, is_none, is_some, Option, Some}
+use Rattle.std.specs.Prelude.{None, option_map}
 use Rattle.std.specs.List.{list_any, list_all}
 use Rattle.std.specs.Option.{option_map_or}
 use Rattle.std.specs.Str.{bytes_eq}
@@ -26,19 +27,26 @@ abbrev pub is_made : Edges → Option (ℕ × ℕ) → Bool
 is_made made None = false
 is_made made (Some edge) = has_edge made edge
 
--- A line names units that are there; it adds edges between different units, and cuts edges that fixups make; it orders
--- segments that are of its class.
-abbrev pub fits : List (List ℕ) → List JoinedSegment → List (ℕ × Control) → Edges → Control → Bool
-fits titles segments controls made (Add from names) =
-    is_some (named titles from) && list_all (λ name. is_some (edge_named titles from name)) names
-fits titles segments controls made (Cut from names) =
-    is_some (named titles from) && list_all (λ name. is_made made (edge_named titles from name)) names
-fits titles segments controls made (NoOverlay name) = is_some (named titles name)
-fits titles segments controls made (Reserve space low high) = true
-fits titles segments controls made (Order class names) =
-    list_all (λ name. list_any (may_stand titles controls class name) segments) names
+-- a segment that has the name may stand in an order of the class
+abbrev pub stands : List (List ℕ) → List JoinedSegment → List (ℕ × Control) → Class → List ℕ → Bool
+stands titles segments controls class name = list_any (may_stand titles controls class name) segments
 
--- L7: the number of the first line that does not fit
+-- A line names units that are there; it adds edges between different units, and cuts edges that fixups make; it orders
+-- segments that may stand in an order of its class.
+abbrev pub fits_by : (Class → List ℕ → Bool) → List (List ℕ) → Edges → Control → Bool
+fits_by may titles made (Add from names) =
+    is_some (named titles from) && list_all (λ name. is_some (edge_named titles from name)) names
+fits_by may titles made (Cut from names) =
+    is_some (named titles from) && list_all (λ name. is_made made (edge_named titles from name)) names
+fits_by may titles made (NoOverlay name) = is_some (named titles name)
+fits_by may titles made (Reserve space low high) = true
+fits_by may titles made (Order class names) = list_all (may class) names
+
+-- the number of the first line that does not fit
+abbrev pub bad_line_by : (Class → List ℕ → Bool) → List (List ℕ) → List (ℕ × Control) → Edges → Option ℕ
+bad_line_by may titles controls made =
+    option_map (λ line. line.0) (find (λ line. not (fits_by may titles made line.1)) controls)
+
+-- L7: the number of the first line that does not fit these segments
 abbrev pub bad_line : List (List ℕ) → List JoinedSegment → List (ℕ × Control) → Edges → Option ℕ
-bad_line titles segments controls made =
-    option_map (λ line. line.0) (find (λ line. not (fits titles segments controls made line.1)) controls)
+bad_line titles segments controls made = bad_line_by (stands titles segments controls) titles controls made

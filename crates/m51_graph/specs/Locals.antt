@@ -1,5 +1,6 @@
 -- Locals and argument segments of units, and which segments are overlaid.
-use Rattle.std.specs.Prelude.{ℕ, Bool, true, false, ◌&&◌, ◌++◌, nat_eq, drop, if◌then◌else◌, List, [], ◌∷◌, map, find, is_none, Option, Some, None, option_map, option_and_then}
+use Rattle.std.specs.Prelude.{ℕ, Bool, true, false, ◌&&◌, ◌++◌, nat_eq, drop, if◌then◌else◌, List, [], ◌∷◌, map, find}
+use Rattle.std.specs.Prelude.{is_none, Option, Some, None, option_map, option_and_then}
 use Rattle.std.specs.List.{list_any, starts_with}
 use Rattle.std.specs.Option.{option_map_or}
 use Rattle.m51_cells.specs.declared.kind.Kind.{Kind}
@@ -55,14 +56,18 @@ keeps_apart titles unit other = false
 abbrev pub is_apart : List (List ℕ) → List (ℕ × Control) → ℕ → Bool
 is_apart titles controls unit = list_any (λ line. keeps_apart titles unit line.1) controls
 
--- that unit, unless a line keeps its segments apart
-abbrev pub unless_apart : List (List ℕ) → List (ℕ × Control) → Option ℕ → Option ℕ
-unless_apart titles controls None = None
-unless_apart titles controls (Some unit) = if is_apart titles controls unit then None else Some unit
+-- that unit, unless it is one whose segments are kept apart
+abbrev pub unless_apart : (ℕ → Bool) → Option ℕ → Option ℕ
+unless_apart apart None = None
+unless_apart apart (Some unit) = if apart unit then None else Some unit
+
+-- the own unit of a segment that is marked OVERLAYABLE, unless it is one whose segments are kept apart
+abbrev pub overlaid_unless : (ℕ → Bool) → List (List ℕ) → JoinedSegment → Option ℕ
+overlaid_unless apart titles j = if j.overlay then unless_apart apart (own_unit titles j) else None
 
 -- the own unit of a segment that is overlaid: it is marked OVERLAYABLE, and no line keeps its own unit's segments apart
 abbrev pub overlaid_by : List (List ℕ) → List (ℕ × Control) → JoinedSegment → Option ℕ
-overlaid_by titles controls j = if j.overlay then unless_apart titles controls (own_unit titles j) else None
+overlaid_by titles controls j = overlaid_unless (is_apart titles controls) titles j
 
 -- for each joined segment its own unit, where it is overlaid
 abbrev pub own_units : List (List ℕ) → List (ℕ × Control) → List JoinedSegment → List (Option ℕ)

@@ -1,7 +1,8 @@
 //! Rows of bits.
-ghost use Rattle.std.specs.Prelude.{◌≡◌, ◌*◌, ◌<◌, ◌||◌, ℕ, IfOk, bit_or, length, nat_eq, replicate, slice_index};
+ghost use Rattle.std.specs.Prelude.{◌≡◌, ◌*◌, ◌<◌, ◌||◌, ℕ, IfOk, bit_or, length, nat_eq, replicate};
 ghost use Rattle.m51_graph.specs.Bits.{bit};
 
+use crate::indexing::item_or;
 use m51_cells::NoMemory;
 use std::alloc::Global;
 use std::marker::Model;
@@ -20,22 +21,12 @@ impl Model for BitRow {
     ghost view = { λ r. r.words.items };
 }
 
-// The word of that number; 0 past the last.
-fn word_at(words: &[u64], number: usize) -> u64
-    ensures { result ≡ slice_index words.now number }
-{
-    match words.get(number) {
-        Some(word) => *word,
-        None => 0,
-    }
-}
-
 // Whether the bit of that number is set.
 #[tactic(auto, using(crate::proofs::BitLaws::bit_tested))]
 fn has_bit(words: &[u64], number: usize) -> bool
     ensures { result ≡ bit words.now number }
 {
-    word_at(words, number / 64) >> (number % 64) & 1 == 1
+    item_or(words, number / 64, 0) >> (number % 64) & 1 == 1
 }
 
 // Sets the bit of that number.

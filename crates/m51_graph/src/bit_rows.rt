@@ -1,7 +1,9 @@
 //! Sets of pairs of units.
-ghost use Rattle.std.specs.Prelude.{◌≡◌, ◌*◌, ◌<◌, ◌≤◌, ◌&&◌, ◌||◌, ℕ, [], IfOk, OnOk, length, replicate};
+ghost use Rattle.std.specs.Prelude.{◌≡◌, ◌*◌, ◌<◌, ◌≤◌, ◌&&◌, ◌||◌, ℕ, nat_eq, IfOk, OnOk, length, replicate};
+ghost use Rattle.m51_cells.specs.declared.limits.TheConstants.{MOST_UNITS};
 ghost use Rattle.m51_graph.specs.Bits.{bit, words_for};
-ghost use Rattle.m51_graph.specs.Rows.{AreRows, AreWide, closed_below, no_pair, pair_at, pairs, with_pair};
+ghost use Rattle.m51_graph.specs.Rows.{AreRows, AreWide, closed_below, no_pair, pair_at, pairs, passed_below};
+ghost use Rattle.m51_graph.specs.Rows.{with_pair};
 
 use crate::bit_row::BitRow;
 use m51_cells::NoMemory;
@@ -84,10 +86,59 @@ fn has_pair(rows: &[BitRow], from: usize, to: usize) -> bool
     }
 }
 
+// Adds the other row, if that is so.
+fn join_if(row: &mut BitRow, through: &BitRow, holds: bool)
+    requires { length row.old ≡ length through.now }
+    ensures len { length row.new ≡ length row.old }
+    ensures joined { (v : ℕ) → bit row.new v ≡ (bit row.old v || (holds && bit through.now v)) }
+{
+    if holds {
+        row.join(through);
+    }
+}
+
+// Adds the row to each of those whose row among the tests has the bit.
+fn pass_tested(rows: &mut [BitRow], tests: &[BitRow], through: &BitRow, k: usize)
+    requires { AreWide (length through.now) rows.old }
+    ensures len { length rows.new ≡ length rows.old }
+    ensures wide { AreWide (length through.now) rows.new }
+    ensures joined { (u v : ℕ) → u < length rows.old → pair_at rows.new u v
+        ≡ (pair_at rows.old u v || (pair_at tests.now u k && bit through.now v)) }
+{
+    for (u, row) in rows.iter_mut().enumerate() {
+        join_if(row, through, has_pair(tests, u, k));
+    }
+}
+
+// Adds to each row the others that its row among the tests has.
+fn pass_all(rows: &mut [BitRow], tests: &[BitRow], others: &[BitRow])
+    requires others { AreRows (length others.now) others.now }
+    requires wide { AreWide (words_for (length others.now)) rows.old }
+    ensures len { length rows.new ≡ length rows.old }
+    ensures wide { AreWide (words_for (length others.now)) rows.new }
+    ensures passed { (u v : ℕ) → u < length rows.old → pair_at rows.new u v
+        ≡ passed_below (pair_at tests.now) (pair_at others.now) (pair_at rows.old) (length others.now) u v }
+{
+    for k in 0..others.len() {
+        pass_tested(rows, tests, &others[k], k);
+    }
+}
+
+// Rows with the same bits.
+fn copy_rows(alloc: Global, rows: &[BitRow]) -> Result<Vec<BitRow>, NoMemory>
+    ensures { IfOk result (λ copies. copies.items ≡ rows.now) }
+{
+    let mut copies = Vec::new(alloc);
+    for row in rows {
+        copies.push(row.copy(alloc)?)?;
+    }
+    Ok(copies)
+}
+
 impl BitRows {
     // The set without a pair.
     pub(crate) fn none(alloc: Global, count: usize) -> Result<BitRows, NoMemory>
-        requires { count ≤ 1000 }
+        requires { count ≤ MOST_UNITS }
         ensures count { IfOk result (λ set. set.count ≡ count) }
         ensures pairs { IfOk result (λ set. pairs set ≡ no_pair) }
     {
@@ -99,7 +150,8 @@ impl BitRows {
 
     // How many units there are.
     pub(crate) fn count(&self) -> u16
-        ensures { result ≡ self.now.count }
+        ensures count { result ≡ self.now.count }
+        ensures few { self.now.count ≤ MOST_UNITS }
     {
         self.count as u16
     }
@@ -136,5 +188,38 @@ impl BitRows {
         ensures pairs { OnOk result (pairs self.new ≡ closed_below self.old.count (pairs self.old)) }
     {
         close_rows(alloc, &mut self.rows)
+    }
+
+    // Puts the pair into the set, if that is so.
+    pub(crate) fn put_if(&mut self, from: u16, to: u16, holds: bool)
+        requires from { from < self.old.count }
+        requires to { to < self.old.count }
+        ensures count { self.new.count ≡ self.old.count }
+        ensures pairs { (u v : ℕ) → pairs self.new u v
+            ≡ ((nat_eq u from && nat_eq v to && holds) || pairs self.old u v) }
+    {
+        if holds {
+            self.put(from, to);
+        }
+    }
+
+    // The pairs of this set, and those joined by a pair of the tests and then one of the other set.
+    pub(crate) fn passed(
+        &self,
+        alloc: Global,
+        tests: &BitRows,
+        others: &BitRows,
+    ) -> Result<BitRows, NoMemory>
+        requires { others.now.count ≡ self.now.count }
+        ensures count { IfOk result (λ set. set.count ≡ self.now.count) }
+        ensures pairs { IfOk result (λ set. (u v : ℕ) → u < self.now.count → pairs set u v
+            ≡ passed_below (pairs tests.now) (pairs others.now) (pairs self.now) self.now.count u v) }
+    {
+        let mut rows = copy_rows(alloc, &self.rows)?;
+        pass_all(&mut rows, &tests.rows, &others.rows);
+        Ok(BitRows {
+            count: self.count,
+            rows,
+        })
     }
 }

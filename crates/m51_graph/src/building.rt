@@ -1,21 +1,26 @@
 //! The graph of joined modules and control lines.
 ghost use Rattle.std.specs.Prelude.{◌≡◌, ◌≤◌, IfOk, length};
+ghost use Rattle.m51_cells.specs.declared.limits.TheConstants.{MOST_SEGMENTS};
 ghost use Rattle.m51_cells.specs.Outcome.{Gives};
 ghost use Rattle.m51_module.specs.Walks.{Edges};
 ghost use Rattle.m51_resolve.specs.Rules.{but_memory};
 ghost use Rattle.m51_graph.specs.Drawing.{edges_of};
 ghost use Rattle.m51_graph.specs.Graph.{LeadWithin};
 ghost use Rattle.m51_graph.specs.Graphs.{graph_of, graph_over, parts_of};
+ghost use Rattle.m51_graph.specs.Locals.{own_units};
 ghost use Rattle.m51_graph.specs.Units.{unit_titles};
 
 use crate::drawing::{edges_of, fixup_edges};
+use crate::edge_list::EdgeList;
 use crate::graphs::Graph;
 use crate::judging::judge;
 use crate::lines::bad_line;
 use crate::locals::{argument_marks, lost_segment, own_units};
 use crate::parts::GraphParts;
-use crate::units::{roots, unit_numbers, unit_titles};
-use m51_cells::{ListOf, Name, NoMemory};
+use crate::unit_names::UnitNames;
+use crate::unit_table::UnitTable;
+use crate::units::{roots, unit_numbers};
+use m51_cells::{ListOf, NoMemory};
 use m51_control::{Control, Controls};
 use m51_module::Refusal;
 use m51_resolve::{Joined, JoinedSegment};
@@ -25,20 +30,21 @@ use std::alloc::Global;
 fn parts_of(
     alloc: Global,
     segments: &[JoinedSegment],
-    titles: &[Name],
+    titles: &UnitNames,
     controls: &[(u32, Control)],
-    made: &[(u16, u16)],
+    made: EdgeList,
+    own: Vec<Option<u16>>,
 ) -> Result<GraphParts, NoMemory>
-    requires segments { length segments.now ≤ 2000 }
+    requires segments { length segments.now ≤ MOST_SEGMENTS }
     requires titles { titles.now ≡ unit_titles segments.now }
-    requires few { length titles.now ≤ 1000 }
+    requires made { made.count ≡ length titles.now }
+    requires own { own.items ≡ own_units titles.now controls.now segments.now }
     ensures { IfOk result (λ parts. parts
-        ≡ parts_of segments.now controls.now (edges_of titles.now controls.now made.now)) }
+        ≡ parts_of segments.now controls.now (edges_of titles.now controls.now made.list)) }
 {
     let units = unit_numbers(alloc, segments)?;
     let edges = edges_of(alloc, titles, controls, made)?;
     let roots = roots(alloc, segments)?;
-    let own = own_units(alloc, titles, controls, segments)?;
     let arguments = argument_marks(alloc, segments)?;
     Ok(GraphParts {
         units: ListOf::of(units),
@@ -54,24 +60,25 @@ fn parts_of(
 pub(crate) fn graph_over(
     alloc: Global,
     segments: &[JoinedSegment],
-    titles: &[Name],
+    titles: &UnitNames,
     controls: &[(u32, Control)],
-    made: &[(u16, u16)],
+    made: EdgeList,
 ) -> Result<Graph, Refusal>
-    requires segments { length segments.now ≤ 2000 }
+    requires segments { length segments.now ≤ MOST_SEGMENTS }
     requires titles { titles.now ≡ unit_titles segments.now }
-    requires few { length titles.now ≤ 1000 }
-    requires made { LeadWithin (length titles.now) made.now }
-    ensures { Gives (λ g. g) but_memory result (graph_over segments.now controls.now made.now) }
+    requires count { made.count ≡ length titles.now }
+    requires made { LeadWithin (length titles.now) made.list }
+    ensures { Gives (λ g. g) but_memory result (graph_over segments.now controls.now made.list) }
 {
-    if let Some(name) = lost_segment(titles, segments) {
+    if let Some(name) = lost_segment(titles.titles(), segments) {
         return Err(Refusal::L6 { name });
     }
-    if let Some(line) = bad_line(titles, segments, controls, made) {
+    let own = own_units(alloc, titles, controls, segments)?;
+    if let Some(line) = bad_line(alloc, titles, segments, &own, controls, &made)? {
         return Err(Refusal::L7 { line });
     }
-    let parts = parts_of(alloc, segments, titles, controls, made)?;
-    judge(alloc, titles, parts)
+    let parts = parts_of(alloc, segments, titles, controls, made, own)?;
+    judge(alloc, titles.titles(), parts)
 }
 
 /// The graph of chosen modules and control lines. The refusals, in their order: L6, the first segment marked
@@ -85,8 +92,8 @@ pub fn graph(alloc: Global, joined: &Joined, controls: &Controls) -> Result<Grap
     ensures { Gives (λ g. g) but_memory result (graph_of joined.now controls.now) }
 {
     let segments = joined.segments();
-    let titles = unit_titles(alloc, segments)?;
-    let units = unit_numbers(alloc, segments)?;
+    let titles = UnitNames::of(alloc, segments)?;
+    let units = UnitTable::of(alloc, segments)?;
     let made = fixup_edges(alloc, joined, &units)?;
-    graph_over(alloc, segments, &titles, controls.lines(), &made)
+    graph_over(alloc, segments, &titles, controls.lines(), made)
 }

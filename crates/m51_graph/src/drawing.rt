@@ -1,15 +1,18 @@
 //! The edges between units.
-ghost use Rattle.std.specs.Prelude.{◌≡◌, ◌≤◌, ◌||◌, ℕ, IfOk, IfSome, IsOk, IsSome, Some, filter, length, not, slice_get};
+ghost use Rattle.std.specs.Prelude.{◌≡◌, ◌||◌, ℕ, IfOk, IfSome, IsOk, IsSome, Some, filter, length, not, slice_get};
 ghost use Rattle.std.specs.List.{filter_map, list_any};
 ghost use Rattle.m51_resolve.specs.Joining.{segments_of, segment_at};
 ghost use Rattle.m51_graph.specs.Conditions.{IsTargetThere, IsWithin};
-ghost use Rattle.m51_graph.specs.Drawing.{added_by, cuts, edge_between, edge_named, edges_of, fixup_edge, fixup_edges, has_edge, is_cut, is_edge, module_edges, same_edge, with_added, with_edge, with_edges};
+ghost use Rattle.m51_graph.specs.Drawing.{added_by, cuts, edge_between, edge_named, edges_of, fixup_edge, fixup_edges};
+ghost use Rattle.m51_graph.specs.Drawing.{is_cut, is_edge, module_edges, with_added, with_edges};
 ghost use Rattle.m51_graph.specs.Rows.{pairs};
 ghost use Rattle.m51_graph.specs.Units.{units_of};
 
 use crate::bit_rows::BitRows;
+use crate::edge_list::EdgeList;
 use crate::targets::{target_unit, unit_with};
-use crate::units::named;
+use crate::unit_names::UnitNames;
+use crate::unit_table::UnitTable;
 use m51_cells::{Name, NoMemory};
 use m51_control::Control;
 use m51_module::{Fixup, Module};
@@ -27,11 +30,10 @@ pub(crate) fn edge_between(from: Option<u16>, to: Option<u16>) -> Option<(u16, u
 }
 
 // The edge that a fixup makes, whatever its form.
-fn fixup_edge(joined: &Joined, units: &[u16], module: u8, fixup: &Fixup) -> Option<(u16, u16)>
+fn fixup_edge(joined: &Joined, units: &UnitTable, module: u8, fixup: &Fixup) -> Option<(u16, u16)>
     requires field { IsSome (segment_at joined.now «module» fixup.now.segment) }
     requires target { IsTargetThere joined.now «module» fixup.now.target }
     requires units { units.now ≡ units_of (segments_of joined.now) }
-    requires few { length units.now ≤ 1000 }
     ensures { result ≡ fixup_edge joined.now «module» fixup.now }
 {
     edge_between(
@@ -40,62 +42,38 @@ fn fixup_edge(joined: &Joined, units: &[u16], module: u8, fixup: &Fixup) -> Opti
     )
 }
 
-// Whether the edges are one.
-fn same_edge(one: (u16, u16), two: (u16, u16)) -> bool
-    ensures { result ≡ same_edge one two }
-{
-    one.0 == two.0 && one.1 == two.1
-}
-
-// Whether the edge is one of these.
-pub(crate) fn has_edge(edges: &[(u16, u16)], edge: (u16, u16)) -> bool
-    ensures { result ≡ has_edge edges.now edge }
-{
-    edges.iter().any(|other| same_edge(edge, *other))
-}
-
-// Draws one more edge, unless it is there.
-fn draw(edges: &mut Vec<(u16, u16)>, edge: (u16, u16)) -> Result<(), NoMemory>
-    ensures { IsOk result → edges.new.items ≡ with_edge edges.old.items edge }
-{
-    if !has_edge(edges, edge) {
-        edges.push(edge)?;
-    }
-    Ok(())
-}
-
 // Draws the edges that the fixups of these parts make, which are those of the module.
 fn draw_fixups(
-    edges: &mut Vec<(u16, u16)>,
+    edges: &mut EdgeList,
     joined: &Joined,
-    units: &[u16],
+    units: &UnitTable,
     module: u8,
     parts: &Module,
 ) -> Result<(), NoMemory>
     requires there { slice_get joined.now «module» ≡ Some parts.now }
     requires units { units.now ≡ units_of (segments_of joined.now) }
-    requires few { length units.now ≤ 1000 }
-    ensures { IsOk result → edges.new.items
-        ≡ with_edges edges.old.items (filter_map (fixup_edge joined.now «module») parts.now.fixups) }
+    requires count { edges.old.count ≡ length units.now }
+    ensures count { edges.new.count ≡ edges.old.count }
+    ensures drawn { IsOk result → edges.new.list
+        ≡ with_edges edges.old.list (filter_map (fixup_edge joined.now «module») parts.now.fixups) }
 {
     for fixup in parts.fixups() {
-        if let Some(edge) = fixup_edge(joined, units, module, fixup) {
-            draw(edges, edge)?;
-        }
+        edges.draw_found(fixup_edge(joined, units, module, fixup))?;
     }
     Ok(())
 }
 
 // Draws the edges that the fixups of the module make.
 fn draw_module(
-    edges: &mut Vec<(u16, u16)>,
+    edges: &mut EdgeList,
     joined: &Joined,
-    units: &[u16],
+    units: &UnitTable,
     module: u8,
 ) -> Result<(), NoMemory>
     requires units { units.now ≡ units_of (segments_of joined.now) }
-    requires few { length units.now ≤ 1000 }
-    ensures { IsOk result → edges.new.items ≡ with_edges edges.old.items (module_edges joined.now «module») }
+    requires count { edges.old.count ≡ length units.now }
+    ensures count { edges.new.count ≡ edges.old.count }
+    ensures drawn { IsOk result → edges.new.list ≡ with_edges edges.old.list (module_edges joined.now «module») }
 {
     match joined.modules().get(usize::from(module)) {
         Some(parts) => draw_fixups(edges, joined, units, module, parts),
@@ -107,13 +85,12 @@ fn draw_module(
 pub(crate) fn fixup_edges(
     alloc: Global,
     joined: &Joined,
-    units: &[u16],
-) -> Result<Vec<(u16, u16)>, NoMemory>
-    requires units { units.now ≡ units_of (segments_of joined.now) }
-    requires few { length units.now ≤ 1000 }
-    ensures { IfOk result (λ edges. edges.items ≡ fixup_edges joined.now) }
+    units: &UnitTable,
+) -> Result<EdgeList, NoMemory>
+    requires { units.now ≡ units_of (segments_of joined.now) }
+    ensures { IfOk result (λ edges. edges ≡ record { count = length units.now; list = fixup_edges joined.now }) }
 {
-    let mut edges = Vec::new(alloc);
+    let mut edges = EdgeList::none(alloc, units.count())?;
     for module in 0..joined.modules().len() {
         draw_module(&mut edges, joined, units, module as u8)?;
     }
@@ -121,40 +98,35 @@ pub(crate) fn fixup_edges(
 }
 
 // The edge from the one named unit to the other.
-pub(crate) fn edge_named(titles: &[Name], from: &Name, to: &Name) -> Option<(u16, u16)>
-    requires { length titles.now ≤ 1000 }
+pub(crate) fn edge_named(titles: &UnitNames, from: &Name, to: &Name) -> Option<(u16, u16)>
     ensures { result ≡ edge_named titles.now from.now to.now }
 {
-    edge_between(named(titles, from), named(titles, to))
+    edge_between(titles.named(from), titles.named(to))
 }
 
 // Draws the edges from the named unit to these.
 fn draw_named(
-    edges: &mut Vec<(u16, u16)>,
-    titles: &[Name],
+    edges: &mut EdgeList,
+    titles: &UnitNames,
     from: &Name,
     names: &[Name],
 ) -> Result<(), NoMemory>
-    requires { length titles.now ≤ 1000 }
-    ensures { IsOk result → edges.new.items
-        ≡ with_edges edges.old.items (filter_map (edge_named titles.now from.now) names.now) }
+    requires { edges.old.count ≡ length titles.now }
+    ensures count { edges.new.count ≡ edges.old.count }
+    ensures drawn { IsOk result → edges.new.list
+        ≡ with_edges edges.old.list (filter_map (edge_named titles.now from.now) names.now) }
 {
     for name in names {
-        if let Some(edge) = edge_named(titles, from, name) {
-            draw(edges, edge)?;
-        }
+        edges.draw_found(edge_named(titles, from, name))?;
     }
     Ok(())
 }
 
 // Draws the edges that the line adds.
-fn draw_added(
-    edges: &mut Vec<(u16, u16)>,
-    titles: &[Name],
-    control: &Control,
-) -> Result<(), NoMemory>
-    requires { length titles.now ≤ 1000 }
-    ensures { IsOk result → edges.new.items ≡ with_edges edges.old.items (added_by titles.now control.now) }
+fn draw_added(edges: &mut EdgeList, titles: &UnitNames, control: &Control) -> Result<(), NoMemory>
+    requires { edges.old.count ≡ length titles.now }
+    ensures count { edges.new.count ≡ edges.old.count }
+    ensures drawn { IsOk result → edges.new.list ≡ with_edges edges.old.list (added_by titles.now control.now) }
 {
     match control {
         Control::Add(from, names) => draw_named(edges, titles, from, names.as_slice()),
@@ -164,12 +136,12 @@ fn draw_added(
 
 // Draws the edges that lines add.
 fn draw_lines(
-    edges: &mut Vec<(u16, u16)>,
-    titles: &[Name],
+    edges: &mut EdgeList,
+    titles: &UnitNames,
     controls: &[(u32, Control)],
 ) -> Result<(), NoMemory>
-    requires { length titles.now ≤ 1000 }
-    ensures { IsOk result → edges.new.items ≡ with_added titles.now controls.now edges.old.items }
+    requires { edges.old.count ≡ length titles.now }
+    ensures { IsOk result → edges.new.list ≡ with_added titles.now controls.now edges.old.list }
 {
     for line in controls {
         draw_added(edges, titles, &line.1)?;
@@ -189,9 +161,8 @@ fn put_edge(set: &mut BitRows, found: Option<(u16, u16)>)
 }
 
 // Puts the edges from the named unit to these into the set.
-fn put_named(set: &mut BitRows, titles: &[Name], from: &Name, names: &[Name])
-    requires few { length titles.now ≤ 1000 }
-    requires count { set.old.count ≡ length titles.now }
+fn put_named(set: &mut BitRows, titles: &UnitNames, from: &Name, names: &[Name])
+    requires { set.old.count ≡ length titles.now }
     ensures count { set.new.count ≡ set.old.count }
     ensures pairs { (u v : ℕ) → pairs set.new u v
         ≡ (pairs set.old u v || list_any (λ name. is_edge (u, v) (edge_named titles.now from.now name)) names.now) }
@@ -202,9 +173,8 @@ fn put_named(set: &mut BitRows, titles: &[Name], from: &Name, names: &[Name])
 }
 
 // Puts the edges that the line cuts into the set.
-fn put_cut(set: &mut BitRows, titles: &[Name], control: &Control)
-    requires few { length titles.now ≤ 1000 }
-    requires count { set.old.count ≡ length titles.now }
+fn put_cut(set: &mut BitRows, titles: &UnitNames, control: &Control)
+    requires { set.old.count ≡ length titles.now }
     ensures count { set.new.count ≡ set.old.count }
     ensures pairs { (u v : ℕ) → pairs set.new u v ≡ (pairs set.old u v || cuts titles.now (u, v) control.now) }
 {
@@ -216,13 +186,12 @@ fn put_cut(set: &mut BitRows, titles: &[Name], control: &Control)
 // The edges that lines cut.
 fn cut_rows(
     alloc: Global,
-    titles: &[Name],
+    titles: &UnitNames,
     controls: &[(u32, Control)],
 ) -> Result<BitRows, NoMemory>
-    requires { length titles.now ≤ 1000 }
     ensures { IfOk result (λ set. (u v : ℕ) → pairs set u v ≡ is_cut titles.now controls.now (u, v)) }
 {
-    let mut set = BitRows::none(alloc, titles.len())?;
+    let mut set = BitRows::none(alloc, titles.titles().len())?;
     for line in controls {
         put_cut(&mut set, titles, &line.1);
     }
@@ -247,11 +216,10 @@ fn outside(
 // Those of the edges that no line cuts.
 fn uncut(
     alloc: Global,
-    titles: &[Name],
+    titles: &UnitNames,
     controls: &[(u32, Control)],
     edges: &[(u16, u16)],
 ) -> Result<Vec<(u16, u16)>, NoMemory>
-    requires { length titles.now ≤ 1000 }
     ensures { IfOk result (λ left. left.items ≡ filter (λ edge. not (is_cut titles.now controls.now edge)) edges.now) }
 {
     let cut = cut_rows(alloc, titles, controls)?;
@@ -261,14 +229,14 @@ fn uncut(
 // The edges that fixups make or lines add, without those that a line cuts, wherever it stands.
 pub(crate) fn edges_of(
     alloc: Global,
-    titles: &[Name],
+    titles: &UnitNames,
     controls: &[(u32, Control)],
-    made: &[(u16, u16)],
+    made: EdgeList,
 ) -> Result<Vec<(u16, u16)>, NoMemory>
-    requires { length titles.now ≤ 1000 }
-    ensures { IfOk result (λ edges. edges.items ≡ edges_of titles.now controls.now made.now) }
+    requires { made.count ≡ length titles.now }
+    ensures { IfOk result (λ edges. edges.items ≡ edges_of titles.now controls.now made.list) }
 {
-    let mut edges = made.to_vec(alloc)?;
+    let mut edges = made;
     draw_lines(&mut edges, titles, controls)?;
-    uncut(alloc, titles, controls, &edges)
+    uncut(alloc, titles, controls, edges.list())
 }

@@ -9,8 +9,9 @@ ghost use Rattle.m51_graph.specs.Levels.{IsLevel, level_of};
 ghost use Rattle.m51_graph.specs.Relating.{IsOwned};
 
 use crate::bit_rows::BitRows;
+use crate::owner_pairs::Owned;
 use crate::parts::GraphParts;
-use crate::tables::{Owned, Tables};
+use crate::tables::Tables;
 use m51_cells::NoMemory;
 use std::alloc::Global;
 use std::marker::Model;
@@ -155,7 +156,7 @@ impl Graph {
         ensures { (s t : ℕ) → IsOwned self.now s one → IsOwned self.now t two
             → (IsTrue result ↔ SegmentsConflict self.now s t) }
     {
-        self.tables.are_owners_related(one, two)
+        self.tables.owners.are_related(one, two)
     }
 
     /// Whether the two joined segments, which are different, must not share a cell: one of them is not overlaid, or an

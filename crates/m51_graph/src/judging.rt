@@ -2,11 +2,13 @@
 ghost use Rattle.std.specs.Prelude.{◌≡◌, ◌<◌, ◌≤◌, IfOk, false, length, nat_eq};
 ghost use Rattle.std.specs.List.{list_any};
 ghost use Rattle.std.specs.Option.{option_map_or};
+ghost use Rattle.m51_cells.specs.declared.limits.TheConstants.{MOST_UNITS};
 ghost use Rattle.m51_cells.specs.Outcome.{Gives};
 ghost use Rattle.m51_resolve.specs.Rules.{but_memory};
 ghost use Rattle.m51_graph.specs.Rows.{pairs};
 ghost use Rattle.m51_graph.specs.Graph.{AreOfUnits};
-ghost use Rattle.m51_graph.specs.Graphs.{cyclic_from, first_under_two, has_overlaid, judged, judged_by, passed, under_two, unit_under_two};
+ghost use Rattle.m51_graph.specs.Graphs.{cyclic_from, first_under_two, has_overlaid, judged, judged_by, passed};
+ghost use Rattle.m51_graph.specs.Graphs.{under_two, unit_under_two};
 ghost use Rattle.m51_graph.specs.Leading.{leads};
 
 use crate::bit_rows::BitRows;
@@ -44,7 +46,7 @@ fn has_overlaid(own: &[Option<u16>], unit: u16) -> bool
 
 // The titles of the units that reach themselves.
 fn cyclic_titles(alloc: Global, titles: &[Name], reach: &BitRows) -> Result<Vec<Name>, NoMemory>
-    requires { length titles.now ≤ 1000 }
+    requires { length titles.now ≤ MOST_UNITS }
     ensures { IfOk result (λ cyclic. cyclic.items ≡ cyclic_from (pairs reach.now) 0 titles.now) }
 {
     let mut cyclic = Vec::new(alloc);
@@ -95,7 +97,7 @@ fn check_units(
     reach: &BitRows,
     titles: &[Name],
 ) -> Result<(), Refusal>
-    requires { length titles.now ≤ 1000 }
+    requires { length titles.now ≤ MOST_UNITS }
     ensures { Gives (λ u. u) but_memory result
         (passed (first_under_two (pairs reach.now) parts.now.roots parts.now.own 0 titles.now)) }
 {

@@ -26,9 +26,9 @@ pub fn edges_are_drawn()
 {}
 
 /// The level as a function of the edges: it is the number of edges of the longest walk that ends in the unit, where
-/// there is one.
+/// there is one and it has fewer than 65,536 edges. In a graph no walk has more edges than there are units.
 ///
-/// Source: RL51 guide.
+/// Source: own choice ("Levels as a function").
 pub fn level_is_longest()
     ensures { LevelIsLongest }
 {}

@@ -1,5 +1,6 @@
 //! The levels of units: how long the longest walk is that ends in each.
 ghost use Rattle.std.specs.Prelude.{◌≡◌, ◌<◌, ◌≤◌, ℕ, IfOk, length, slice_index};
+ghost use Rattle.m51_cells.specs.declared.limits.TheConstants.{MOST_UNITS};
 ghost use Rattle.m51_module.specs.Walks.{Reaches};
 ghost use Rattle.m51_graph.specs.Climbing.{AreSettled, AreWalked, IsClimbing, Lifts};
 ghost use Rattle.m51_graph.specs.Graph.{LeadWithin};
@@ -26,7 +27,7 @@ fn lift(levels: &mut [u16], lower: u16, upper: u16) -> bool
 // Raises each level that is not above that of a unit from which an edge leads to its own; whether one rose.
 fn raise(edges: &[(u16, u16)], levels: &mut [u16]) -> bool
     requires within { LeadWithin (length levels.old) edges.now }
-    requires units { length levels.old ≤ 1000 }
+    requires units { length levels.old ≤ MOST_UNITS }
     requires no_cycle { (unit : ℕ) → Reaches edges.now unit unit → ⊥ }
     requires walked { AreWalked edges.now levels.old }
     ensures { IsClimbing edges.now edges.now levels.old levels.new result }
@@ -43,7 +44,7 @@ fn raise(edges: &[(u16, u16)], levels: &mut [u16]) -> bool
 // Raises levels, which are 0, along the edges until none rises.
 fn climb(edges: &[(u16, u16)], levels: &mut [u16])
     requires within { LeadWithin (length levels.old) edges.now }
-    requires units { length levels.old ≤ 1000 }
+    requires units { length levels.old ≤ MOST_UNITS }
     requires no_cycle { (unit : ℕ) → Reaches edges.now unit unit → ⊥ }
     requires zero { (unit : ℕ) → unit < length levels.old → slice_index levels.old unit ≡ 0 }
     ensures len { length levels.new ≡ length levels.old }
@@ -60,7 +61,7 @@ pub(crate) fn levels(
     count: usize,
 ) -> Result<Vec<u16>, NoMemory>
     requires within { LeadWithin count edges.now }
-    requires few { count ≤ 1000 }
+    requires few { count ≤ MOST_UNITS }
     requires no_cycle { (unit : ℕ) → Reaches edges.now unit unit → ⊥ }
     ensures len { IfOk result (λ levels. length levels.items ≡ count) }
     ensures walked { IfOk result (λ levels. AreWalked edges.now levels.items) }

@@ -1,77 +1,29 @@
 //! Which control lines fit the joined segments.
-ghost use Rattle.std.specs.Prelude.{◌≡◌, ◌≤◌, is_some, length};
-ghost use Rattle.std.specs.List.{list_all, list_any};
+ghost use Rattle.std.specs.Prelude.{◌≡◌, IfOk, is_some};
+ghost use Rattle.std.specs.List.{list_all};
 ghost use Rattle.m51_graph.specs.Drawing.{edge_named};
-ghost use Rattle.m51_graph.specs.Lines.{bad_line, fits, is_made, is_of_class, may_stand};
+ghost use Rattle.m51_graph.specs.Lines.{bad_line, bad_line_by, fits_by, is_made};
+ghost use Rattle.m51_graph.specs.Locals.{own_units};
+ghost use Rattle.m51_graph.specs.Ordering.{order_has};
 
-use crate::drawing::{edge_named, has_edge};
-use crate::locals::overlaid_by;
-use crate::units::named;
-use m51_cells::Name;
-use m51_control::{Class, Control, class_of, same_class};
+use crate::drawing::edge_named;
+use crate::edge_list::EdgeList;
+use crate::ordering::{OrderNames, may_order, order_names};
+use crate::unit_names::UnitNames;
+use m51_cells::{Name, NoMemory};
+use m51_control::{Class, Control};
 use m51_resolve::JoinedSegment;
+use std::alloc::Global;
 
-// Whether the segment is of the class.
-fn is_of_class(class: Class, segment: &JoinedSegment) -> bool
-    ensures { result ≡ is_of_class class segment.now }
+// Whether each of the names may stand in an order of the class.
+fn are_ordered(orders: &OrderNames, class: Class, names: &[Name]) -> bool
+    ensures { result ≡ list_all (order_has orders.now.keys class) names.now }
 {
-    match class_of(segment.kind, segment.reloc) {
-        Some(other) => same_class(class, other),
-        None => false,
-    }
-}
-
-// Whether the segment has that name, is relocatable and of that class, and is not overlaid.
-fn may_stand(
-    titles: &[Name],
-    controls: &[(u32, Control)],
-    class: Class,
-    name: &Name,
-    segment: &JoinedSegment,
-) -> bool
-    requires { length titles.now ≤ 1000 }
-    ensures { result ≡ may_stand titles.now controls.now class name.now segment.now }
-{
-    if segment.title.bytes() != name.bytes() {
-        return false;
-    }
-    is_of_class(class, segment) && overlaid_by(titles, controls, segment).is_none()
-}
-
-// Whether a segment that has that name may stand in an order of the class.
-fn is_ordered(
-    titles: &[Name],
-    segments: &[JoinedSegment],
-    controls: &[(u32, Control)],
-    class: Class,
-    name: &Name,
-) -> bool
-    requires { length titles.now ≤ 1000 }
-    ensures { result ≡ list_any (may_stand titles.now controls.now class name.now) segments.now }
-{
-    segments.iter().any(|segment| may_stand(titles, controls, class, name, segment))
-}
-
-// Whether each segment that has one of these names may stand in an order of the class.
-fn are_ordered(
-    titles: &[Name],
-    segments: &[JoinedSegment],
-    controls: &[(u32, Control)],
-    class: Class,
-    names: &[Name],
-) -> bool
-    requires { length titles.now ≤ 1000 }
-    ensures { result
-        ≡ list_all (λ name. list_any (may_stand titles.now controls.now class name) segments.now) names.now }
-{
-    names
-        .iter()
-        .all(|name| is_ordered(titles, segments, controls, class, name))
+    names.iter().all(|name| may_order(orders, class, name))
 }
 
 // Whether each of these names is that of a unit, other than the first.
-fn are_others(titles: &[Name], from: &Name, names: &[Name]) -> bool
-    requires { length titles.now ≤ 1000 }
+fn are_others(titles: &UnitNames, from: &Name, names: &[Name]) -> bool
     ensures { result ≡ list_all (λ name. is_some (edge_named titles.now from.now name)) names.now }
 {
     names
@@ -80,19 +32,18 @@ fn are_others(titles: &[Name], from: &Name, names: &[Name]) -> bool
 }
 
 // Whether the edge is there, and fixups make it.
-fn is_made(made: &[(u16, u16)], edge: Option<(u16, u16)>) -> bool
-    ensures { result ≡ is_made made.now edge }
+fn is_made(made: &EdgeList, edge: Option<(u16, u16)>) -> bool
+    ensures { result ≡ is_made made.now.list edge }
 {
     match edge {
-        Some(edge) => has_edge(made, edge),
+        Some(edge) => made.has(edge),
         None => false,
     }
 }
 
 // Whether fixups make the edges from the named unit to each of these.
-fn are_made(titles: &[Name], made: &[(u16, u16)], from: &Name, names: &[Name]) -> bool
-    requires { length titles.now ≤ 1000 }
-    ensures { result ≡ list_all (λ name. is_made made.now (edge_named titles.now from.now name)) names.now }
+fn are_made(titles: &UnitNames, made: &EdgeList, from: &Name, names: &[Name]) -> bool
+    ensures { result ≡ list_all (λ name. is_made made.now.list (edge_named titles.now from.now name)) names.now }
 {
     names
         .iter()
@@ -101,43 +52,49 @@ fn are_made(titles: &[Name], made: &[(u16, u16)], from: &Name, names: &[Name]) -
 
 // Whether the line fits: it names units that are there, adds edges between different ones, cuts edges that fixups make,
 // and orders segments of its class.
-fn fits(
-    titles: &[Name],
-    segments: &[JoinedSegment],
-    controls: &[(u32, Control)],
-    made: &[(u16, u16)],
-    control: &Control,
-) -> bool
-    requires { length titles.now ≤ 1000 }
-    ensures { result ≡ fits titles.now segments.now controls.now made.now control.now }
+fn fits(titles: &UnitNames, orders: &OrderNames, made: &EdgeList, control: &Control) -> bool
+    ensures { result ≡ fits_by (order_has orders.now.keys) titles.now made.now.list control.now }
 {
     match control {
         Control::Add(from, names) => {
-            named(titles, from).is_some() && are_others(titles, from, names.as_slice())
+            titles.named(from).is_some() && are_others(titles, from, names.as_slice())
         }
         Control::Cut(from, names) => {
-            named(titles, from).is_some() && are_made(titles, made, from, names.as_slice())
+            titles.named(from).is_some() && are_made(titles, made, from, names.as_slice())
         }
-        Control::NoOverlay(name) => named(titles, name).is_some(),
+        Control::NoOverlay(name) => titles.named(name).is_some(),
         Control::Reserve(_, _, _) => true,
-        Control::Order(class, names) => {
-            are_ordered(titles, segments, controls, *class, names.as_slice())
-        }
+        Control::Order(class, names) => are_ordered(orders, *class, names.as_slice()),
     }
 }
 
-// The number of the first line that does not fit.
-pub(crate) fn bad_line(
-    titles: &[Name],
-    segments: &[JoinedSegment],
+// The number of the first line that does not fit, by the names that may stand in orders.
+fn bad_line_by(
+    titles: &UnitNames,
+    orders: &OrderNames,
     controls: &[(u32, Control)],
-    made: &[(u16, u16)],
+    made: &EdgeList,
 ) -> Option<u32>
-    requires { length titles.now ≤ 1000 }
-    ensures { result ≡ bad_line titles.now segments.now controls.now made.now }
+    ensures { result ≡ bad_line_by (order_has orders.now.keys) titles.now controls.now made.now.list }
 {
     controls
         .iter()
-        .find(|line| !fits(titles, segments, controls, made, &line.1))
+        .find(|line| !fits(titles, orders, made, &line.1))
         .map(|line| line.0)
+}
+
+// The number of the first line that does not fit. The own unit of each segment that is overlaid stands in the list.
+pub(crate) fn bad_line(
+    alloc: Global,
+    titles: &UnitNames,
+    segments: &[JoinedSegment],
+    own: &[Option<u16>],
+    controls: &[(u32, Control)],
+    made: &EdgeList,
+) -> Result<Option<u32>, NoMemory>
+    requires { own.now ≡ own_units titles.now controls.now segments.now }
+    ensures { IfOk result (λ found. found ≡ bad_line titles.now segments.now controls.now made.now.list) }
+{
+    let orders = order_names(alloc, own, segments)?;
+    Ok(bad_line_by(titles, &orders, controls, made))
 }

@@ -1,10 +1,17 @@
 //! Locals and argument segments of units, and which segments are overlaid.
-ghost use Rattle.std.specs.Prelude.{◌≡◌, ◌≤◌, ◌<◌, ◌++◌, IfOk, IfSome, length, map, option_and_then, option_map, position};
+ghost use Rattle.std.specs.Prelude.{◌≡◌, ◌≤◌, ◌<◌, ◌*◌, ◌++◌, ◌||◌, ℕ, false, nat_eq, length, map};
+ghost use Rattle.std.specs.Prelude.{IfOk, IfSome, option_and_then, option_map, position};
+ghost use Rattle.std.specs.Option.{option_map_or};
 ghost use Rattle.std.specs.Str.{bytes_eq};
-ghost use Rattle.m51_graph.specs.Locals.{front_of, is_apart, is_lost, keeps_apart, local_front, lost_segment, overlaid_by, own_name, own_unit, own_units, unit_front, unit_name};
+ghost use Rattle.m51_cells.specs.declared.limits.TheConstants.{MOST_UNITS};
+ghost use Rattle.m51_graph.specs.Bits.{bit};
+ghost use Rattle.m51_graph.specs.Locals.{front_of, is_apart, is_lost, keeps_apart, local_front, lost_segment};
+ghost use Rattle.m51_graph.specs.Locals.{overlaid_unless, own_name, own_unit, own_units, unit_front, unit_name};
 ghost use Rattle.m51_graph.specs.Units.{named};
 
-use crate::units::{as_unit, named};
+use crate::bit_row::BitRow;
+use crate::unit_names::UnitNames;
+use crate::units::as_unit;
 use m51_cells::{Kind, Name, NoMemory};
 use m51_control::Control;
 use m51_resolve::JoinedSegment;
@@ -70,7 +77,7 @@ fn place_of(titles: &[Name], rest: &[u8]) -> Option<usize>
 
 // The first unit with the title that is ?PR? and then these bytes.
 fn unit_of(titles: &[Name], rest: &[u8]) -> Option<u16>
-    requires { length titles.now ≤ 1000 }
+    requires { length titles.now ≤ MOST_UNITS }
     ensures { result ≡ position (λ title. bytes_eq title (unit_front ++ rest.now)) titles.now }
 {
     as_unit(place_of(titles, rest))
@@ -78,7 +85,7 @@ fn unit_of(titles: &[Name], rest: &[u8]) -> Option<u16>
 
 // The unit of which the name has that front.
 fn named_with(titles: &[Name], name: &[u8], front: [u8; 4]) -> Option<u16>
-    requires { length titles.now ≤ 1000 }
+    requires { length titles.now ≤ MOST_UNITS }
     ensures { result ≡ option_and_then (named titles.now) (unit_name name.now front) }
 {
     match after_front(name, front) {
@@ -89,7 +96,7 @@ fn named_with(titles: &[Name], name: &[u8], front: [u8; 4]) -> Option<u16>
 
 // The unit whose local or argument segment it is.
 fn own_unit(titles: &[Name], segment: &JoinedSegment) -> Option<u16>
-    requires { length titles.now ≤ 1000 }
+    requires { length titles.now ≤ MOST_UNITS }
     ensures { result ≡ own_unit titles.now segment.now }
 {
     match front_of(segment) {
@@ -100,7 +107,7 @@ fn own_unit(titles: &[Name], segment: &JoinedSegment) -> Option<u16>
 
 // Whether the segment is marked OVERLAYABLE and is neither a local nor the argument segment of a unit.
 fn is_lost(titles: &[Name], segment: &JoinedSegment) -> bool
-    requires { length titles.now ≤ 1000 }
+    requires { length titles.now ≤ MOST_UNITS }
     ensures { result ≡ is_lost titles.now segment.now }
 {
     segment.overlay && own_unit(titles, segment).is_none()
@@ -108,7 +115,7 @@ fn is_lost(titles: &[Name], segment: &JoinedSegment) -> bool
 
 // The first segment that is marked OVERLAYABLE and is neither a local nor the argument segment of a unit.
 pub(crate) fn lost_segment(titles: &[Name], segments: &[JoinedSegment]) -> Option<Name>
-    requires { length titles.now ≤ 1000 }
+    requires { length titles.now ≤ MOST_UNITS }
     ensures { result ≡ lost_segment titles.now segments.now }
 {
     segments
@@ -117,45 +124,55 @@ pub(crate) fn lost_segment(titles: &[Name], segments: &[JoinedSegment]) -> Optio
         .map(|segment| segment.title)
 }
 
-// Whether the line keeps the segments of the unit apart.
-fn keeps_apart(titles: &[Name], unit: u16, control: &Control) -> bool
-    requires { length titles.now ≤ 1000 }
-    ensures { result ≡ keeps_apart titles.now unit control.now }
+// Puts the named unit into the row, if there is one.
+fn put_named(row: &mut BitRow, titles: &UnitNames, name: &Name)
+    requires { length titles.now ≤ 64 * length row.old }
+    ensures len { length row.new ≡ length row.old }
+    ensures put { (unit : ℕ) → bit row.new unit
+        ≡ (option_map_or (nat_eq unit) (named titles.now name.now) false || bit row.old unit) }
 {
-    match control {
-        Control::NoOverlay(name) => match named(titles, name) {
-            Some(found) => unit == found,
-            None => false,
-        },
-        _ => false,
+    if let Some(unit) = titles.named(name) {
+        row.put(usize::from(unit));
     }
 }
 
-// Whether a line keeps the segments of the unit apart.
-fn is_apart(titles: &[Name], controls: &[(u32, Control)], unit: u16) -> bool
-    requires { length titles.now ≤ 1000 }
-    ensures { result ≡ is_apart titles.now controls.now unit }
+// Puts the unit into the row whose segments the line keeps apart, if there is one.
+fn put_apart(row: &mut BitRow, titles: &UnitNames, control: &Control)
+    requires { length titles.now ≤ 64 * length row.old }
+    ensures len { length row.new ≡ length row.old }
+    ensures put { (unit : ℕ) → bit row.new unit ≡ (keeps_apart titles.now unit control.now || bit row.old unit) }
 {
-    controls
-        .iter()
-        .any(|line| keeps_apart(titles, unit, &line.1))
+    if let Control::NoOverlay(name) = control {
+        put_named(row, titles, name);
+    }
 }
 
-// The own unit of a segment that is overlaid: one that is marked OVERLAYABLE, unless a line keeps the segments of its
-// own unit apart.
-pub(crate) fn overlaid_by(
-    titles: &[Name],
+// The units whose segments lines keep apart.
+fn apart_units(
+    alloc: Global,
+    titles: &UnitNames,
     controls: &[(u32, Control)],
-    segment: &JoinedSegment,
-) -> Option<u16>
-    requires { length titles.now ≤ 1000 }
-    ensures { result ≡ overlaid_by titles.now controls.now segment.now }
+) -> Result<BitRow, NoMemory>
+    ensures { IfOk result (λ row. bit row ≡ is_apart titles.now controls.now) }
+{
+    let mut row = BitRow::blank(alloc, (titles.titles().len() + 63) / 64)?;
+    for line in controls {
+        put_apart(&mut row, titles, &line.1);
+    }
+    Ok(row)
+}
+
+// The own unit of a segment that is overlaid: one that is marked OVERLAYABLE, unless lines keep the segments of its own
+// unit apart.
+fn overlaid_unless(apart: &BitRow, titles: &[Name], segment: &JoinedSegment) -> Option<u16>
+    requires { length titles.now ≤ MOST_UNITS }
+    ensures { result ≡ overlaid_unless (bit apart.now) titles.now segment.now }
 {
     if !segment.overlay {
         return None;
     }
     match own_unit(titles, segment) {
-        Some(unit) if !is_apart(titles, controls, unit) => Some(unit),
+        Some(unit) if !apart.has(usize::from(unit)) => Some(unit),
         _ => None,
     }
 }
@@ -163,30 +180,30 @@ pub(crate) fn overlaid_by(
 // The own unit of each of the segments that is overlaid.
 fn each_own(
     alloc: Global,
+    apart: &BitRow,
     titles: &[Name],
-    controls: &[(u32, Control)],
     segments: &[JoinedSegment],
 ) -> Result<Vec<Option<u16>>, AllocError>
-    requires { length titles.now ≤ 1000 }
-    ensures { IfOk result (λ own. own.items ≡ own_units titles.now controls.now segments.now) }
+    requires { length titles.now ≤ MOST_UNITS }
+    ensures { IfOk result (λ own. own.items ≡ map (overlaid_unless (bit apart.now) titles.now) segments.now) }
 {
     segments
         .iter()
-        .map(|segment| overlaid_by(titles, controls, segment))
+        .map(|segment| overlaid_unless(apart, titles, segment))
         .collect(alloc)
 }
 
 // The own unit of each joined segment that is overlaid.
 pub(crate) fn own_units(
     alloc: Global,
-    titles: &[Name],
+    titles: &UnitNames,
     controls: &[(u32, Control)],
     segments: &[JoinedSegment],
 ) -> Result<Vec<Option<u16>>, NoMemory>
-    requires { length titles.now ≤ 1000 }
     ensures { IfOk result (λ own. own.items ≡ own_units titles.now controls.now segments.now) }
 {
-    Ok(each_own(alloc, titles, controls, segments)?)
+    let apart = apart_units(alloc, titles, controls)?;
+    Ok(each_own(alloc, &apart, titles.titles(), segments)?)
 }
 
 // Whether each of the segments has the argument mark.

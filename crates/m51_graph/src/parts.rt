@@ -2,17 +2,19 @@
 use m51_cells::ListOf;
 use m51_module::{Pairs, Units};
 
-/// For each joined segment its own unit, where it is overlaid: the unit whose local or argument segment it is.
+/// For each joined segment, counted from 0, its own unit, where it is overlaid: the unit whose local or argument
+/// segment it is.
 ///
 /// Source: own choice ("Lists in types").
 pub type OwnUnits = ListOf<Option<u16>>;
 
-/// For each joined segment whether it has a mark.
+/// For each joined segment, counted from 0, whether it has a mark.
 ///
 /// Source: own choice ("Lists in types").
 pub type Marks = ListOf<bool>;
 
-/// The parts of a graph. Units and joined segments are counted from 0.
+/// The parts of a graph: what contracts see of it, and what it lends. Units, at most 1,000, and joined segments, at
+/// most 2,000, are counted from 0.
 ///
 /// Source: RL51 guide.
 #[derive(Drop)]

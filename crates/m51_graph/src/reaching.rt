@@ -1,6 +1,7 @@
 //! The pairs of units that edges join, and those that walks along edges join.
 ghost use Rattle.std.specs.Prelude.{◌≡◌, ◌≤◌, IfOk};
-ghost use Rattle.m51_graph.specs.Rows.{pairs};
+ghost use Rattle.m51_cells.specs.declared.limits.TheConstants.{MOST_UNITS};
+ghost use Rattle.m51_graph.specs.Rows.{flipped, pairs};
 ghost use Rattle.m51_graph.specs.Drawing.{edge_test};
 ghost use Rattle.m51_graph.specs.Graph.{LeadWithin};
 ghost use Rattle.m51_graph.specs.Leading.{leads};
@@ -15,7 +16,7 @@ pub(crate) fn edge_rows(
     edges: &[(u16, u16)],
     count: usize,
 ) -> Result<BitRows, NoMemory>
-    requires few { count ≤ 1000 }
+    requires few { count ≤ MOST_UNITS }
     requires within { LeadWithin count edges.now }
     ensures count { IfOk result (λ rows. rows.count ≡ count) }
     ensures pairs { IfOk result (λ rows. pairs rows ≡ edge_test edges.now) }
@@ -27,6 +28,24 @@ pub(crate) fn edge_rows(
     Ok(rows)
 }
 
+// The pairs of which the second unit has an edge to the first.
+pub(crate) fn caller_rows(
+    alloc: Global,
+    edges: &[(u16, u16)],
+    count: usize,
+) -> Result<BitRows, NoMemory>
+    requires few { count ≤ MOST_UNITS }
+    requires within { LeadWithin count edges.now }
+    ensures count { IfOk result (λ rows. rows.count ≡ count) }
+    ensures pairs { IfOk result (λ rows. pairs rows ≡ flipped (edge_test edges.now)) }
+{
+    let mut rows = BitRows::none(alloc, count)?;
+    for (from, to) in edges {
+        rows.put(*to, *from);
+    }
+    Ok(rows)
+}
+
 // The pairs of which the first unit reaches the second by a walk of at least one edge.
 #[tactic(auto, using(crate::proofs::Closed::edges_closed))]
 pub(crate) fn reach_rows(
@@ -34,7 +53,7 @@ pub(crate) fn reach_rows(
     edges: &[(u16, u16)],
     count: usize,
 ) -> Result<BitRows, NoMemory>
-    requires few { count ≤ 1000 }
+    requires few { count ≤ MOST_UNITS }
     requires within { LeadWithin count edges.now }
     ensures count { IfOk result (λ rows. rows.count ≡ count) }
     ensures pairs { IfOk result (λ rows. pairs rows ≡ leads edges.now) }

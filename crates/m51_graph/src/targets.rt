@@ -1,40 +1,30 @@
 //! To which units the fixups of modules refer.
-ghost use Rattle.std.specs.Prelude.{◌≡◌, ◌<◌, ◌≤◌, IfSome, IsSome, length, nat_eq, position};
+ghost use Rattle.std.specs.Prelude.{◌≡◌, IsSome};
 ghost use Rattle.m51_resolve.specs.Joining.{segments_of, segment_at};
 ghost use Rattle.m51_resolve.specs.Publics.{external_at};
 ghost use Rattle.m51_graph.specs.Conditions.{IsBaseIn, IsBaseThere, IsTargetThere};
 ghost use Rattle.m51_graph.specs.Targets.{base_at, external_unit, public_base, public_unit, target_unit, unit_with};
 ghost use Rattle.m51_graph.specs.Units.{units_of};
 
-use crate::units::as_unit;
+use crate::unit_table::UnitTable;
 use m51_cells::Base;
 use m51_module::Module;
 use m51_resolve::Joined;
 
-// The place of the unit that has this joined number.
-fn place_with(units: &[u16], number: u16) -> Option<usize>
-    ensures place { result ≡ position (nat_eq number) units.now }
-    ensures inside { IfSome result (λ place. place < length units.now) }
-{
-    units.iter().position(|unit| number == *unit)
-}
-
 // The unit of which the segment is a part, if it is of program memory.
-pub(crate) fn unit_with(joined: &Joined, units: &[u16], module: u8, segment: u8) -> Option<u16>
+pub(crate) fn unit_with(joined: &Joined, units: &UnitTable, module: u8, segment: u8) -> Option<u16>
     requires there { IsSome (segment_at joined.now «module» segment) }
     requires units { units.now ≡ units_of (segments_of joined.now) }
-    requires few { length units.now ≤ 1000 }
     ensures { result ≡ unit_with joined.now «module» segment }
 {
     let (number, _) = joined.part(module, segment);
-    as_unit(place_with(units, number))
+    units.with_number(number)
 }
 
 // The unit in which a public with this base lies.
-fn public_unit(joined: &Joined, units: &[u16], module: u8, base: Base) -> Option<u16>
+fn public_unit(joined: &Joined, units: &UnitTable, module: u8, base: Base) -> Option<u16>
     requires there { IsBaseThere joined.now «module» base }
     requires units { units.now ≡ units_of (segments_of joined.now) }
-    requires few { length units.now ≤ 1000 }
     ensures { result ≡ public_unit joined.now «module» base }
 {
     match base {
@@ -67,10 +57,9 @@ fn public_base(joined: &Joined, module: u8, place: usize) -> Base
 }
 
 // The unit in which the public lies that resolves the external.
-fn external_unit(joined: &Joined, units: &[u16], module: u8, external: u8) -> Option<u16>
+fn external_unit(joined: &Joined, units: &UnitTable, module: u8, external: u8) -> Option<u16>
     requires there { IsSome (external_at joined.now «module» external) }
     requires units { units.now ≡ units_of (segments_of joined.now) }
-    requires few { length units.now ≤ 1000 }
     ensures { result ≡ external_unit joined.now «module» external }
 {
     let (home, place) = joined.public_of(module, external);
@@ -78,10 +67,14 @@ fn external_unit(joined: &Joined, units: &[u16], module: u8, external: u8) -> Op
 }
 
 // The unit to which a target refers, directly or by an external.
-pub(crate) fn target_unit(joined: &Joined, units: &[u16], module: u8, target: Base) -> Option<u16>
+pub(crate) fn target_unit(
+    joined: &Joined,
+    units: &UnitTable,
+    module: u8,
+    target: Base,
+) -> Option<u16>
     requires there { IsTargetThere joined.now «module» target }
     requires units { units.now ≡ units_of (segments_of joined.now) }
-    requires few { length units.now ≤ 1000 }
     ensures { result ≡ target_unit joined.now «module» target }
 {
     match target {

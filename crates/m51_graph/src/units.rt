@@ -1,8 +1,9 @@
 //! The units of joined segments: their numbers, their titles and the roots among them.
 ghost use Rattle.std.specs.Prelude.{◌≡◌, ◌<◌, ◌≤◌, IfOk, IfSome, length, nat_eq};
 ghost use Rattle.std.specs.List.{list_any};
+ghost use Rattle.m51_cells.specs.declared.limits.TheConstants.{MOST_SEGMENTS};
 ghost use Rattle.m51_module.specs.Roots.{vectors};
-ghost use Rattle.m51_graph.specs.Units.{is_root, named, roots_of, unit_titles, units_of};
+ghost use Rattle.m51_graph.specs.Units.{is_root, roots_of, unit_titles, units_of};
 
 use m51_cells::{Name, NoMemory, is_absolute, is_code};
 use m51_module::VECTORS;
@@ -11,7 +12,7 @@ use std::alloc::{AllocError, Global};
 
 // The joined number of each unit: the segments of program memory are the units, in joined order.
 pub(crate) fn unit_numbers(alloc: Global, segments: &[JoinedSegment]) -> Result<Vec<u16>, NoMemory>
-    requires { length segments.now ≤ 2000 }
+    requires { length segments.now ≤ MOST_SEGMENTS }
     ensures { IfOk result (λ units. units.items ≡ units_of segments.now) }
 {
     let mut units = Vec::new(alloc);
@@ -52,24 +53,6 @@ pub(crate) fn as_unit(place: Option<usize>) -> Option<u16>
     }
 }
 
-// The place of the first of the titles that is this one.
-fn place_named(titles: &[Name], name: &Name) -> Option<usize>
-    ensures place { result ≡ named titles.now name.now }
-    ensures inside { IfSome result (λ place. place < length titles.now) }
-{
-    titles
-        .iter()
-        .position(|title| title.bytes() == name.bytes())
-}
-
-// The first unit of that title.
-pub(crate) fn named(titles: &[Name], name: &Name) -> Option<u16>
-    requires { length titles.now ≤ 1000 }
-    ensures { result ≡ named titles.now name.now }
-{
-    as_unit(place_named(titles, name))
-}
-
 // Whether the reset or an interrupt begins at the address.
 fn is_vector(address: u16) -> bool
     ensures { result ≡ list_any (nat_eq address) vectors }
@@ -86,7 +69,7 @@ fn is_root(segment: &JoinedSegment) -> bool
 
 // The vector and the unit of each root.
 pub(crate) fn roots(alloc: Global, segments: &[JoinedSegment]) -> Result<Vec<(u16, u16)>, NoMemory>
-    requires { length segments.now ≤ 2000 }
+    requires { length segments.now ≤ MOST_SEGMENTS }
     ensures { IfOk result (λ roots. roots.items ≡ roots_of segments.now) }
 {
     let mut roots = Vec::new(alloc);

@@ -96,9 +96,6 @@ pub record Writes (bytes : List ℕ) : Type 0 where
   pub is : whole_of (record_from bytes) ≡ bytes
   pub record_is : IsRecord (record_from bytes)
 
-abbrev front_of : ℕ → ℕ → ℕ → ℕ → List ℕ → List ℕ
-front_of count high low type rest = count ∷ high ∷ low ∷ type ∷ take count rest
-
 abbrev bytes_with : ℕ → ℕ → ℕ → ℕ → List ℕ → List ℕ
 bytes_with count high low type rest = count ∷ high ∷ low ∷ type ∷ rest
 
@@ -112,7 +109,7 @@ module _ (count high low type : ℕ) (rest : List ℕ) (below : AllByRecursion (
   rest_is : rest ≡ take count rest ++ get_or rest count 0 ∷ []
   rest_is = sym (take_all (count + 1) rest (omega (arith, rest_len))) ∙ take_more rest count 0 (omega (arith, rest_len))
 
-  all_is : bytes_with count high low type rest ≡ front_of count high low type rest ++ get_or rest count 0 ∷ []
+  all_is : bytes_with count high low type rest ≡ bytes_with count high low type (take count rest) ++ get_or rest count 0 ∷ []
   all_is = ap (bytes_with count high low type) rest_is
 
   rest_below : AllByRecursion (λ byte. byte < 256) rest
@@ -124,7 +121,7 @@ module _ (count high low type : ℕ) (rest : List ℕ) (below : AllByRecursion (
   low_is : (256 * high + low) % 256 ≡ low
   low_is = omega (arith, below.1.1.0)
 
-  fields_is : fields_of (record_from (bytes_with count high low type rest)) ≡ front_of count high low type rest
+  fields_is : fields_of (record_from (bytes_with count high low type rest)) ≡ bytes_with count high low type (take count rest)
   unfolding fields_of record_from
   fields_is =
       ap (λ (n : ℕ). n ∷ ((256 * high + low) / 256) ∷ ((256 * high + low) % 256) ∷ type_byte (cond (eqb type 0) Data EndOfFile) ∷ take count rest) data_len
@@ -132,13 +129,13 @@ module _ (count high low type : ℕ) (rest : List ℕ) (below : AllByRecursion (
       ∙ ap (λ (n : ℕ). count ∷ high ∷ n ∷ type_byte (cond (eqb type 0) Data EndOfFile) ∷ take count rest) low_is
       ∙ ap (λ (n : ℕ). count ∷ high ∷ low ∷ n ∷ take count rest) form.type_is
 
-  last_is : checksum_of (front_of count high low type rest) ≡ get_or rest count 0
-  last_is = checksum_is (front_of count high low type rest) (get_or rest count 0) (below_at count rest rest_below) (ap (λ (b : List ℕ). sum b % 256) (sym all_is) ∙ total)
+  last_is : checksum_of (bytes_with count high low type (take count rest)) ≡ get_or rest count 0
+  last_is = checksum_is (bytes_with count high low type (take count rest)) (get_or rest count 0) (below_at count rest rest_below) (ap (λ (b : List ℕ). sum b % 256) (sym all_is) ∙ total)
 
   whole_is : whole_of (record_from (bytes_with count high low type rest)) ≡ bytes_with count high low type rest
   whole_is =
       ap (λ (fields : List ℕ). fields ++ checksum_of fields ∷ []) fields_is
-      ∙ ap (λ (n : ℕ). front_of count high low type rest ++ n ∷ []) last_is
+      ∙ ap (λ (n : ℕ). bytes_with count high low type (take count rest) ++ n ∷ []) last_is
       ∙ sym all_is
 
   is_record : IsRecord (record_from (bytes_with count high low type rest))

@@ -1,18 +1,15 @@
 -- The source that is chosen is the first that may be taken.
 use Rattle.std.proofs.Common.{◌≡◌, ◌≤◌, Bool, true, false, not, ◌&&◌, cond, Option, Some, None, refl, ap, ◌∙◌, subst, arith}
 use Rattle.std.proofs.lemmas.Bool.{and_parts}
+use Rattle.std.proofs.Math.Bool.{and-false}
 use Rattle.m51_flat.specs.declared.state.Cpu.{Cpu}
 use Rattle.m51_flat.specs.declared.state.Source.{Source}
-use Rattle.m51_irq.specs.declared.sources.Level.{Level}
-use Rattle.m51_irq.specs.declared.sources.Level.TheVariants.{Low, High}
+use Rattle.m51_flat.specs.declared.state.Level.{Level}
+use Rattle.m51_flat.specs.declared.state.Level.TheVariants.{Low, High}
 use Rattle.m51_irq.specs.Sources.{asks, level_of, number_of}
 use Rattle.m51_irq.specs.Choice.{IsReady, IsTaken, asks_at, chosen, first_asking, is_allowed, is_same_level, or_else, turn_in, turn_of}
 use Rattle.m51_irq.specs.Laws.{FirstIsChosen, NoneOverHigh}
 use Rattle.m51_irq.proofs.Finding.{Found, IsFirst, below_6, found, same_source}
-
-and_false : (x : Bool) → (x && false) ≡ false
-and_false true = refl
-and_false false = refl
 
 same_level : (l m : Level) → is_same_level l m ≡ true → l ≡ m
 same_level Low Low h = refl
@@ -30,7 +27,7 @@ asks_in cpu l s h is = ap (λ b. b && is_same_level (level_of cpu s) l) h ∙ ap
 
 -- nothing is allowed over the high level, and no low source over the low one
 none_over_high : (cpu : Cpu) (l : Level) → cpu.high ≡ true → is_allowed cpu l ≡ false
-none_over_high cpu Low h = ap (λ b. not cpu.low && not b) h ∙ and_false (not cpu.low)
+none_over_high cpu Low h = ap (λ b. not cpu.low && not b) h ∙ and-false (not cpu.low)
 none_over_high cpu High h = ap not h
 
 none_over_low : (cpu : Cpu) → cpu.low ≡ true → is_allowed cpu Low ≡ false

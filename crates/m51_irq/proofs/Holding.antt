@@ -1,7 +1,5 @@
 -- What holds interrupts off for a step.
-use Rattle.std.proofs.Common.{◌≡◌, ℕ, Bool, true, false, cond, List, Option, None, refl, ap, ◌∙◌, subst, sym}
-use Rattle.std.specs.Prelude.{◌||◌, ◌==◌}
-use Rattle.std.proofs.lemmas.Bool.{eqb-true}
+use Rattle.std.proofs.Common.{◌≡◌, ℕ, Bool, true, false, cond, List, Option, None, refl, ◌∙◌, subst}
 use Rattle.m51_isa.specs.declared.instr.Flow.{Flow}
 use Rattle.m51_isa.specs.declared.instr.Flow.TheVariants.{Reti as FlowReti}
 use Rattle.m51_isa.specs.declared.instr.Instr.{Instr}
@@ -11,10 +9,9 @@ use Rattle.m51_flat.specs.declared.state.Effect.{Effect}
 use Rattle.m51_flat.specs.declared.state.Pins.{Pins}
 use Rattle.m51_flat.specs.declared.state.Source.{Source}
 use Rattle.m51_flat.specs.Laws.{Always}
-use Rattle.m51_flat.specs.LevelLaws.{LevelsFollow, holds_off, may_hold_off}
+use Rattle.m51_flat.specs.LevelLaws.{LevelsFollow, writes_ie_or_ip}
 use Rattle.m51_flat.specs.Meaning.{plan_of}
 use Rattle.m51_flat.specs.Reads.{Reads, Ends, Read}
-use Rattle.m51_flat.specs.Sfr.{has_register, ie, ip, with_sfr}
 use Rattle.m51_flat.proofs.Levels.{levels_are_kept}
 use Rattle.m51_irq.specs.Choice.{chosen}
 use Rattle.m51_irq.specs.Laws.{NoneIsTakenAtOnce, TakesNone}
@@ -39,34 +36,17 @@ after_reti flow writes cpu e is h =
 
 reti_none : (cpu : Cpu) (instr : Instr) (image : List ℕ) (ext : Pins) → flow_of instr ≡ FlowReti → Always TakesNone (plan_of cpu instr image ext)
 reti_none cpu instr image ext is =
-    always_so (λ e. LevelsFollow (flow_of instr) (may_hold_off instr) cpu e) TakesNone (plan_of cpu instr image ext)
-    (λ e h. after_reti (flow_of instr) (may_hold_off instr) cpu e is h) (levels_are_kept cpu instr image ext)
+    always_so (λ e. LevelsFollow (flow_of instr) (writes_ie_or_ip cpu instr) cpu e) TakesNone (plan_of cpu instr image ext)
+    (λ e h. after_reti (flow_of instr) (writes_ie_or_ip cpu instr) cpu e is h) (levels_are_kept cpu instr image ext)
 
-first_on : (h : Bool) → (h || true || false) ≡ true
-first_on true = refl
-first_on false = refl
+after_write : (flow : Flow) (writes : Bool) (cpu : Cpu) (e : Effect) → writes ≡ true → LevelsFollow flow writes cpu e → TakesNone e
+after_write FlowReti writes cpu e is h = held_none e.cpu h.held
+after_write other writes cpu e is h = held_none e.cpu (h.held ∙ is)
 
-second_on : (h : Bool) → (h || false || true) ≡ true
-second_on true = refl
-second_on false = refl
-
-ie_held : (v : ℕ) (e : Effect) → (with_sfr ie v e).cpu.held ≡ true
-unfolding with_sfr has_register
-ie_held v e = first_on e.cpu.held
-
-ip_held : (v : ℕ) (e : Effect) → (with_sfr ip v e).cpu.held ≡ true
-unfolding with_sfr has_register
-ip_held v e = second_on e.cpu.held
-
-one_of : {X : Type 0} (a b : Bool) → (a || b) ≡ true → (a ≡ true → X) → (b ≡ true → X) → X
-one_of true b h f g = f refl
-one_of false b h f g = g h
-
-written_none : (a v : ℕ) (e : Effect) → holds_off a ≡ true → TakesNone (with_sfr a v e)
-written_none a v e h =
-    one_of (a == ie) (a == ip) h
-    (λ is. subst (λ n. TakesNone (with_sfr n v e)) (sym (eqb-true a ie is)) (held_none (with_sfr ie v e).cpu (ie_held v e)))
-    (λ is. subst (λ n. TakesNone (with_sfr n v e)) (sym (eqb-true a ip is)) (held_none (with_sfr ip v e).cpu (ip_held v e)))
+written_none : (cpu : Cpu) (instr : Instr) (image : List ℕ) (ext : Pins) → writes_ie_or_ip cpu instr ≡ true → Always TakesNone (plan_of cpu instr image ext)
+written_none cpu instr image ext is =
+    always_so (λ e. LevelsFollow (flow_of instr) (writes_ie_or_ip cpu instr) cpu e) TakesNone (plan_of cpu instr image ext)
+    (λ e h. after_write (flow_of instr) (writes_ie_or_ip cpu instr) cpu e is h) (levels_are_kept cpu instr image ext)
 
 pub none_at_once : NoneIsTakenAtOnce
 none_at_once = record { held = held_none; reti = reti_none; written = written_none }

@@ -1,5 +1,5 @@
 -- What an acknowledgement keeps.
-use Rattle.std.proofs.Common.{◌≡◌, ◌≢◌, ◌+◌, ◌≤◌, ℕ, Bool, true, false, cond, length, length-set, refl, ◌∙◌, arith, lit≤}
+use Rattle.std.proofs.Common.{◌≡◌, ◌≢◌, ◌≤◌, ℕ, Bool, true, false, cond, length, length-set, refl, ◌∙◌, arith, lit≤}
 use Rattle.m51_flat.specs.declared.state.Cpu.{Cpu}
 use Rattle.m51_flat.specs.declared.state.Source.{Source}
 use Rattle.m51_flat.specs.declared.state.Source.TheVariants.{Ie0, Tf0, Ie1, Tf1, Serial, Timer2}
@@ -8,8 +8,8 @@ use Rattle.m51_flat.specs.Flags.{idl, ie0, ie1, it0, it1, tf0, tf1}
 use Rattle.m51_flat.specs.Laws.{HasParity}
 use Rattle.m51_flat.specs.Sfr.{acc, flag, has_register, latch, pcon, psw, sp, tcon, with_flag, with_latch}
 use Rattle.m51_flat.proofs.Devices.{flags_keep_the_rest}
-use Rattle.m51_irq.specs.declared.sources.Level.{Level}
-use Rattle.m51_irq.specs.declared.sources.Level.TheVariants.{Low, High}
+use Rattle.m51_flat.specs.declared.state.Level.{Level}
+use Rattle.m51_flat.specs.declared.state.Level.TheVariants.{Low, High}
 use Rattle.m51_irq.specs.Sources.{level_of}
 use Rattle.m51_irq.specs.Vectoring.{acknowledged, cleared, edge_cleared, entered}
 

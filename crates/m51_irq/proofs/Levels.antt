@@ -3,8 +3,8 @@ use Rattle.std.proofs.Common.{◌≡◌, ◌-◌, Bool, true, false, not, ◌&&�
 use Rattle.m51_flat.specs.declared.state.Cpu.{Cpu}
 use Rattle.m51_flat.specs.Flags.{idl}
 use Rattle.m51_flat.specs.Sfr.{pcon, with_flag}
-use Rattle.m51_irq.specs.declared.sources.Level.{Level}
-use Rattle.m51_irq.specs.declared.sources.Level.TheVariants.{Low, High}
+use Rattle.m51_flat.specs.declared.state.Level.{Level}
+use Rattle.m51_flat.specs.declared.state.Level.TheVariants.{Low, High}
 use Rattle.m51_irq.specs.Sources.{level_of}
 use Rattle.m51_irq.specs.Choice.{is_allowed}
 use Rattle.m51_irq.specs.Vectoring.{cleared, entered}

@@ -1,21 +1,22 @@
 -- The effect of taking an interrupt.
-use Rattle.std.proofs.Common.{◌≡◌, ℕ, zero, suc, ◌+◌, ◌*◌, ◌/◌, ◌%◌, Bool, false, cond, length, Option, Some, None, refl, sym, ap, ◌∙◌, subst}
+use Rattle.std.proofs.Common.{◌≡◌, ℕ, ◌+◌, ◌/◌, ◌%◌, Bool, false, length, Option, Some, None, refl, sym, ap, ◌∙◌, subst}
 use Rattle.m51_cells.specs.declared.cell.Cell.{Cell}
 use Rattle.m51_flat.specs.declared.state.Cpu.{Cpu}
 use Rattle.m51_flat.specs.declared.state.Effect.{Effect}
 use Rattle.m51_flat.specs.declared.state.Outcome.{Outcome}
 use Rattle.m51_flat.specs.declared.state.Outcome.TheVariants.{Done}
-use Rattle.m51_flat.specs.declared.state.Put.{Put}
-use Rattle.m51_flat.specs.declared.state.Put.TheVariants.{Nothing, Byte, Bit, Xbyte}
+use Rattle.m51_flat.specs.declared.state.Put.TheVariants.{Byte}
 use Rattle.m51_flat.specs.declared.state.Source.{Source}
 use Rattle.m51_flat.specs.DeviceLaws.{IsStacked}
 use Rattle.m51_flat.specs.Laws.{HasParity, IfDone}
 use Rattle.m51_flat.specs.Meaning.{unless_shut}
 use Rattle.m51_flat.specs.Sfr.{has_register, latch, port_of, sp, with_sfr}
-use Rattle.m51_flat.specs.States.{first_barred, ram_cell, shut_of, xram_cell}
+use Rattle.m51_flat.specs.States.{shut_of}
 use Rattle.m51_flat.specs.Transfers.{stacked}
 use Rattle.m51_flat.specs.Vectors.{vector_of}
 use Rattle.m51_flat.proofs.Devices.{pc_is_stacked}
+use Rattle.m51_flat.proofs.Flows.{latch_of}
+use Rattle.m51_flat.proofs.Whole.{shut_open}
 use Rattle.m51_irq.specs.Vectoring.{IsVectoring, interrupted, vectored, vectoring}
 use Rattle.m51_irq.proofs.Kept.{acknowledged_kept, length_acknowledged}
 
@@ -32,10 +33,6 @@ stacked_rest : (e : Effect) → ((stacked e).cycles ≡ e.cycles) × ((stacked e
 unfolding stacked with_sfr has_register port_of
 stacked_rest e = (refl, refl, refl)
 
-latch_at : (cpu : Cpu) (pc a : ℕ) → latch (record cpu { pc = pc }) a ≡ latch cpu a
-unfolding latch
-latch_at cpu pc a = refl
-
 is_vectoring : (cpu : Cpu) (s : Source) → length cpu.regs ≡ 128 → IsVectoring cpu s (vectoring cpu s)
 unfolding vectoring
 is_vectoring cpu s len =
@@ -48,7 +45,7 @@ is_vectoring cpu s len =
       at = refl;
       low = on_stack.low ∙ ap (λ top. Byte ((top + 1) % 256) (e.cpu.pc % 256)) k.stack ∙ ap (λ pc. Byte ((latch cpu sp + 1) % 256) (pc % 256)) k.pc;
       high = on_stack.high ∙ ap (λ top. Byte ((top + 2) % 256) (e.cpu.pc / 256)) k.stack ∙ ap (λ pc. Byte ((latch cpu sp + 2) % 256) (pc / 256)) k.pc;
-      stack = latch_at (stacked e).cpu (vector_of s) sp ∙ on_stack.stack ∙ ap (λ top. (top + 2) % 256) k.stack;
+      stack = latch_of (stacked e).cpu (vector_of s) sp ∙ on_stack.stack ∙ ap (λ top. (top + 2) % 256) k.stack;
       held = on_stack.control.held;
       cycles = rest.0;
       port = rest.1;
@@ -75,20 +72,9 @@ parity_kept cpu s len h =
 pub vector_parity : (r : Outcome) (cpu : Cpu) (barred : Cell → Bool) (s : Source) → r ≡ vectored cpu barred s → length cpu.regs ≡ 128 → HasParity cpu → IfDone r (λ e. HasParity e.cpu)
 vector_parity r cpu barred s is len h = of_outcome (λ e. HasParity e.cpu) r cpu barred s is (parity_kept cpu s len h)
 
-open_bits : (barred : Cell → Bool) → ((c : Cell) → barred c ≡ false) → (k n : ℕ) → first_barred barred k n ≡ None
-open_bits barred h zero n = refl
-open_bits barred h (suc k) n = ap (λ b. cond b (Some (ram_cell n)) (first_barred barred k (n + 1))) (h (ram_cell n)) ∙ open_bits barred h k (n + 1)
-
-open_put : (barred : Cell → Bool) → ((c : Cell) → barred c ≡ false) → (put : Put) → shut_of barred put ≡ None
-unfolding shut_of
-open_put barred h Nothing = refl
-open_put barred h (Byte address value) = open_bits barred h 8 (8 * address)
-open_put barred h (Bit address value) = open_bits barred h 1 (256 + address)
-open_put barred h (Xbyte address value) = ap (λ b. cond b (Some (xram_cell address)) None) (h (xram_cell address))
-
 pub vector_whole : (r : Outcome) (cpu : Cpu) (barred : Cell → Bool) (s : Source) → r ≡ vectored cpu barred s → ((c : Cell) → barred c ≡ false) → r ≡ Done (vectoring cpu s)
 vector_whole r cpu barred s is h =
     let e = vectoring cpu s in
     is
-    ∙ ap (λ o. unless_shut o (unless_shut (shut_of barred e.second) (Done e))) (open_put barred h e.first)
-    ∙ ap (λ o. unless_shut o (Done e)) (open_put barred h e.second)
+    ∙ ap (λ o. unless_shut o (unless_shut (shut_of barred e.second) (Done e))) (shut_open barred h e.first)
+    ∙ ap (λ o. unless_shut o (Done e)) (shut_open barred h e.second)

@@ -1,5 +1,6 @@
 -- What holds of every choice of an interrupt.
-use Rattle.std.specs.Prelude.{◌≡◌, ◌↔◌, ◌-◌, ℕ, Bool, true, if◌then◌else◌, List, [], ◌∷◌, ◌++◌, length, take, Some, None}
+use Rattle.std.specs.Prelude.{◌≡◌, ◌↔◌, ◌-◌, ℕ, Bool, true, if◌then◌else◌, List, [], ◌∷◌, ◌++◌, length, take}
+use Rattle.std.specs.Prelude.{Some, None}
 use Rattle.m51_isa.specs.declared.instr.Flow.TheVariants.{Reti as FlowReti}
 use Rattle.m51_isa.specs.declared.instr.Instr.{Instr}
 use Rattle.m51_isa.specs.Table.{flow_of}
@@ -8,12 +9,11 @@ use Rattle.m51_flat.specs.declared.state.Effect.{Effect}
 use Rattle.m51_flat.specs.declared.state.Pins.{Pins}
 use Rattle.m51_flat.specs.declared.state.Source.{Source}
 use Rattle.m51_flat.specs.Laws.{Always}
-use Rattle.m51_flat.specs.LevelLaws.{holds_off}
+use Rattle.m51_flat.specs.LevelLaws.{writes_ie_or_ip}
 use Rattle.m51_flat.specs.Meaning.{plan_of}
-use Rattle.m51_flat.specs.Sfr.{with_sfr}
 use Rattle.m51_flat.specs.Transfers.{level_ended}
-use Rattle.m51_irq.specs.declared.sources.Level.{Level}
-use Rattle.m51_irq.specs.declared.sources.Level.TheVariants.{Low, High}
+use Rattle.m51_flat.specs.declared.state.Level.{Level}
+use Rattle.m51_flat.specs.declared.state.Level.TheVariants.{Low, High}
 use Rattle.m51_irq.specs.Sources.{level_of}
 use Rattle.m51_irq.specs.Choice.{IsTaken, chosen}
 use Rattle.m51_irq.specs.Vectoring.{acknowledged}
@@ -33,11 +33,14 @@ NoneOverHigh = (cpu : Cpu) → cpu.high ≡ true → chosen cpu ≡ None
 abbrev pub TakesNone : Effect → Type 0
 TakesNone e = chosen e.cpu ≡ None
 
--- none is taken directly after RETI, whatever it reads, nor directly after a write of IE or IP
+-- none is taken directly after RETI, nor directly after an instruction that writes IE, IP or a bit of them, whatever
+-- it reads
 pub record NoneIsTakenAtOnce : Type 0 where
   pub held : (cpu : Cpu) → cpu.held ≡ true → chosen cpu ≡ None
-  pub reti : (cpu : Cpu) (instr : Instr) (image : List ℕ) (ext : Pins) → flow_of instr ≡ FlowReti → Always TakesNone (plan_of cpu instr image ext)
-  pub written : (a v : ℕ) (e : Effect) → holds_off a ≡ true → TakesNone (with_sfr a v e)
+  pub reti : (cpu : Cpu) (instr : Instr) (image : List ℕ) (ext : Pins) → flow_of instr ≡ FlowReti
+      → Always TakesNone (plan_of cpu instr image ext)
+  pub written : (cpu : Cpu) (instr : Instr) (image : List ℕ) (ext : Pins) → writes_ie_or_ip cpu instr ≡ true
+      → Always TakesNone (plan_of cpu instr image ext)
 
 -- the source that is chosen is the one that the manual says, and it is chosen wherever there is one
 abbrev pub FirstIsChosen : Type 0
@@ -45,7 +48,8 @@ FirstIsChosen = (cpu : Cpu) (s : Source) → (chosen cpu ≡ Some s) ↔ IsTaken
 
 -- the level of the chosen source comes on top of the levels in progress
 abbrev pub LevelsAreNested : Type 0
-LevelsAreNested = (cpu : Cpu) (s : Source) → chosen cpu ≡ Some s → levels_of (acknowledged s cpu) ≡ levels_of cpu ++ level_of cpu s ∷ []
+LevelsAreNested = (cpu : Cpu) (s : Source) → chosen cpu ≡ Some s
+    → levels_of (acknowledged s cpu) ≡ levels_of cpu ++ level_of cpu s ∷ []
 
 -- RETI takes the top level away
 abbrev pub TopLevelEnds : Type 0

@@ -5,8 +5,8 @@ use Rattle.m51_flat.specs.declared.state.Source.{Source}
 use Rattle.m51_flat.specs.declared.state.Source.TheVariants.{Ie0, Tf0, Ie1, Tf1, Serial, Timer2}
 use Rattle.m51_flat.specs.Flags.{ea, exf2, ie0, ie1, ri, tf0, tf1, tf2, ti}
 use Rattle.m51_flat.specs.Sfr.{flag, ie, ip, scon, t2con, tcon}
-use Rattle.m51_irq.specs.declared.sources.Level.{Level}
-use Rattle.m51_irq.specs.declared.sources.Level.TheVariants.{Low, High}
+use Rattle.m51_flat.specs.declared.state.Level.{Level}
+use Rattle.m51_flat.specs.declared.state.Level.TheVariants.{Low, High}
 
 -- the sources, in their order
 abbrev pub sources : List Source

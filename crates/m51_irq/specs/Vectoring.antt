@@ -14,8 +14,8 @@ use Rattle.m51_flat.specs.Meaning.{unless_barred}
 use Rattle.m51_flat.specs.Sfr.{flag, latch, pcon, sp, tcon, with_flag}
 use Rattle.m51_flat.specs.Transfers.{stacked}
 use Rattle.m51_flat.specs.Vectors.{vector_of}
-use Rattle.m51_irq.specs.declared.sources.Level.{Level}
-use Rattle.m51_irq.specs.declared.sources.Level.TheVariants.{Low, High}
+use Rattle.m51_flat.specs.declared.state.Level.{Level}
+use Rattle.m51_flat.specs.declared.state.Level.TheVariants.{Low, High}
 use Rattle.m51_irq.specs.Sources.{level_of}
 
 -- a flag of TCON is cleared where the bit that makes it an edge's is 1
@@ -57,7 +57,8 @@ unfoldable pub vectoring : Cpu → Source → Effect
 vectoring cpu s =
     let e = stacked (interrupted cpu s) in record e { cpu = record e.cpu { pc = vector_of s }; transfer = Vector s }
 
--- over a store of which some cells are barred: the first of them that a put of the effect would write, or else the effect
+-- over a store of which some cells are barred: the first of them that a put of the effect would write, or else the
+-- effect
 abbrev pub vectored : Cpu → (Cell → Bool) → Source → Outcome
 vectored cpu barred s = unless_barred barred (vectoring cpu s) (Done (vectoring cpu s))
 

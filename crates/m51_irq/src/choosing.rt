@@ -1,11 +1,11 @@
 //! Which interrupt is taken.
 ghost use Rattle.std.specs.Prelude.{◌≡◌, None, option_copied, if◌then◌else◌};
 ghost use Rattle.std.specs.List.{find};
-ghost use Rattle.m51_irq.specs.declared.sources.Level.TheVariants.{Low};
-ghost use Rattle.m51_irq.specs.Choice.{asks_at, chosen, first_asking, is_same_level};
+ghost use Rattle.m51_flat.specs.declared.state.Level.TheVariants.{Low};
+ghost use Rattle.m51_irq.specs.Choice.{asks_at, chosen, first_asking};
 
-use crate::sources::{Level, asks, level_of};
-use m51_flat::{Cpu, Source};
+use crate::sources::{asks, level_of};
+use m51_flat::{Cpu, Level, Source};
 
 // The sources, in their order.
 const SOURCES: [Source; 6] = [
@@ -17,21 +17,11 @@ const SOURCES: [Source; 6] = [
     Source::Timer2,
 ];
 
-// Two levels are the same.
-fn is_same_level(one: Level, other: Level) -> bool
-    ensures { result ≡ is_same_level one other }
-{
-    matches!(
-        (one, other),
-        (Level::Low, Level::Low) | (Level::High, Level::High)
-    )
-}
-
 // A source of this level asks.
 fn asks_at(cpu: &Cpu, level: Level, source: Source) -> bool
     ensures { result ≡ asks_at cpu.now level source }
 {
-    asks(cpu, source) && is_same_level(level_of(cpu, source), level)
+    asks(cpu, source) && level_of(cpu, source) == level
 }
 
 // The first of these sources that asks and has this level.
@@ -49,7 +39,7 @@ fn first_asking(cpu: &Cpu, level: Level) -> Option<Source>
     Some(*first)
 }
 
-// The first source that asks where no level is in progress, or else none.
+// The first source of the low level that asks, where the low level is not in progress; else none.
 fn first_low(cpu: &Cpu) -> Option<Source>
     ensures { result ≡ (if cpu.now.low then None else first_asking cpu.now Low) }
 {

@@ -8,9 +8,10 @@ pub fn no_interrupt_over_the_high_level()
     ensures { NoneOverHigh }
 {}
 
-/// No interrupt is taken directly after RETI, nor directly after an instruction that writes IE or IP.
+/// No interrupt is taken directly after RETI, nor directly after an instruction that writes IE, IP or a bit of them,
+/// whatever it reads. A JBC writes its bit only where it is 1.
 ///
-/// Source: family manual.
+/// Source: family manual; own choice ("Interrupts").
 pub fn none_is_taken_at_once()
     ensures { NoneIsTakenAtOnce }
 {}

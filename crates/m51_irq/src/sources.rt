@@ -4,16 +4,7 @@ ghost use Rattle.m51_irq.specs.Sources.{asks, has_flag, is_enabled, level_of, nu
 
 use m51_flat::addresses::{IE, IP, SCON, T2CON, TCON};
 use m51_flat::flags::{EA, EXF2, IE0, IE1, RI, TF0, TF1, TF2, TI};
-use m51_flat::{Cpu, Source};
-
-// A level of interrupts.
-#[derive(Clone, Copy)]
-pub(crate) enum Level {
-    /// The level of a source whose bit of IP is 0.
-    Low,
-    /// The level of a source whose bit of IP is 1.
-    High,
-}
+use m51_flat::{Cpu, Level, Source};
 
 // The bit of IE that enables a source, and of IP that gives it the high level.
 fn number(source: Source) -> u8

@@ -7,10 +7,10 @@ ghost use Rattle.m51_flat.specs.Laws.{HasParity, IfDone};
 ghost use Rattle.m51_irq.specs.Vectoring.{IsVectoring, acknowledged, cleared, edge_cleared, entered, interrupted};
 ghost use Rattle.m51_irq.specs.Vectoring.{vectored, vectoring};
 
-use crate::sources::{Level, level_of};
+use crate::sources::level_of;
 use m51_flat::addresses::{PCON, TCON};
 use m51_flat::flags::{IDL, IE0, IE1, IT0, IT1, TF0, TF1};
-use m51_flat::{CellStore, Cpu, Effect, Outcome, Put, Source, Transfer, conclude, stack_pc};
+use m51_flat::{CellStore, Cpu, Effect, Level, Outcome, Put, Source, Transfer, conclude, stack_pc};
 
 // Clears a flag of TCON where the bit that makes it an edge's is 1.
 fn clear_edge(cpu: &mut Cpu, flag: u8, edge: u8)

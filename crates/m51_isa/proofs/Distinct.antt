@@ -21,7 +21,7 @@ of_pointer P p0 p1 zero h = p0
 of_pointer P p0 p1 (suc zero) h = p1
 of_pointer P p0 p1 (suc (suc n)) h = absurd (omega arith)
 
-of_register : (P : ℕ → Type 0) → P 0 → P 1 → P 2 → P 3 → P 4 → P 5 → P 6 → P 7 → (n : ℕ) → n < 8 → P n
+pub of_register : (P : ℕ → Type 0) → P 0 → P 1 → P 2 → P 3 → P 4 → P 5 → P 6 → P 7 → (n : ℕ) → n < 8 → P n
 of_register P p0 p1 p2 p3 p4 p5 p6 p7 zero h = p0
 of_register P p0 p1 p2 p3 p4 p5 p6 p7 (suc zero) h = p1
 of_register P p0 p1 p2 p3 p4 p5 p6 p7 (suc (suc zero)) h = p2

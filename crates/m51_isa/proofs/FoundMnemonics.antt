@@ -17,7 +17,8 @@ use Rattle.m51_isa.specs.Mnemonics.{is_mnemonic}
 use Rattle.m51_isa.specs.TextLaws.{IsWritten}
 use Rattle.m51_isa.proofs.RowsWritten.{found_rows_are_written}
 
-row_has_mnemonic : (i : Instr) → is_mnemonic (text_of i).mnemonic ≡ true
+-- the mnemonic of a row is one
+pub row_has_mnemonic : (i : Instr) → is_mnemonic (text_of i).mnemonic ≡ true
 unfolding is_mnemonic
 row_has_mnemonic Nop = refl
 row_has_mnemonic i = refl
@@ -30,7 +31,7 @@ jmp_is_mnemonic : is_mnemonic (codes "JMP") ≡ true
 unfolding is_mnemonic
 jmp_is_mnemonic = refl
 
-call_is_mnemonic : is_mnemonic (codes "CALL") ≡ true
+pub call_is_mnemonic : is_mnemonic (codes "CALL") ≡ true
 unfolding is_mnemonic
 call_is_mnemonic = refl
 

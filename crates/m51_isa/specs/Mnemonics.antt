@@ -3,6 +3,7 @@ use Rattle.std.specs.Prelude.{ℕ, Bool, List, [], ◌∷◌, codes}
 use Rattle.std.specs.List.{list_any}
 use Rattle.std.specs.Str.{bytes_eq}
 
+-- the mnemonics in the order of their letters
 abbrev pub mnemonics : List (List ℕ)
 mnemonics =
     codes "ACALL" ∷ codes "ADD" ∷ codes "ADDC" ∷ codes "AJMP" ∷ codes "ANL" ∷ codes "CALL" ∷ codes "CJNE" ∷

@@ -1,6 +1,7 @@
 //! What the table promises of decoding and encoding, and its texts. Each law is the contract of a function that does
 //! nothing.
 ghost use Rattle.m51_isa.specs.Laws.{OneRow, NoneReserved, RowsDecode, RowsAreShort, CodesDecode, FrontsAgree};
+ghost use Rattle.m51_isa.specs.MnemonicLaws.{MnemonicsAreOfRows};
 ghost use Rattle.m51_isa.specs.TextLaws.{TextsAreRows};
 
 /// No bytes begin with two rows.
@@ -53,4 +54,11 @@ pub fn fronts_agree()
 /// Source: family manual.
 pub fn texts_are_rows()
     ensures { TextsAreRows }
+{}
+
+/// The mnemonic of each row is one that `is_mnemonic` knows; and each of those but the generic `CALL` is that of a row.
+///
+/// Source: family manual.
+pub fn mnemonics_are_of_rows()
+    ensures { MnemonicsAreOfRows }
 {}

@@ -29,8 +29,8 @@ pub use filling::with_numbers;
 pub use generics::{Jump, Verb, generic, jump_row};
 pub use instr::{Flow, Instr};
 pub use laws::{
-    codes_decode, fronts_agree, none_is_reserved, rows_are_distinct, rows_are_short, rows_decode,
-    texts_are_rows,
+    codes_decode, fronts_agree, mnemonics_are_of_rows, none_is_reserved, rows_are_distinct,
+    rows_are_short, rows_decode, texts_are_rows,
 };
 pub use look::Look;
 pub use mnemonics::is_mnemonic;

@@ -33,8 +33,10 @@ fn is_sign(byte: u8) -> bool
     }
 }
 
-// How many letters and digits come first.
-fn number_len(rest: &[u8]) -> usize
+/// How many letters and digits come before the first other byte: all bytes where there is none.
+///
+/// Source: ASM51 guide.
+pub fn alphanumeric_len(rest: &[u8]) -> usize
     ensures len { result ≡ prefix_len is_ascii_alphanumeric rest.now }
     ensures within { result ≤ length rest.now }
 {
@@ -69,7 +71,7 @@ fn number_lexeme(rest: &[u8]) -> Lexeme
     ensures lexeme { result ≡ number_lexeme rest.now }
     ensures fits { Fits result (length rest.now) }
 {
-    let len = number_len(rest);
+    let len = alphanumeric_len(rest);
     match number_of(&rest[..len]) {
         Some(value) => Lexeme::Token(What::Number(value), len),
         None => Lexeme::Fault(BAD_NUMBER),

@@ -1,5 +1,5 @@
 -- The modules of a library are accepted one by one, and what is not accepted is refused by B1, Full or B3.
-use Rattle.std.proofs.Common.{◌≡◌, ◌≢◌, ℕ, suc, ◌+◌, ◌<◌, nat_le, Bool, true, false, cond, List, [], ◌∷◌, ◌++◌, length, get_or, Option, Some, None, refl, ap, sym, subst, ◌∙◌, arith, append_assoc, append-nil, length-append}
+use Rattle.std.proofs.Common.{◌≡◌, ◌≢◌, ℕ, suc, ◌<◌, nat_le, Bool, true, false, cond, List, [], ◌∷◌, ◌++◌, length, get_or, Option, Some, None, refl, ap, sym, subst, ◌∙◌, arith, append_assoc, append-nil, length-append}
 use Rattle.std.specs.Prelude.{Result, Ok, Err, IfSome, option_map}
 use Rattle.std.specs.List.{find, list_any}
 use Rattle.std.specs.Str.{bytes_eq}
@@ -9,6 +9,7 @@ use Rattle.std.proofs.Math.Seq.{get_or-append_seam}
 use Rattle.std.proofs.lemmas.List.{get_or_append_left}
 use Rattle.std.proofs.lemmas.List.Elements.{Contains-get_or}
 use Rattle.std.proofs.lemmas.Slice.Eq.{bytes_eq-Decides}
+use Rattle.m51_cells.specs.declared.limits.TheConstants.{MOST_MODULES}
 use Rattle.m51_module.specs.declared.library_error.LibError.{LibError}
 use Rattle.m51_module.specs.declared.library_error.LibError.TheVariants.{B1, B2, B3, Full, Object, Memory}
 use Rattle.m51_module.specs.declared.parts.ModuleParts.{ModuleParts}
@@ -58,10 +59,10 @@ module _ (before after : List ModuleParts) (m : ModuleParts) (h : IsLibrary (bef
       shares k e kt (get_or (get_or before k e).publics i f) (get_or m.publics j d)
       (Contains-get_or (get_or before k e).publics i f it) (Contains-get_or m.publics j d lt) ((bytes_eq-Decides _ _).0 met))))))
 
-  room : nat_le 255 (length before) ≡ false
+  room : nat_le MOST_MODULES (length before) ≡ false
   room =
       let few : length before < 255 = omega (arith, inside, h.few) in
-      grind (arith, nat_tests)
+      let full : nat_le 255 (length before) ≡ false = grind (arith, nat_tests) in full
 
   -- it is not refused beside them
   pub accepts : add_refusal before m ≡ None
@@ -101,7 +102,7 @@ pub refuses_so : (before ms : List ModuleParts) (e : LibError) → added_each be
 refuses_so before [] e h = absurd (cc h)
 refuses_so before (m ∷ more) e h =
     passed (add_refusal before m) (before ++ m ∷ []) (λ now. added_each now more) e
-    (kinds (holds before m.name) (nat_le 255 (length before)) m.name (find (λ (p : Public). defines before p.name) m.publics))
+    (kinds (holds before m.name) (nat_le MOST_MODULES (length before)) m.name (find (λ (p : Public). defines before p.name) m.publics))
     (refuses_so (before ++ m ∷ []) more e) h
 
 added_all : (o : Option LibError) (v whole made : List ModuleParts) (next : List ModuleParts → Result (List ModuleParts) LibError)

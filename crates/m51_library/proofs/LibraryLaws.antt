@@ -3,9 +3,11 @@ use Rattle.std.proofs.Common.{◌≡◌, ℕ, ◌+◌, ◌≤◌, nat_le, true, 
 use Rattle.std.specs.List.{All, flat_map}
 use Rattle.std.proofs.lemmas.Bool.{le-leb}
 use Rattle.std.proofs.lemmas.List.Elements.{All-head, All-tail}
+use Rattle.m51_cells.specs.declared.limits.TheConstants.{MOST_MODULES}
 use Rattle.m51_module.specs.declared.parts.ModuleParts.{ModuleParts}
 use Rattle.m51_module.specs.Library.{IsLibrary}
 use Rattle.m51_module.specs.Validity.{IsValid}
+use Rattle.m51_records.specs.declared.types.TheConstants.{LIBRARY_HEADER}
 use Rattle.m51_records.specs.Fields.{pair, pair_at, checked}
 use Rattle.m51_records.specs.Reading.{one_at, module_at}
 use Rattle.m51_records.specs.Spelling.{bytes_of, records_in}
@@ -23,24 +25,24 @@ count_takes : (end : ℕ) (contents : List ℕ) (count : ℕ) → IsBytes conten
 unfolding count_in
 count_takes end contents count fits e =
     on_ok (pair_at end contents) _ count ((contents ≡ pair count) × Unit {0}) (λ found e1 h1.
-    on_ok (checked (nat_le found.0 255) end contents found.0) _ count ((contents ≡ pair count) × Unit {0}) (λ few e2 h2.
+    on_ok (checked (nat_le found.0 MOST_MODULES) end contents found.0) _ count ((contents ≡ pair count) × Unit {0}) (λ few e2 h2.
     let p = pair_takes end contents found fits e1 in
-    let c = checked_ok (nat_le found.0 255) end contents found.0 few e2 in
+    let c = checked_ok (nat_le found.0 MOST_MODULES) end contents found.0 few e2 in
     let d = ended_ok end found.1 few count h2 in
     (p.0 ∙ ap (λ (r : List ℕ). pair found.0 ++ r) d.0 ∙ append-nil (pair found.0) ∙ ap pair (c.1 ∙ d.1), tt)) h1) e
 
-count_again : (end count : ℕ) → count ≤ 255 → count_in end (pair count) ≡ Ok count
+count_again : (end count : ℕ) → count ≤ MOST_MODULES → count_in end (pair count) ≡ Ok count
 unfolding count_in
 count_again end count few =
-    let small : nat_le count 255 ≡ true = le-leb count 255 few in
+    let small : nat_le count MOST_MODULES ≡ true = le-leb count MOST_MODULES few in
     rw (pair_again count, small) refl
 
 -- the first record
-pub first_takes : (total : ℕ) (bytes : List ℕ) (count : ℕ) (rest : List ℕ) → IsBytes bytes → one_at 0x2C count_in total 0 bytes ≡ Ok (count, rest) → bytes ≡ count_record count ++ rest
-first_takes total bytes count rest fits e = (one_takes 0x2C count_in pair (λ _. Unit {0}) total 0 bytes (count, rest) count_takes fits e).bytes_are
+pub first_takes : (total : ℕ) (bytes : List ℕ) (count : ℕ) (rest : List ℕ) → IsBytes bytes → one_at LIBRARY_HEADER count_in total 0 bytes ≡ Ok (count, rest) → bytes ≡ count_record count ++ rest
+first_takes total bytes count rest fits e = (one_takes LIBRARY_HEADER count_in pair (λ _. Unit {0}) total 0 bytes (count, rest) count_takes fits e).bytes_are
 
-first_again : (total count : ℕ) (rest : List ℕ) → count ≤ 255 → one_at 0x2C count_in total 0 (count_record count ++ rest) ≡ Ok (count, rest)
-first_again total count rest few = one_again 0x2C count_in (pair count) count total 0 rest (count_again _ count few)
+first_again : (total count : ℕ) (rest : List ℕ) → count ≤ MOST_MODULES → one_at LIBRARY_HEADER count_in total 0 (count_record count ++ rest) ≡ Ok (count, rest)
+first_again total count rest few = one_again LIBRARY_HEADER count_in (pair count) count total 0 rest (count_again _ count few)
 
 -- that record, the modules and nothing else are a library
 pub whole : (bytes rest after : List ℕ) (count : ℕ) (ms kept : List ModuleParts) → bytes ≡ count_record count ++ rest → rest ≡ flat_map bytes_of ms ++ after → length ms ≡ count
@@ -62,7 +64,7 @@ modules_again (m ∷ ms) total number valid =
 pub library_again : (ms : List ModuleParts) (bytes : List ℕ) → IsLibrary ms → All IsValid ms → bytes ≡ library_bytes ms → library_of bytes ≡ Ok ms
 unfolding modules_of
 library_again ms bytes library valid is =
-    let first : one_at 0x2C count_in (length bytes) 0 bytes ≡ Ok (length ms, flat_map bytes_of ms) =
-    ap (one_at 0x2C count_in (length bytes) 0) is ∙ first_again (length bytes) (length ms) (flat_map bytes_of ms) library.few in
+    let first : one_at LIBRARY_HEADER count_in (length bytes) 0 bytes ≡ Ok (length ms, flat_map bytes_of ms) =
+    ap (one_at LIBRARY_HEADER count_in (length bytes) 0) is ∙ first_again (length bytes) (length ms) (flat_map bytes_of ms) library.few in
     let others : modules_at (length ms) (length bytes) 1 (flat_map bytes_of ms) ≡ Ok (ms, []) = modules_again ms (length bytes) 1 valid in
     rw (first, others) (accepted [] ms library)

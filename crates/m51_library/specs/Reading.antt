@@ -5,8 +5,10 @@ use Rattle.m51_module.specs.declared.library_error.LibError.TheVariants.{Object,
 use Rattle.m51_module.specs.declared.object_error.ObjError.{ObjError}
 use Rattle.m51_module.specs.declared.object_error.ObjError.TheVariants.{O3, Memory as NoRoom}
 use Rattle.m51_module.specs.declared.parts.ModuleParts.{ModuleParts}
+use Rattle.m51_cells.specs.declared.limits.TheConstants.{MOST_MODULES}
 use Rattle.m51_cells.specs.Outcome.{and_then}
 use Rattle.m51_module.specs.Library.{built}
+use Rattle.m51_records.specs.declared.types.TheConstants.{LIBRARY_HEADER}
 use Rattle.m51_records.specs.Fields.{◌>>=◌, place, pair_at, checked, ended}
 use Rattle.m51_records.specs.Reading.{one_at, module_at}
 use Rattle.m51_records.specs.Spelling.{records_in}
@@ -15,7 +17,7 @@ use Rattle.m51_records.specs.Spelling.{records_in}
 unfoldable pub count_in : ℕ → List ℕ → Result ℕ ObjError
 count_in end contents = do
   count ← pair_at end contents
-  few ← checked (nat_le count.0 255) end contents count.0
+  few ← checked (nat_le count.0 MOST_MODULES) end contents count.0
   ended end count.1 few
 
 -- So many modules, one after another, and the bytes after them. They end with the file, at its total length, and the
@@ -35,11 +37,11 @@ at_end total (byte ∷ rest) value = Err (O3 (place total (byte ∷ rest)))
 -- the modules of a file: their number, and then they and nothing else
 unfoldable pub modules_of : List ℕ → Result (List ModuleParts) ObjError
 modules_of file = do
-  count ← one_at 0x2C count_in (length file) 0 file
+  count ← one_at LIBRARY_HEADER count_in (length file) 0 file
   modules ← modules_at count.0 (length file) 1 count.1
   at_end (length file) modules.1 modules.0
 
--- an error of the bytes as one of the library: want of memory stays what it is
+-- an error of the bytes as one of the library: out of memory stays what it is
 abbrev pub refused_by : ObjError → LibError
 refused_by NoRoom = Memory
 refused_by refusal = Object refusal

@@ -7,15 +7,10 @@ ghost use Rattle.m51_records.specs.Reading.{one_at};
 ghost use Rattle.m51_library.specs.Spelling.{library_bytes};
 ghost use Rattle.m51_library.specs.Reading.{count_in, modules_at, at_end, modules_of};
 
-use m51_cells::{MOST_MODULES, NoMemory};
+use m51_cells::MOST_MODULES;
 use m51_module::{Module, ObjError};
-use m51_records::{broken, checksum_place, module_at, pair_at, place, record_at};
+use m51_records::{LIBRARY_HEADER, broken, checksum_place, module_at, pair_at, place, record_at};
 use std::alloc::Global;
-
-/// The type of the first record.
-///
-/// Source: OMF-51.
-pub(crate) const COUNT: u8 = 0x2C;
 
 // The number of modules, from the contents of the first record: they end at that place. O4 where it is over 255, or
 // where the contents end before it or go on after it.
@@ -36,20 +31,12 @@ fn read_count(end: u32, contents: &[u8]) -> Result<u16, ObjError>
 // The number of modules, and the bytes after the first record. They end with the file, at its total length.
 #[tactic(auto, unfolding(m51_records::specs::Reading::one_at))]
 fn count_at(total: u32, bytes: &[u8]) -> Result<(u16, &[u8]), ObjError>
-    ensures value { Reads (λ x. (x.0, x.1.now)) result (one_at 0x2C count_in total 0 bytes.now) }
+    ensures value { Reads (λ x. (x.0, x.1.now)) result (one_at LIBRARY_HEADER count_in total 0 bytes.now) }
     ensures shorter { IfOk result (λ x. length x.1.now < length bytes.now) }
 {
-    let (contents, rest) = record_at(COUNT, total, 0, bytes)?;
+    let (contents, rest) = record_at(LIBRARY_HEADER, total, 0, bytes)?;
     let count = read_count(checksum_place(total, rest), contents)?;
     Ok((count, rest))
-}
-
-// Appends a module.
-fn push(modules: &mut Vec<Module>, member: Module) -> Result<(), NoMemory>
-    ensures { OnOk result (modules.new.items ≡ modules.old.items ++ member ∷ []) }
-{
-    modules.push(member)?;
-    Ok(())
 }
 
 // So many modules, one after another, and the bytes after them. They end with the file, at its total length, and the
@@ -71,7 +58,7 @@ fn modules_at(
     let mut rest = bytes;
     for _place in 0..count {
         let (member, after, following) = module_at(alloc, total, next, rest)?;
-        push(&mut modules, member)?;
+        modules.push(member)?;
         next = following;
         rest = after;
     }
@@ -94,7 +81,7 @@ fn at_end(total: u32, rest: &[u8], modules: Vec<Module>) -> Result<Vec<Module>, 
 /// The modules of a file: the first record gives their number, and nothing follows them.
 ///
 /// Errors: those of the bytes, in their order: O1, O2 and O3 of the first record, O4 where its number is over 255, cut
-/// off or followed by a byte of its contents; those of each module; O3 at the first byte after the last one. Want of
+/// off or followed by a byte of its contents; those of each module; O3 at the first byte after the last one. Out of
 /// memory.
 ///
 /// Source: own choice ("Library files").

@@ -11,7 +11,7 @@ use crate::modules::modules_of;
 use m51_module::{LibError, Library, ObjError, build};
 use std::alloc::Global;
 
-// What refuses the bytes refuses the library; want of memory stays what it is.
+// What refuses the bytes refuses the library; out of memory stays what it is.
 fn refusal(error: ObjError) -> LibError
     ensures { result ≡ refused_by error }
 {
@@ -34,11 +34,12 @@ fn library_of(alloc: Global, bytes: &[u8]) -> Result<Library, LibError>
     }
 }
 
-/// The library whose bytes these are.
+/// The library whose bytes these are: less than 4,294,967,296 of them.
 ///
-/// Errors: `Object` with the first refusal of the bytes, where places count from the first byte and record numbers from
-/// the first record, which is 0; then, for each module in order, `B1` where one before it has its name, else `B3` with
-/// its first public that one before it has; want of memory, which `Object` never holds.
+/// Errors: `Object` with the first refusal of the bytes, `O1` to `O5`, where places count from the first byte and
+/// record numbers from the first record, which is 0: the first record must say how many modules follow, at most 255,
+/// and nothing may follow them. Then, for each module in order, `B1` where one before it has its name, else `B3` with
+/// its first public that one before it has. `Memory` is the one other error; `Object` never holds it.
 ///
 /// Source: own choice ("Library files").
 pub fn read_library(alloc: Global, bytes: &[u8]) -> Result<Library, LibError>
@@ -50,7 +51,7 @@ pub fn read_library(alloc: Global, bytes: &[u8]) -> Result<Library, LibError>
     // What is spelled so is read.
     ensures only { (modules : List ModuleParts) → IsLibrary modules → All IsValid modules
         → bytes.now ≡ library_bytes modules → Gives (λ library. library) refusal_of result (Ok modules) }
-    // `Object` never holds want of memory.
+    // `Object` never holds out of memory.
     ensures memory { IfErr result (λ error. error ≢ LibError.Object ObjError.Memory) }
 {
     library_of(alloc, bytes)

@@ -4,10 +4,9 @@ ghost use Rattle.std.specs.List.{flat_map};
 ghost use Rattle.m51_records.specs.Spelling.{bytes_of};
 ghost use Rattle.m51_library.specs.Spelling.{library_bytes};
 
-use crate::modules::COUNT;
 use m51_cells::NoMemory;
 use m51_module::{Library, Module};
-use m51_records::{pair, record_bytes, write_module};
+use m51_records::{LIBRARY_HEADER, pair, record_bytes, write_module};
 use std::alloc::Global;
 
 // Appends the object of each module.
@@ -21,14 +20,14 @@ fn put_modules(alloc: Global, out: &mut Vec<u8>, modules: &[Module]) -> Result<(
     Ok(())
 }
 
-/// The bytes of the library: each has one spelling. Want of memory is the one refusal.
+/// The bytes of the library: each has one spelling. Out of memory is the one error.
 ///
 /// Source: own choice ("Library files").
 pub fn write_library(alloc: Global, library: &Library) -> Result<Vec<u8>, NoMemory>
     ensures { IfOk result (λ bytes. bytes.items ≡ library_bytes library.now) }
 {
     let modules = library.list();
-    let mut out = record_bytes(alloc, COUNT, &pair(modules.len() as u16))?;
+    let mut out = record_bytes(alloc, LIBRARY_HEADER, &pair(modules.len() as u16))?;
     put_modules(alloc, &mut out, modules)?;
     Ok(out)
 }

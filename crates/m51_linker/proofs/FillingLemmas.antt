@@ -7,7 +7,7 @@ use Rattle.std.proofs.lemmas.List.Elements.{Contains-append_left, Contains-appen
 use Rattle.m51_module.specs.declared.content.Piece.{Piece}
 use Rattle.m51_linker.specs.Filling.{AreWritten, HasByte, IsFilledFrom, Fills}
 use Rattle.m51_linker.specs.Filling.IsFilledFrom.{Put, Kept}
-use Rattle.m51_linker.proofs.Lists.{below_or_not}
+use Rattle.std.proofs.lemmas.Bool.{cases_lt}
 
 -- nothing is written of no pieces
 pub fills_none : (old : List ℕ) → Fills [] old old
@@ -30,9 +30,9 @@ within_piece p address value h =
 pub written_fills : (p : Piece) (old new : List ℕ) → AreWritten p.offset p.bytes (length p.bytes) old new → Fills (p ∷ []) old new
 written_fills p old new h = record {
   len = h.len;
-  each = λ address below. elim (below_or_not address p.offset) as (λ _. IsFilledFrom (p ∷ []) old address (slice_index new address)) [
+  each = λ address below. elim (cases_lt address p.offset) as (λ _. IsFilledFrom (p ∷ []) old address (slice_index new address)) [
     | inl before ↦ Kept (λ value k. let w = within_piece p address value k in absurd (omega (arith, before, w.0))) (h.before address before)
-    | inr from ↦ elim (below_or_not address (p.offset + length p.bytes)) as (λ _. IsFilledFrom (p ∷ []) old address (slice_index new address)) [
+    | inr from ↦ elim (cases_lt address (p.offset + length p.bytes)) as (λ _. IsFilledFrom (p ∷ []) old address (slice_index new address)) [
       | inr behind ↦ Kept (λ value k. let w = within_piece p address value k in absurd (omega (arith, behind, w.1))) (h.behind address behind)
       | inl inside ↦
           let place = address - p.offset in

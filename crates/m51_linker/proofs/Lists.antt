@@ -23,15 +23,6 @@ all_at P xs place x h is = subst (λ y. P y) (get_or_from_slice_get xs place x x
 pub drop_next : {X : Type 0} (xs : List X) (count : ℕ) (d : X) → count < length xs → drop count xs ≡ get_or xs count d ∷ drop (count + 1) xs
 drop_next xs count d below = rw add-one (drop-cons xs count d below)
 
--- two numbers are in one order or the other
-pub below_or_not : (a b : ℕ) → (a < b) ⊎ (b ≤ a)
-below_or_not a zero = inr (omega arith)
-below_or_not zero (suc b) = inl (omega arith)
-below_or_not (suc a) (suc b) = elim (below_or_not a b) as (λ d. (suc a < suc b) ⊎ (suc b ≤ suc a)) [
-  | inl below ↦ inl (omega arith)
-  | inr above ↦ inr (omega arith)
-]
-
 -- what holds of each and each later one of a list holds so in its front, and between the front and the last
 pub pairs_front : {X : Type 0} (R : X → X → Type 0) (front : List X) (last : X) → AllPairs R (front ++ last ∷ []) → AllPairs R front
 pairs_front R front last h = λ i j d less below.

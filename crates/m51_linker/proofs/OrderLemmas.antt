@@ -7,13 +7,14 @@ use Rattle.std.proofs.lemmas.List.Filters.{length-filter_more}
 use Rattle.std.proofs.lemmas.Option.{slice_get_within, get_or_from_slice_get}
 use Rattle.m51_cells.specs.declared.kind.Reloc.TheVariants.{Abs}
 use Rattle.m51_module.specs.declared.content.Piece.{Piece}
+use Rattle.m51_cells.specs.Kinds.{is_absolute}
 use Rattle.m51_module.specs.declared.parts.ModuleParts.{ModuleParts}
 use Rattle.m51_module.specs.declared.segment.Segment.{Segment}
 use Rattle.m51_cells.specs.Kinds.{largest}
 use Rattle.m51_module.specs.Validity.{numbered, IsSegmentValid, IsPieceValid, LiesBefore, IsValid}
 use Rattle.m51_module.specs.Validity.LiesBefore.{EarlierSegment, Apart, Touching}
 use Rattle.m51_linker.specs.Filling.{AreInOrder}
-use Rattle.m51_linker.specs.Shape.{is_absolute_type, is_absolute, IsFirstShape}
+use Rattle.m51_linker.specs.Shape.{is_absolute_segment, IsFirstShape}
 use Rattle.m51_linker.proofs.StartLemmas.{IsStartOf, at_number, piece_start}
 
 -- a longer front has no fewer that pass
@@ -40,26 +41,26 @@ two_pass test xs i j d less below first second =
 
 -- an absolute segment at a place
 absolute_place : (segments : List Segment) (number : ℕ) (h : IsStartOf segments number) (d : Segment)
-    → (0 < number) × (number - 1 < length segments) × (is_absolute (get_or segments (number - 1) d) ≡ true)
-absolute_place segments number h d = place_of segments number h.segment h.is (ap is_absolute_type h.start.reloc) d where
-  place_of : (segments : List Segment) (number : ℕ) (s : Segment) → numbered segments number ≡ Some s → is_absolute s ≡ true → (d : Segment)
-      → (0 < number) × (number - 1 < length segments) × (is_absolute (get_or segments (number - 1) d) ≡ true)
+    → (0 < number) × (number - 1 < length segments) × (is_absolute_segment (get_or segments (number - 1) d) ≡ true)
+absolute_place segments number h d = place_of segments number h.segment h.is (ap is_absolute h.start.reloc) d where
+  place_of : (segments : List Segment) (number : ℕ) (s : Segment) → numbered segments number ≡ Some s → is_absolute_segment s ≡ true → (d : Segment)
+      → (0 < number) × (number - 1 < length segments) × (is_absolute_segment (get_or segments (number - 1) d) ≡ true)
   place_of segments zero s is absolute d = absurd (cc is)
   place_of segments (suc before) s is absolute d =
       let e : suc before - 1 ≡ before = omega arith in (
         omega arith,
         omega (arith, slice_get_within segments before s is),
-        ap (λ k. is_absolute (get_or segments k d)) e ∙ ap is_absolute (get_or_from_slice_get segments before s d is) ∙ absolute,
+        ap (λ k. is_absolute_segment (get_or segments k d)) e ∙ ap is_absolute_segment (get_or_from_slice_get segments before s d is) ∙ absolute,
       )
 
 -- so both are one
-one_number : (segments : List Segment) (i j : ℕ) → length (filter is_absolute segments) ≡ 1 → IsStartOf segments i → IsStartOf segments j → i < j → ⊥
+one_number : (segments : List Segment) (i j : ℕ) → length (filter is_absolute_segment segments) ≡ 1 → IsStartOf segments i → IsStartOf segments j → i < j → ⊥
 one_number segments i j one h k less =
     let first = absolute_place segments i h h.segment in
     let second = absolute_place segments j k h.segment in
     let some : 0 < i = first.0 in
     let below : j - 1 < length segments = second.1 in
-    let two : 2 ≤ length (filter is_absolute segments) = two_pass is_absolute segments (i - 1) (j - 1) h.segment (omega arith) below first.2 second.2 in
+    let two : 2 ≤ length (filter is_absolute_segment segments) = two_pass is_absolute_segment segments (i - 1) (j - 1) h.segment (omega arith) below first.2 second.2 in
     omega arith
 
 -- pieces in order do not share an address

@@ -6,27 +6,19 @@ use Rattle.std.proofs.lemmas.Option.{slice_get_within, get_or_from_slice_get}
 use Rattle.m51_cells.specs.declared.kind.Base.TheVariants.{Segment as InSegment}
 use Rattle.m51_cells.specs.declared.kind.Reloc.TheVariants.{Abs}
 use Rattle.m51_module.specs.declared.content.Fixup.{Fixup}
+use Rattle.m51_cells.proofs.Small.{first_or_after}
+use Rattle.m51_cells.specs.Kinds.{is_absolute}
 use Rattle.m51_module.specs.declared.parts.ModuleParts.{ModuleParts}
 use Rattle.m51_module.specs.declared.placed.Placed.{Placed}
 use Rattle.m51_module.specs.declared.segment.Segment.{Segment}
 use Rattle.m51_module.specs.Validity.{numbered, IsTarget, IsFixupValid, IsValid}
 use Rattle.m51_linker.specs.Placement.{fixed_of, relocatable_of, IsNext, ArePlaced}
-use Rattle.m51_linker.specs.Shape.{is_absolute_type, is_absolute, IsStart, IsData, IsTakenSegment, IsTakenFixup, IsFirstShape}
+use Rattle.m51_linker.specs.Shape.{is_absolute_segment, IsStart, IsData, IsTakenSegment, IsTakenFixup, IsFirstShape}
 use Rattle.m51_linker.specs.Shape.IsTakenSegment.{Start, Data}
 use Rattle.m51_linker.specs.Targets.{IsNamedSo, IsPlaceOf, HasBase, StandsAt, IsTargetOf, HasTarget}
 use Rattle.m51_linker.specs.Targets.HasBase.{Own, Found}
 use Rattle.m51_linker.specs.Link.{IsPlacedAs}
 use Rattle.m51_linker.proofs.StartLemmas.{at_number}
-
--- the first of a list or one of the rest
-pub first_or_rest : {X : Type 0} (x : X) (xs : List X) (y : X) → Contains (x ∷ xs) y → (x ≡ y) ⊎ Contains xs y
-first_or_rest x xs y h = elim (Contains-append_cases (x ∷ []) xs y h) as (λ _. (x ≡ y) ⊎ Contains xs y) [
-  | inl first ↦ elim (Contains-push_cases [] x y first) as (λ _. (x ≡ y) ⊎ Contains xs y) [
-    | inl none ↦ absurd (omega (arith, none.1))
-    | inr is ↦ inl is
-  ]
-  | inr rest ↦ inr rest
-]
 
 -- what passes the test is among what passes it
 kept_or_not : {X : Type 0} (x : X) (kept : List X) (b : Bool) (y : X) → Contains kept y → Contains (cond b (x ∷ kept) kept) y
@@ -35,7 +27,7 @@ kept_or_not x kept false y rest = rest
 
 pub in_filter : {X : Type 0} (test : X → Bool) (xs : List X) (y : X) → test y ≡ true → Contains xs y → Contains (filter test xs) y
 in_filter test [] y passes is = absurd (omega (arith, is.1))
-in_filter test (x ∷ xs) y passes is = elim (first_or_rest x xs y is) as (λ _. Contains (filter test (x ∷ xs)) y) [
+in_filter test (x ∷ xs) y passes is = elim (first_or_after x xs y is) as (λ _. Contains (filter test (x ∷ xs)) y) [
   | inl same ↦ subst (λ b. Contains (cond b (x ∷ filter test xs) (filter test xs)) y) (sym (subst (λ z. test z ≡ true) (sym same) passes))
       (subst (λ z. Contains (x ∷ filter test xs) z) same (Contains-append_left (x ∷ []) (filter test xs) x (Contains-push [] x)))
   | inr rest ↦ kept_or_not x (filter test xs) (test x) y (in_filter test xs y passes rest)
@@ -53,7 +45,7 @@ named_next earlier s p h = subst (λ q. IsNamedSo s q) (sym h.is) (record { mark
 -- each segment of the order has a place
 pub has_place : (order : List Segment) (earlier placed : List Placed) (s : Segment) → ArePlaced earlier order placed → Contains order s → (p : Placed) × IsPlaceOf placed s p
 has_place [] earlier placed s h is = absurd (omega (arith, is.1))
-has_place (t ∷ more) earlier placed s h is = elim (first_or_rest t more s is) as (λ _. (p : Placed) × IsPlaceOf placed s p) [
+has_place (t ∷ more) earlier placed s h is = elim (first_or_after t more s is) as (λ _. (p : Placed) × IsPlaceOf placed s p) [
   | inl same ↦ (
     h.0,
     record {
@@ -65,28 +57,28 @@ has_place (t ∷ more) earlier placed s h is = elim (first_or_rest t more s is) 
 ]
 
 -- a segment of DATA is not absolute
-data_passes : (s : Segment) → IsData s → not (is_absolute s) ≡ true
-data_passes s h = ap (λ r. not (is_absolute_type r)) h.reloc
+data_passes : (s : Segment) → IsData s → not (is_absolute_segment s) ≡ true
+data_passes s h = ap (λ r. not (is_absolute r)) h.reloc
 
 not_absolute : (s : Segment) → IsData s → s.reloc ≢ Abs
 not_absolute s h e = cc (h.reloc, e)
 
 -- the relocatable segments are DATA
-relocatable_is_data : (s : Segment) → IsTakenSegment s → not (is_absolute s) ≡ true → IsData s
+relocatable_is_data : (s : Segment) → IsTakenSegment s → not (is_absolute_segment s) ≡ true → IsData s
 relocatable_is_data s (Data h) passes = h
-relocatable_is_data s (Start h) passes = absurd (cc (passes, ap (λ r. not (is_absolute_type r)) h.reloc))
+relocatable_is_data s (Start h) passes = absurd (cc (passes, ap (λ r. not (is_absolute r)) h.reloc))
 
 pub relocatable_data : (segments : List Segment) → All IsTakenSegment segments → All IsData (relocatable_of segments)
 relocatable_data segments h = λ k d below.
-    relocatable_is_data (get_or (relocatable_of segments) k d) (All-filter (λ s. not (is_absolute s)) IsTakenSegment segments h k d below)
-    (filter_passes (λ s. not (is_absolute s)) segments k d below)
+    relocatable_is_data (get_or (relocatable_of segments) k d) (All-filter (λ s. not (is_absolute_segment s)) IsTakenSegment segments h k d below)
+    (filter_passes (λ s. not (is_absolute_segment s)) segments k d below)
 
 -- each taken segment has a base
 pub has_base : (segments : List Segment) (earlier placed : List Placed) (s : Segment) → ArePlaced earlier (relocatable_of segments) placed → Contains segments s → IsTakenSegment s
     → (base : ℕ) × HasBase placed s base
 has_base segments earlier placed s h is (Start start) = (s.base, Own start.reloc refl)
 has_base segments earlier placed s h is (Data data_is) =
-    let k = has_place (relocatable_of segments) earlier placed s h (in_filter (λ t. not (is_absolute t)) segments s (data_passes s data_is) is) in
+    let k = has_place (relocatable_of segments) earlier placed s h (in_filter (λ t. not (is_absolute_segment t)) segments s (data_passes s data_is) is) in
     (k.0.base, Found k.0 (not_absolute s data_is) k.1 refl)
 
 -- the segment of a number is one of the segments

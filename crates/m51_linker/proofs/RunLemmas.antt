@@ -7,7 +7,8 @@ use Rattle.m51_module.specs.declared.linked.Run.{Run}
 use Rattle.m51_linker.specs.Filling.{longer, AddsRun}
 use Rattle.m51_linker.specs.Filling.AddsRun.{Joined, Apart, First}
 use Rattle.m51_linker.specs.Runs.{IsInRun, IsWholeRun, AreRuns}
-use Rattle.m51_linker.proofs.Lists.{below_or_not, pairs_front, pairs_last, all_front, all_last}
+use Rattle.std.proofs.lemmas.Bool.{cases_lt}
+use Rattle.m51_linker.proofs.Lists.{pairs_front, pairs_last, all_front, all_last}
 
 -- each run ends before the next begins
 abbrev pub EndsBefore : Run → Run → Type 0
@@ -85,7 +86,7 @@ module _ (Old New : ℕ → Type 0) (first len : ℕ) (g : Grows Old New first l
   longer_run : (run : Run) → IsWholeRun Old run → run.first + run.len ≡ first → IsWholeRun New (longer run len)
   longer_run run h ends = let some : 0 < run.len = h.some in record {
     some = omega arith;
-    filled = λ address inside. elim (below_or_not address first) as (λ _. New address) [
+    filled = λ address inside. elim (cases_lt address first) as (λ _. New address) [
       | inl below ↦ g.old address (h.filled address (record { from = inside.from; below = omega arith }))
       | inr from ↦ g.new address from (let b : address < run.first + (run.len + len) = inside.below in omega arith)
     ];

@@ -10,6 +10,7 @@ use Rattle.m51_cells.specs.declared.kind.Kind.TheVariants.{Code, Direct}
 use Rattle.m51_cells.specs.declared.kind.Reloc.TheVariants.{Abs, Unit as UnitType}
 use Rattle.m51_cells.specs.Extent.{Covers, Meet, extent_of}
 use Rattle.m51_cells.specs.Fits.{Fits}
+use Rattle.m51_cells.specs.Kinds.{is_absolute}
 use Rattle.m51_module.specs.declared.parts.ModuleParts.{ModuleParts}
 use Rattle.m51_module.specs.declared.placed.Mark.TheVariants.{Bank, Absolute, Plain, Overlaid}
 use Rattle.m51_module.specs.declared.placed.Placed.{Placed}
@@ -23,9 +24,10 @@ use Rattle.m51_linker.specs.Bases.{IsApart}
 use Rattle.m51_linker.specs.Link.{IsPlacedAs}
 use Rattle.m51_linker.specs.Placement.{bank_0, absolute_at, plain_at, absolutes_of, fixed_of, relocatable_of, IsNext, ArePlaced}
 use Rattle.m51_linker.specs.Ready.{layout_of}
-use Rattle.m51_linker.specs.Shape.{is_absolute_type, is_absolute, IsStart, IsData, IsTakenSegment, IsFirstShape}
+use Rattle.m51_linker.specs.Shape.{is_absolute_segment, IsStart, IsData, IsTakenSegment, IsFirstShape}
 use Rattle.m51_linker.specs.Shape.IsTakenSegment.{Start, Data}
-use Rattle.m51_linker.proofs.Lists.{all_at, below_or_not}
+use Rattle.std.proofs.lemmas.Bool.{cases_lt}
+use Rattle.m51_linker.proofs.Lists.{all_at}
 use Rattle.m51_linker.proofs.PlaceLemmas.{relocatable_data}
 
 -- two extents share no cell
@@ -172,7 +174,7 @@ module _ (code : Placed) (data_placed : List Placed) (start : IsStartPlaced code
     owned = λ u s h. absurd (omega (arith, h.1));
     owners = λ s h. absurd (none_overlaid s h.0 (which code data_placed s h.0 each h.1) h.2);
     one_root = λ s u x y h. absurd (omega (arith, h.1));
-    apart = λ s t p q first second ne conflict meet. elim (below_or_not s t) as (λ _. ⊥) [
+    apart = λ s t p q first second ne conflict meet. elim (cases_lt s t) as (λ _. ⊥) [
       | inl less ↦ apart_at apart s t p q first second less meet
       | inr from ↦ apart_at apart t s q p second first (omega arith) (meet.0, meet.2, meet.1)
     ];
@@ -191,7 +193,7 @@ start_placed s valid start = let absolute = valid.absolute start.reloc in record
 -- the one absolute segment
 pub record IsOne (segments : List Segment) : Type 0 where
   pub start : Segment
-  pub are : filter is_absolute segments ≡ start ∷ []
+  pub are : filter is_absolute_segment segments ≡ start ∷ []
   pub is : IsStart start
   pub valid : IsSegmentValid start
 
@@ -200,9 +202,9 @@ list_of_one P [] one h = absurd (omega arith)
 list_of_one P (x ∷ []) one h = (x, refl, All-head P x [] h)
 list_of_one P (x ∷ y ∷ more) one h = absurd (omega arith)
 
-absolute_is_start : (s : Segment) → IsTakenSegment s → is_absolute s ≡ true → IsStart s
+absolute_is_start : (s : Segment) → IsTakenSegment s → is_absolute_segment s ≡ true → IsStart s
 absolute_is_start s (Start h) passes = h
-absolute_is_start s (Data h) passes = absurd (cc (passes, ap is_absolute_type h.reloc))
+absolute_is_start s (Data h) passes = absurd (cc (passes, ap is_absolute h.reloc))
 
 -- what the one that passes is
 pub record IsValidStart (s : Segment) : Type 0 where
@@ -211,10 +213,10 @@ pub record IsValidStart (s : Segment) : Type 0 where
 
 pub one_start : (m : ModuleParts) → IsValid m → IsFirstShape m → IsOne m.segments
 one_start m valid shape =
-    let passed = filter is_absolute m.segments in
+    let passed = filter is_absolute_segment m.segments in
     let each : All IsValidStart passed = λ k d below. record {
-      is = absolute_is_start (get_or passed k d) (All-filter is_absolute IsTakenSegment m.segments shape.segments.each k d below) (filter_passes is_absolute m.segments k d below);
-      valid = All-filter is_absolute IsSegmentValid m.segments valid.segments k d below;
+      is = absolute_is_start (get_or passed k d) (All-filter is_absolute_segment IsTakenSegment m.segments shape.segments.each k d below) (filter_passes is_absolute_segment m.segments k d below);
+      valid = All-filter is_absolute_segment IsSegmentValid m.segments valid.segments k d below;
     } in
     let one = list_of_one IsValidStart passed shape.segments.one_start each in
     record { start = one.0; are = one.1; is = one.2.is; valid = one.2.valid }
@@ -234,7 +236,7 @@ sound m placed valid shape placed_as =
     let h : ArePlaced (bank_0 ∷ code ∷ []) order placed = subst (λ earlier. ArePlaced earlier order placed) fixed placed_as in
     let behind : AreBehind (bank_0 ∷ code ∷ []) placed = are_behind order (bank_0 ∷ code ∷ []) placed (relocatable_data m.segments shape.segments.each) (fixed_apart code start) h in
     let count : length placed ≡ 2 + length order = as_many order (bank_0 ∷ code ∷ []) placed h in
-    let fewer : length order ≤ length m.segments = (let both = length-filter_both is_absolute (λ s. not (is_absolute s)) (λ s. refl) m.segments in omega arith) in
+    let fewer : length order ≤ length m.segments = (let both = length-filter_both is_absolute_segment (λ s. not (is_absolute_segment s)) (λ s. refl) m.segments in omega arith) in
     let few : length m.segments ≤ 254 = valid.few_segments in
     let split : length placed ≡ suc (suc (length behind.data_placed)) = ap length behind.are in
     subst (λ ps. IsSound (layout_of ps)) (sym behind.are)

@@ -10,7 +10,7 @@ use Rattle.m51_module.specs.declared.placed.Mark.TheVariants.{Bank, Absolute, Pl
 use Rattle.m51_module.specs.declared.placed.Placed.{Placed}
 use Rattle.m51_module.specs.declared.segment.Segment.{Segment}
 use Rattle.m51_linker.specs.Bases.{IsLeastBase, HasNoBase}
-use Rattle.m51_linker.specs.Shape.{is_absolute}
+use Rattle.m51_linker.specs.Shape.{is_absolute_segment}
 
 -- register bank 0: the first eight bytes of internal RAM
 abbrev pub bank_0 : Placed
@@ -26,7 +26,7 @@ plain_at s base = record { title = s.name; kind = s.kind; reloc = s.reloc; mark 
 
 -- the absolute segments in the module's order, placed
 abbrev pub absolutes_of : List Segment → List Placed
-absolutes_of segments = map absolute_at (filter is_absolute segments)
+absolutes_of segments = map absolute_at (filter is_absolute_segment segments)
 
 -- the fixed extents: bank 0, which is always used, and the absolute segments
 abbrev pub fixed_of : List Segment → List Placed
@@ -34,7 +34,7 @@ fixed_of segments = bank_0 ∷ absolutes_of segments
 
 -- the relocatable segments, in the module's order
 abbrev pub relocatable_of : List Segment → List Segment
-relocatable_of segments = filter (λ s. not (is_absolute s)) segments
+relocatable_of segments = filter (λ s. not (is_absolute_segment s)) segments
 
 -- The segment is placed next, at the least base that is free.
 pub record IsNext (earlier : List Placed) (s : Segment) (p : Placed) : Type 0 where

@@ -4,21 +4,16 @@ use Rattle.std.specs.List.{All, filter}
 use Rattle.m51_cells.specs.declared.kind.Base.{Base}
 use Rattle.m51_cells.specs.declared.kind.Base.TheVariants.{Segment as InSegment}
 use Rattle.m51_cells.specs.declared.kind.Kind.TheVariants.{Code, Direct}
-use Rattle.m51_cells.specs.declared.kind.Reloc.{Reloc}
 use Rattle.m51_cells.specs.declared.kind.Reloc.TheVariants.{Abs, Unit as UnitType}
+use Rattle.m51_cells.specs.Kinds.{is_absolute}
 use Rattle.m51_module.specs.declared.content.Fixup.{Fixup}
 use Rattle.m51_module.specs.declared.content.Form.TheVariants.{Byte}
 use Rattle.m51_module.specs.declared.parts.ModuleParts.{ModuleParts}
 use Rattle.m51_module.specs.declared.segment.Segment.{Segment}
 
--- the type is that of absolute segments
-abbrev pub is_absolute_type : Reloc → Bool
-is_absolute_type Abs = true
-is_absolute_type _ = false
-
 -- the source gives the segment its base
-abbrev pub is_absolute : Segment → Bool
-is_absolute s = is_absolute_type s.reloc
+abbrev pub is_absolute_segment : Segment → Bool
+is_absolute_segment s = is_absolute s.reloc
 
 -- an absolute segment of program memory that begins at 0000H
 pub record IsStart (s : Segment) : Type 0 where
@@ -55,7 +50,7 @@ pub record IsAlone (m : ModuleParts) : Type 0 where
 -- all of the segments are taken, and one of them is absolute
 pub record AreTakenSegments (segments : List Segment) : Type 0 where
   pub each : All IsTakenSegment segments
-  pub one_start : length (filter is_absolute segments) ≡ 1
+  pub one_start : length (filter is_absolute_segment segments) ≡ 1
 
 -- A module is of the first shape: it is alone, and its segments and fixups are taken.
 pub record IsFirstShape (m : ModuleParts) : Type 0 where

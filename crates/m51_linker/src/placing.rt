@@ -6,7 +6,7 @@ ghost use Rattle.m51_linker.specs.Ready.{PlacesModule};
 ghost use Rattle.m51_linker.specs.Shape.{IsData, IsTakenSegment, IsFirstShape};
 
 use crate::bases::least_base;
-use crate::shape::is_absolute;
+use crate::shape::is_absolute_segment;
 use m51_cells::{Kind, ListOf, Name, NoMemory, Reloc};
 use m51_module::{Mark, Module, Placed, PlacedList, Refusal, Segment};
 use std::alloc::{AllocError, Global};
@@ -81,7 +81,7 @@ fn absolutes(alloc: Global, segments: &[Segment]) -> Result<Vec<Placed>, AllocEr
     // Kept out of a copy: `collect` would ask for less where a first growth is refused.
     let mut absolute = Vec::new(alloc);
     absolute.extend_from_slice(segments)?;
-    absolute.retain(|segment| is_absolute(segment));
+    absolute.retain(|segment| is_absolute_segment(segment));
     at_bases(alloc, &absolute)
 }
 
@@ -101,7 +101,7 @@ fn relocatables(alloc: Global, segments: &[Segment]) -> Result<Vec<Segment>, NoM
 {
     let mut order = Vec::new(alloc);
     order.extend_from_slice(segments)?;
-    order.retain(|segment| !is_absolute(segment));
+    order.retain(|segment| !is_absolute_segment(segment));
     Ok(order)
 }
 

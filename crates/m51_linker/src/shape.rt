@@ -1,22 +1,20 @@
 //! The shape of the modules that the first linker takes.
 ghost use Rattle.std.specs.Prelude.{◌≡◌, ◌↔◌, IsTrue, All, length};
 ghost use Rattle.std.specs.List.{filter};
-ghost use Rattle.m51_linker.specs.Shape.{is_absolute, IsStart, IsData, IsTakenSegment, IsSegmentBase, AreTakenSegments};
+ghost use Rattle.m51_linker.specs.Shape.{is_absolute_segment, IsStart, IsData, IsTakenSegment, IsSegmentBase};
+ghost use Rattle.m51_linker.specs.Shape.{AreTakenSegments};
 ghost use Rattle.m51_linker.specs.Shape.{IsTakenFixup, IsAlone, IsFirstShape};
 
-use m51_cells::{Base, Kind, Reloc};
+use m51_cells::{Base, Kind, Reloc, is_absolute};
 use m51_module::{Fixup, Form, Module, Segment};
 
 /// Whether the source gives the segment its base.
 ///
 /// Source: own choice ("The second form").
-pub fn is_absolute(segment: &Segment) -> bool
-    ensures { result ≡ is_absolute segment.now }
+pub fn is_absolute_segment(segment: &Segment) -> bool
+    ensures { result ≡ is_absolute_segment segment.now }
 {
-    match segment.reloc {
-        Reloc::Abs => true,
-        _ => false,
-    }
+    is_absolute(segment.reloc)
 }
 
 // Whether the segment is absolute, of program memory, and begins at 0000H.
@@ -47,11 +45,11 @@ fn are_each_taken(segments: &[Segment]) -> bool
 
 // How many segments are absolute.
 fn absolute_count(segments: &[Segment]) -> usize
-    ensures { result ≡ length (filter is_absolute segments.now) }
+    ensures { result ≡ length (filter is_absolute_segment segments.now) }
 {
     segments
         .iter()
-        .filter(|segment| is_absolute(segment))
+        .filter(|segment| is_absolute_segment(segment))
         .count()
 }
 

@@ -7,21 +7,13 @@ use Rattle.std.proofs.lemmas.List.{get_or_default, get_or-take, length-set, leng
 use Rattle.std.proofs.lemmas.List.Elements.{Contains-push, Contains-push_cases, Contains-append_left, Contains-get_or}
 use Rattle.std.proofs.lemmas.List.Quantifiers.{all_pairs_push}
 use Rattle.std.proofs.lemmas.Option.{slice_get_within}
+use Rattle.m51_cells.proofs.Small.{below_or_last}
 use Rattle.m51_module.specs.declared.parts.LayoutParts.{LayoutParts}
 use Rattle.m51_module.specs.Kept.{AreDifferent, AreEmptyRows, AreOwnerRows, AreSegmentsOf, AreLocalRows, IsAddedAt}
 use Rattle.m51_module.specs.Plan.{owners_of, AreLocals}
 use Rattle.m51_module.specs.Sound.{IsSound}
 use Rattle.m51_module.proofs.Owning.{first_or_behind, contains_behind, none_in_empty}
 use Rattle.m51_module.proofs.Units.{same_or_not}
-
--- a number below the next one is below this one, or is it
-pub below_or_last : (s count : ℕ) → s < count + 1 → (s < count) ⊎ (s ≡ count)
-below_or_last s zero h = inr (omega (arith, h))
-below_or_last zero (suc count) h = inl (omega arith)
-below_or_last (suc s) (suc count) h = elim (below_or_last s count (omega (arith, h))) as (λ d. (suc s < suc count) ⊎ (suc s ≡ suc count)) [
-  | inl below ↦ inl (omega (arith, below))
-  | inr last ↦ inr (ap suc last)
-]
 
 -- a pair more is an owner more of its segment
 more_owner : (pairs : List (ℕ × ℕ)) (pair : ℕ × ℕ) (s : ℕ) → pair.0 ≡ s → owners_of (pairs ++ pair ∷ []) s ≡ owners_of pairs s ++ pair.1 ∷ []

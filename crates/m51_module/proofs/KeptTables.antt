@@ -1,12 +1,14 @@
 -- The tables of edges and of units by address, one edge, one address and one unit more at a time.
-use Rattle.std.proofs.Common.{◌≡◌, ◌≢◌, ◌⊎◌, inl, inr, ℕ, zero, suc, ◌+◌, ◌<◌, ◌≤◌, Bool, true, false, List, [], ◌∷◌, ◌++◌, length, Option, Some, None, replicate, refl, sym, ap, subst, ◌∙◌, arith, length-append}
+use Rattle.std.proofs.Common.{◌≡◌, ◌≢◌, inl, inr, ℕ, zero, suc, ◌+◌, ◌<◌, ◌≤◌, Bool, true, false, List, [], ◌∷◌, ◌++◌, length, Option, Some, None, replicate, refl, sym, ap, subst, ◌∙◌, arith, length-append}
 use Rattle.std.specs.Prelude.{slice_index_or, slice_set}
 use Rattle.std.specs.List.{Contains}
+use Rattle.std.proofs.lemmas.Bool.{cases_lt}
 use Rattle.std.proofs.lemmas.List.{get_or-replicate, get_or-set_same, get_or-set_other, length-replicate, length-set}
 use Rattle.std.proofs.lemmas.List.Elements.{Contains-push, Contains-push_cases, Contains-append_left}
 use Rattle.m51_cells.specs.declared.kind.Kind.TheVariants.{Code}
 use Rattle.m51_cells.specs.declared.cell.Space.TheVariants.{Code as CodeSpace}
 use Rattle.m51_cells.specs.Extent.{Covers, extent, extent_of}
+use Rattle.m51_cells.proofs.Small.{below_or_last}
 use Rattle.m51_module.specs.declared.parts.LayoutParts.{LayoutParts}
 use Rattle.m51_module.specs.declared.placed.Placed.{Placed}
 use Rattle.m51_module.specs.Cells.{extent_at, code_cell}
@@ -15,19 +17,8 @@ use Rattle.m51_module.specs.Plan.{IsUnit, IsUnitAt}
 use Rattle.m51_module.specs.Sound.{IsSound, IsInside}
 use Rattle.m51_module.specs.Walks.{Edges, HasEdge}
 use Rattle.m51_module.proofs.CellLemmas.{code_covers, inside_end}
-use Rattle.m51_module.proofs.KeptRows.{below_or_last}
 use Rattle.m51_module.proofs.Owning.{none_in_empty}
 use Rattle.m51_module.proofs.Units.{same_or_not, at_from_covers, covers_from_at, one_unit}
-
--- a number is less than another or not
-less_or_not : (a b : ℕ) → (a < b) ⊎ (b ≤ a)
-less_or_not zero zero = inr (omega arith)
-less_or_not zero (suc b) = inl (omega arith)
-less_or_not (suc a) zero = inr (omega arith)
-less_or_not (suc a) (suc b) = elim (less_or_not a b) as (λ _. (suc a < suc b) ⊎ (suc b ≤ suc a)) [
-  | inl less ↦ inl (omega (arith, less))
-  | inr above ↦ inr (omega (arith, above))
-]
 
 -- a row more
 clear_at : (wide : ℕ) (rows : List (List Bool)) → ((u : ℕ) → u < length rows → slice_index_or rows u [] ≡ replicate wide false)
@@ -177,7 +168,7 @@ data Lies (base size address : ℕ) : Type 0 where
 lies : (base size address : ℕ) → Lies base size address
 lies base size address = by_order base address (λ low. IsBefore low) (λ from. by_order (base + size) address (λ below. IsWithin from below) (λ high. IsAfter high)) where
   by_order : (a b : ℕ) → (b < a → Lies base size address) → (a ≤ b → Lies base size address) → Lies base size address
-  by_order a b below above = elim (less_or_not b a) as (λ _. Lies base size address) [ inl less ↦ below less | inr not_less ↦ above not_less ]
+  by_order a b below above = elim (cases_lt b a) as (λ _. Lies base size address) [ inl less ↦ below less | inr not_less ↦ above not_less ]
 
 -- a unit more
 pub units_more : (l : LayoutParts) (unit : ℕ) (p : Placed) (old new : List (Option ℕ)) → IsSound l → AreUnitsAt l unit old → IsUnit l unit p → p.kind ≡ Code

@@ -15,3 +15,4 @@ pub mod SampleLayout
 pub mod SampleModule
 pub mod SamplePublic
 pub mod Units
+pub mod EdgeTests

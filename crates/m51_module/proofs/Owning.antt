@@ -1,21 +1,10 @@
 -- The owners of a segment are the units of its pairs.
-use Rattle.std.proofs.Common.{◌≡◌, ◌⊎◌, inl, inr, ℕ, zero, suc, Bool, cond, eqb, List, [], ◌∷◌, map, filter, refl, sym, ap, subst, ◌∙◌, arith}
+use Rattle.std.proofs.Common.{◌≡◌, inl, inr, ℕ, Bool, cond, eqb, List, [], ◌∷◌, map, filter, refl, sym, ap, subst, arith}
 use Rattle.std.specs.List.{Contains}
 use Rattle.std.proofs.lemmas.Bool.Decides.{eqb_tells}
+use Rattle.m51_cells.proofs.Small.{pair_is}
+pub use Rattle.m51_cells.proofs.Small.{none_in_empty, contains_after as contains_behind, first_or_after as first_or_behind}
 use Rattle.m51_module.specs.Plan.{owners_of}
-
--- what is in a list is in a longer one
-pub contains_behind : {X : Type 0} (y : X) (xs : List X) (x : X) → Contains xs x → Contains (y ∷ xs) x
-contains_behind y xs x h = (suc h.0, omega (arith, h.1), h.2)
-
--- what is in a list is its first item or behind it
-pub first_or_behind : {X : Type 0} (y : X) (xs : List X) (x : X) → Contains (y ∷ xs) x → (y ≡ x) ⊎ Contains xs x
-first_or_behind y xs x (zero, below, e) = inl e
-first_or_behind y xs x (suc k, below, e) = inr (k, omega (arith, below), e)
-
--- nothing is in the empty list
-pub none_in_empty : {X : Type 0} (x : X) → Contains [] x → ⊥
-none_in_empty x h = omega (arith, h.1)
 
 -- a list with nothing in it is empty
 pub empty_of_none : {X : Type 0} (xs : List X) → ((x : X) → Contains xs x → ⊥) → xs ≡ []
@@ -25,9 +14,6 @@ empty_of_none (x ∷ xs) none = absurd (none x (0, omega arith, refl))
 -- the units of the pairs that pass, one pair after the other
 abbrev units_of : Bool → ℕ × ℕ → List (ℕ × ℕ) → ℕ → List ℕ
 units_of b p ps s = map (λ pair. pair.1) (cond b (p ∷ filter (λ pair. eqb (pair.0) s) ps) (filter (λ pair. eqb (pair.0) s) ps))
-
-pair_is : (p : ℕ × ℕ) (s u : ℕ) → p.0 ≡ s → p.1 ≡ u → p ≡ (s, u)
-pair_is p s u e f = ap (λ (x : ℕ). (x, p.1)) e ∙ ap (λ (y : ℕ). (s, y)) f
 
 -- an owner has its pair
 pub pair_of_owner : (owners : List (ℕ × ℕ)) (s u : ℕ) → Contains (owners_of owners s) u → Contains owners (s, u)

@@ -8,10 +8,7 @@ use Rattle.m51_module.specs.declared.symbol.Public.{Public}
 use Rattle.m51_module.specs.Sample.{field, code_segment, data_segment, byte_public, byte_external, mov_piece, sample_module}
 use Rattle.m51_module.specs.Validity.{IsValid, IsSegmentValid, IsPublicValid, IsPieceValid, IsFixupValid, IsHeld, FieldBefore, BeforeIn, Differ, LiesBefore}
 use Rattle.m51_cells.specs.Name.{IsWritten}
-
-pub all_one : {X : Type 0} (P : X → Type 0) (x : X) → P x → All P (x ∷ [])
-all_one P x h zero d below = h
-all_one P x h (suc k) d below = absurd (omega (arith, below))
+use Rattle.m51_cells.proofs.Small.{all_one}
 
 all_two : {X : Type 0} (P : X → Type 0) (x y : X) → P x → P y → All P (x ∷ y ∷ [])
 all_two P x y h k zero d below = h

@@ -1,18 +1,17 @@
 -- A module of one public is valid.
-use Rattle.std.proofs.Common.{◌≡◌, ◌≢◌, inl, ℕ, true, List, [], refl, arith, All, AllPairs}
+use Rattle.std.proofs.Common.{◌≡◌, ◌≢◌, inl, ℕ, true, List, [], refl, arith, All}
 use Rattle.m51_cells.specs.Name.{IsWritten}
 use Rattle.m51_module.specs.declared.segment.Segment.{Segment}
 use Rattle.m51_module.specs.declared.symbol.External.{External}
 use Rattle.m51_module.specs.declared.symbol.Public.{Public}
 use Rattle.m51_module.specs.Sample.{number_public, public_module}
 use Rattle.m51_module.specs.Validity.{IsValid, IsSegmentValid, IsPublicValid, IsPieceValid, IsFixupValid, FieldBefore, Differ, LiesBefore}
-use Rattle.m51_module.proofs.SampleModule.{all_one, pairs_one}
+use Rattle.m51_cells.proofs.Small.{all_one, pairs_none}
+use Rattle.m51_module.proofs.SampleModule.{pairs_one}
 
-all_none : {X : Type 0} (P : X → Type 0) → All P []
+-- what is asked of each item holds in the empty list
+pub all_none : {X : Type 0} (P : X → Type 0) → All P []
 all_none P k d below = absurd (omega (arith, below))
-
-pairs_none : {X : Type 0} (R : X → X → Type 0) → AllPairs R []
-pairs_none R i j d less below = absurd (omega (arith, below))
 
 -- a module without segments, whose one public is a number
 pub public_alone : (name public : List ℕ) → IsWritten name → IsWritten public → IsValid (public_module name public)

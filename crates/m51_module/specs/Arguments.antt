@@ -1,5 +1,5 @@
 -- Argument segments: their names, and the mark that says in version 2 that a segment is one.
-use Rattle.std.specs.Prelude.{nat_eq, ℕ, Bool, ◌&&◌, ◌||◌, List, [], ◌∷◌, map}
+use Rattle.std.specs.Prelude.{nat_eq, ℕ, Bool, ◌&&◌, ◌||◌, List, map, codes}
 use Rattle.std.specs.List.{starts_with}
 use Rattle.m51_cells.specs.declared.kind.Kind.TheVariants.{Direct}
 use Rattle.m51_cells.specs.Kinds.{same_kind}
@@ -8,7 +8,7 @@ use Rattle.m51_module.specs.declared.segment.Segment.{Segment}
 
 -- what the name of an argument segment begins with: ?AG?
 abbrev pub argument_front : List ℕ
-argument_front = 0x3F ∷ 0x41 ∷ 0x47 ∷ 0x3F ∷ []
+argument_front = codes "?AG?"
 
 -- the name begins with it
 abbrev pub is_argument_name : List ℕ → Bool

@@ -1,5 +1,6 @@
 -- The bytes of an image.
 use Rattle.std.specs.Prelude.{◌≡◌, ℕ, ◌<◌, List, length, slice_index}
+use Rattle.m51_module.specs.declared.image.TheConstants.{IMAGE_LEN}
 
 -- so many bytes, all of them FFH
 pub record IsErased (count : ℕ) (bytes : List ℕ) : Type 0 where
@@ -8,4 +9,4 @@ pub record IsErased (count : ℕ) (bytes : List ℕ) : Type 0 where
 
 -- a byte for each address of program memory, and all FFH
 abbrev pub IsBlank : List ℕ → Type 0
-IsBlank bytes = IsErased 65536 bytes
+IsBlank bytes = IsErased IMAGE_LEN bytes

@@ -2,6 +2,7 @@
 use Rattle.std.specs.Prelude.{◌≡◌, ◌≢◌, ℕ, ◌+◌, ◌<◌, ◌≤◌, Bool, true, false, List, [], ◌∷◌, ◌++◌, length}
 use Rattle.std.specs.Prelude.{slice_index_or, replicate, Option, Some, None, ◌↔◌}
 use Rattle.std.specs.List.{All, AllPairs, Contains}
+use Rattle.m51_module.specs.declared.image.TheConstants.{IMAGE_LEN}
 use Rattle.m51_module.specs.declared.parts.LayoutParts.{LayoutParts}
 use Rattle.m51_module.specs.Rising.{Rises}
 use Rattle.m51_module.specs.Plan.{owners_of, IsUnitAt}
@@ -78,10 +79,10 @@ pub record IsEntered (base size unit : ℕ) (old new : List (Option ℕ)) : Type
 
 -- for each address the unit that covers it, of those below the count
 pub record AreUnitsAt (l : LayoutParts) (count : ℕ) (units_at : List (Option ℕ)) : Type 0 where
-  pub len : length units_at ≡ 65536
-  pub some : (address unit : ℕ) → address < 65536 → slice_index_or units_at address None ≡ Some unit
+  pub len : length units_at ≡ IMAGE_LEN
+  pub some : (address unit : ℕ) → address < IMAGE_LEN → slice_index_or units_at address None ≡ Some unit
       → (unit < count) × IsUnitAt l address unit
-  pub only : (address unit : ℕ) → address < 65536 → unit < count → IsUnitAt l address unit
+  pub only : (address unit : ℕ) → address < IMAGE_LEN → unit < count → IsUnitAt l address unit
       → slice_index_or units_at address None ≡ Some unit
 
 -- a layout is sound, and its tables are those of its parts

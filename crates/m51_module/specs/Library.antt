@@ -3,6 +3,7 @@ use Rattle.std.specs.Prelude.{◌≢◌, ℕ, ◌≤◌, nat_le, Bool, not, if�
 use Rattle.std.specs.Prelude.{bytes_eq, Option, Some, None, option_map, Result, Ok, Err}
 use Rattle.std.specs.List.{AllPairs, Contains, find, list_any}
 use Rattle.std.specs.Option.{ok_or}
+use Rattle.m51_cells.specs.declared.limits.TheConstants.{MOST_MODULES}
 use Rattle.m51_cells.specs.Outcome.{and_then}
 use Rattle.m51_module.specs.Arguments.{raised}
 use Rattle.m51_module.specs.declared.library_error.LibError.{LibError}
@@ -16,7 +17,7 @@ ShareNoPublic m n = (p q : Public) → Contains m.publics p → Contains n.publi
 
 -- The modules of a library: at most 255, of different names, and no name is a public of two.
 pub record IsLibrary (modules : List ModuleParts) : Type 0 where
-  pub few : length modules ≤ 255
+  pub few : length modules ≤ MOST_MODULES
   pub names : AllPairs (λ m n. m.name ≢ n.name) modules
   pub publics : AllPairs ShareNoPublic modules
 
@@ -61,7 +62,7 @@ clash modules new = option_map (λ p. B3 p.name) (find (λ p. defines modules p.
 abbrev pub add_refusal : List ModuleParts → ModuleParts → Option LibError
 add_refusal modules new =
     if holds modules new.name then Some (B1 new.name)
-    else if nat_le 255 (length modules) then Some Full
+    else if nat_le MOST_MODULES (length modules) then Some Full
     else clash modules new
 
 -- add: the module at the end

@@ -1,5 +1,5 @@
 -- A sound layout and a valid module, which show that there are such.
-use Rattle.std.specs.Prelude.{ℕ, List, [], ◌∷◌, true, false}
+use Rattle.std.specs.Prelude.{ℕ, List, [], ◌∷◌, true, false, codes}
 use Rattle.m51_cells.specs.declared.kind.Base.{Base}
 use Rattle.m51_cells.specs.declared.kind.Base.TheVariants.{None as NoBase, Segment as InSegment, External as OfExternal}
 use Rattle.m51_cells.specs.declared.kind.Kind.TheVariants.{Code, Direct, Number}
@@ -41,18 +41,18 @@ sample_layout root = record {
   owners = (3, 1) ∷ (4, 2) ∷ (5, 1) ∷ (5, 0) ∷ [];
 }
 
--- the names of the module, of its public, of its segment of DATA and of its external: M, D, ?AG?F and X
+-- the names of the module, of its public, of its segment of DATA and of its external
 abbrev pub m : List ℕ
-m = 0x4D ∷ []
+m = codes "M"
 
 abbrev pub d : List ℕ
-d = 0x44 ∷ []
+d = codes "D"
 
 abbrev pub f : List ℕ
-f = 0x3F ∷ 0x41 ∷ 0x47 ∷ 0x3F ∷ 0x46 ∷ []
+f = codes "?AG?F"
 
 abbrev pub x : List ℕ
-x = 0x58 ∷ []
+x = codes "X"
 
 -- a field of one byte in the first segment
 abbrev pub field : ℕ → Base → Fixup

@@ -1,9 +1,10 @@
 -- Which layouts are sound.
-use Rattle.std.specs.Prelude.{◌≡◌, ◌≢◌, ℕ, ◌<◌, ◌≤◌, List, ◌∷◌, length, slice_get, Some}
+use Rattle.std.specs.Prelude.{◌≡◌, ◌≢◌, ℕ, ◌^◌, ◌<◌, ◌≤◌, List, ◌∷◌, length, slice_get, Some}
 use Rattle.std.specs.List.{Contains}
 use Rattle.m51_cells.specs.declared.cell.Cell.{Cell}
 use Rattle.m51_cells.specs.declared.extent.Extent.{Extent}
 use Rattle.m51_cells.specs.declared.kind.Kind.TheVariants.{Code, Number}
+use Rattle.m51_cells.specs.declared.limits.TheConstants.{MOST_UNITS}
 use Rattle.m51_cells.specs.Cells.{cells_in}
 use Rattle.m51_cells.specs.Extent.{Covers, Meet}
 use Rattle.m51_module.specs.declared.parts.LayoutParts.{LayoutParts}
@@ -41,8 +42,9 @@ pub record IsSound (l : LayoutParts) : Type 0 where
   pub is_code : (u s : ℕ) → slice_get l.units u ≡ Some s → (p : Placed) × IsPlaced l s p × IsCodeSegment p
   pub is_unit : (s : ℕ) (p : Placed) → IsPlaced l s p → IsCodeSegment p → Contains l.units s
   pub once : (u v s : ℕ) → slice_get l.units u ≡ Some s → slice_get l.units v ≡ Some s → u ≡ v
-  pub few_units : length l.units ≤ 1000
-  pub few_placed : length l.placed < 65536
+  pub few_units : length l.units ≤ MOST_UNITS
+  -- extents have numbers of two bytes
+  pub few_placed : length l.placed < 2 ^ 16
   -- edges lead from units to units, and no unit reaches itself
   pub edges : (u v : ℕ) → HasEdge l.edges u v → (u < length l.units) × (v < length l.units)
   pub no_cycle : (u : ℕ) → Reaches l.edges u u → ⊥

@@ -7,6 +7,8 @@ use Rattle.m51_cells.specs.declared.kind.Base.TheVariants.{None as NoBase, Segme
 use Rattle.m51_cells.specs.declared.kind.Kind.{Kind}
 use Rattle.m51_cells.specs.declared.kind.Kind.TheVariants.{Code, Direct, Number}
 use Rattle.m51_cells.specs.declared.kind.Reloc.TheVariants.{Abs}
+use Rattle.m51_cells.specs.declared.limits.TheConstants.{MOST_MODULE_SEGMENTS, MOST_EXTERNALS, MOST_FIXUPS}
+use Rattle.m51_cells.specs.declared.limits.TheConstants.{MOST_PIECE_BYTES}
 use Rattle.m51_cells.specs.Fits.{Fits}
 use Rattle.m51_cells.specs.Kinds.{allows, largest, may_overlay}
 use Rattle.m51_cells.specs.Name.{IsWritten}
@@ -75,7 +77,7 @@ pub record IsPublicValid (segments : List Segment) (p : Public) : Type 0 where
 -- A piece has 1 to 1,024 bytes, and lies in a segment of program memory, inside its size.
 pub record IsPieceValid (segments : List Segment) (p : Piece) : Type 0 where
   pub some : 0 < length p.bytes
-  pub most : length p.bytes ≤ 1024
+  pub most : length p.bytes ≤ MOST_PIECE_BYTES
   pub segment : Segment
   pub is : numbered segments p.segment ≡ Some segment
   pub code : segment.kind ≡ Code
@@ -86,7 +88,8 @@ pub record IsPieceValid (segments : List Segment) (p : Piece) : Type 0 where
 pub data LiesBefore (p q : Piece) : Type 0 where
   EarlierSegment : p.segment < q.segment → LiesBefore p q
   Apart : p.segment ≡ q.segment → p.offset + length p.bytes < q.offset → LiesBefore p q
-  Touching : p.segment ≡ q.segment → p.offset + length p.bytes ≡ q.offset → length p.bytes ≡ 1024 → LiesBefore p q
+  Touching : p.segment ≡ q.segment → p.offset + length p.bytes ≡ q.offset → length p.bytes ≡ MOST_PIECE_BYTES
+      → LiesBefore p q
 
 -- how many bytes a field of the form has
 abbrev pub field_len : Form → ℕ
@@ -129,9 +132,9 @@ pub data FieldBefore (f g : Fixup) : Type 0 where
 pub record IsValid (m : ModuleParts) : Type 0 where
   pub name : IsWritten m.name
   pub version : IsVersion m.version
-  pub few_segments : length m.segments ≤ 254
-  pub few_externals : length m.externals ≤ 255
-  pub few_fixups : length m.fixups ≤ 65535
+  pub few_segments : length m.segments ≤ MOST_MODULE_SEGMENTS
+  pub few_externals : length m.externals ≤ MOST_EXTERNALS
+  pub few_fixups : length m.fixups ≤ MOST_FIXUPS
   pub segments : All IsSegmentValid m.segments
   -- the argument mark stands in version 2 only
   pub marks : All (λ s. s.argument ≡ true → m.version ≡ 2) m.segments

@@ -1,6 +1,6 @@
 -- Edges between units, and walks along them.
-use Rattle.std.specs.Prelude.{◌≡◌, ℕ, List, [], ◌∷◌}
-use Rattle.std.specs.List.{Contains}
+use Rattle.std.specs.Prelude.{◌≡◌, ℕ, Bool, ◌==◌, ◌&&◌, List, [], ◌∷◌}
+use Rattle.std.specs.List.{Contains, list_any}
 
 -- each edge: the unit that it leaves and the unit that it leads to
 abbrev pub Edges : Type 0
@@ -9,6 +9,10 @@ Edges = List (ℕ × ℕ)
 -- an edge leads from the first unit to the second
 abbrev pub HasEdge : Edges → ℕ → ℕ → Type 0
 HasEdge edges from to = Contains edges (from, to)
+
+-- the same as a test
+abbrev pub has_edge : Edges → ℕ → ℕ → Bool
+has_edge edges from to = list_any (λ edge. (edge.0 == from) && (edge.1 == to)) edges
 
 -- from the unit an edge leads to the first of these, and from each of them one to the next
 abbrev pub IsWalk : Edges → ℕ → List ℕ → Type 0

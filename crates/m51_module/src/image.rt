@@ -21,12 +21,13 @@ pub struct Image {
 
 impl Model for Image {
     ghost use Rattle.std.specs.Prelude.{◌≡◌, ℕ, List, length};
+    ghost use Rattle.m51_module.specs.declared.image.TheConstants.{IMAGE_LEN};
 
     ghost Value = { List ℕ };
 
     ghost view = { λ i. i.bytes.items };
 
-    ghost invariant = { λ i. length i.bytes.items ≡ 65536 };
+    ghost invariant = { λ i. length i.bytes.items ≡ IMAGE_LEN };
 }
 
 // So many bytes, all FFH.
@@ -62,7 +63,7 @@ impl Image {
     /// Source: own choice ("Images").
     pub fn bytes(&self) -> &[u8]
         ensures list { result.now ≡ self.now }
-        ensures whole { length result.now ≡ 65536 }
+        ensures whole { length result.now ≡ IMAGE_LEN }
     {
         &self.bytes
     }

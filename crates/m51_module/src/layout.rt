@@ -2,7 +2,7 @@
 ghost use Rattle.std.specs.Prelude.{◌≡◌, ◌<◌, ◌≤◌, ◌↔◌, ℕ, IsTrue, IfOk, IfSome, Some, [], length};
 ghost use Rattle.std.specs.List.{Contains};
 ghost use Rattle.m51_module.specs.Roots.{vectors};
-ghost use Rattle.m51_module.specs.Walks.{HasEdge};
+ghost use Rattle.m51_module.specs.Walks.{HasEdge, has_edge};
 ghost use Rattle.m51_module.specs.Plan.{owners_of, AreLocals, IsOverlaid, IsRootAt, IsUnitAt};
 ghost use Rattle.m51_module.specs.Sound.{IsSound};
 
@@ -99,10 +99,21 @@ impl Layout {
         self.parts.edges.as_slice()
     }
 
-    /// Whether an edge leads from the first unit to the second.
+    /// Whether an edge leads from the first unit to the second. Units are counted from 0, and both must be below the
+    /// number of units.
     ///
     /// Source: own choice ("Edges").
     pub fn edge(&self, from: u16, to: u16) -> bool
+        requires from { from < length self.now.units }
+        requires to { to < length self.now.units }
+        ensures leads { IsTrue result ↔ HasEdge self.now.edges from to }
+        ensures test { result ≡ has_edge self.now.edges from to }
+    {
+        self.leads(from, to)
+    }
+
+    // Whether the row of the first unit has the bit of the second.
+    fn leads(&self, from: u16, to: u16) -> bool
         requires from { from < length self.now.units }
         requires to { to < length self.now.units }
         ensures { IsTrue result ↔ HasEdge self.now.edges from to }
@@ -148,6 +159,7 @@ impl Layout {
     }
 
     /// The units that own the extent: its own unit first, then the others, ascending; none unless it is overlaid.
+    /// Extents are counted from 0 in the order of placing, and this one must be below the number of placed extents.
     ///
     /// Source: own choice ("Owners").
     pub fn owners(&self, segment: u16) -> &[u16]
@@ -158,7 +170,8 @@ impl Layout {
         self.owner_rows[usize::from(segment)].as_slice()
     }
 
-    /// The overlaid segments that the unit owns, ascending.
+    /// The overlaid segments that the unit owns, ascending, each by its index among the placed extents. The unit must
+    /// be below the number of units.
     ///
     /// Source: own choice ("Owners").
     pub fn locals(&self, unit: u16) -> &[u16]

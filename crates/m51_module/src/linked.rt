@@ -36,12 +36,19 @@ pub struct Chain {
 /// Source: own choice ("Limits").
 #[derive(Clone, Copy, Debug, PartialEq, Eq)]
 pub enum Quantity {
+    /// The files of one run of the program: at most 64.
     Files,
+    /// The bytes of a file that is read: at most 1,048,576.
     Bytes,
+    /// The lines of a file of control lines: at most 1,000.
     ControlLines,
+    /// The lines of a script: at most 65,536.
     ScriptLines,
+    /// The modules of a link: at most 255.
     Modules,
+    /// The joined segments of a link: at most 2,000.
     Segments,
+    /// The units of a link: at most 1,000.
     Units,
 }
 

@@ -1,5 +1,6 @@
 //! Why bytes are refused as an object or a library.
 use m51_cells::NoMemory;
+use std::alloc::AllocFailed;
 use thiserror::Error;
 
 /// Why bytes are refused as an object or a library: the first failing test, record by record. Offsets are counted from
@@ -47,6 +48,17 @@ impl From<NoMemory> for ObjError {
     ghost from_gives = { λ _ error. error ≡ Memory };
 
     fn from(_error: NoMemory) -> ObjError {
+        ObjError::Memory
+    }
+}
+
+impl<T: Drop> From<AllocFailed<T>> for ObjError {
+    ghost use Rattle.std.specs.Prelude.{◌≡◌};
+    ghost use Rattle.m51_module.specs.declared.object_error.ObjError.TheVariants.{Memory};
+
+    ghost from_gives = { λ _ error. error ≡ Memory };
+
+    fn from(_error: AllocFailed<T>) -> ObjError {
         ObjError::Memory
     }
 }

@@ -13,7 +13,7 @@ pub struct Segment {
     pub name: Name,
     pub kind: Kind,
     pub reloc: Reloc,
-    /// OVERLAYABLE: the segment holds locals of a unit.
+    /// OVERLAYABLE: the segment holds locals or arguments of a unit.
     pub overlay: bool,
     /// ARGUMENT: the segment holds the arguments of a unit, which its callers fill. It is OVERLAYABLE DATA then, and
     /// its name begins with `?AG?`.

@@ -6,7 +6,7 @@ ghost use Rattle.m51_module.specs.Kept.{AreEdgeRows, AreUnitsAt, AreClear, Leads
 ghost use Rattle.m51_module.specs.Plan.{IsUnit};
 ghost use Rattle.m51_module.specs.Sound.{IsSound};
 
-use crate::{LayoutParts, Placed};
+use crate::{IMAGE_LEN, LayoutParts, Placed};
 use m51_cells::NoMemory;
 use std::alloc::{AllocError, Global};
 use std::marker::Model;
@@ -123,7 +123,7 @@ pub(crate) fn units_at(alloc: Global, parts: &LayoutParts) -> Result<Vec<Option<
     requires { IsSound parts.now }
     ensures { IfOk result (λ units. AreUnitsAt parts.now (length parts.now.units) units.items) }
 {
-    let mut units_at = no_units(alloc, 65536)?;
+    let mut units_at = no_units(alloc, IMAGE_LEN)?;
     for unit in 0..parts.units.len() {
         let placed = unit_of(parts, unit);
         enter(

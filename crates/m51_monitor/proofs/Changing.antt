@@ -25,6 +25,7 @@ use Rattle.m51_monitor.proofs.Putting.{Tells, Inside, put_tells, put_lives}
 use Rattle.m51_monitor.proofs.Putting as putting
 use Rattle.m51_monitor.proofs.Reading.{flat_holds, flat_xholds}
 use Rattle.m51_monitor.proofs.Resolving.{MayPut, put_resolves}
+use Rattle.m51_monitor.proofs.Truths.{and_false}
 
 -- one cell after a put
 pub cell_after : (put : Put) (s : Space) (n : ℕ) (old new : States) → new ≡ states_after put old → IsCellAt s n → state_at new s n ≡ state_over (written_in put s n) (state_at old s n)
@@ -62,10 +63,6 @@ over_set (Some v) old h = tt
 if_over : (b : Bool) (w old : Option ℕ) → IsSet old → IsSet (if b then over w old else old)
 if_over true w old h = over_set w old h
 if_over false w old h = h
-
-and_false : (a b : Bool) → b ≡ false → (a && b) ≡ false
-and_false true b e = e
-and_false false b e = refl
 
 pub put_stores : (l : LayoutParts) (live : Live) (put : Put) (s : Stores) → AreStores l live s → AreStores l live (put_into l live put s)
 put_stores l live put s h = record {

@@ -4,6 +4,7 @@ use Rattle.std.specs.List.{Contains, list_any, IsDistinct, AllByRecursion}
 use Rattle.std.proofs.lemmas.Bool.Decides.{eqb_tells}
 use Rattle.std.proofs.lemmas.List.Elements.{Contains-append_cases}
 use Rattle.std.proofs.lemmas.Map.Steps.{length-le_from_distinct_below}
+use Rattle.m51_cells.proofs.Small.{contains_first}
 use Rattle.m51_module.specs.declared.parts.LayoutParts.{LayoutParts}
 use Rattle.m51_module.specs.Plan.{IsRootAt}
 use Rattle.m51_module.specs.Sound.{IsSound}
@@ -14,13 +15,13 @@ use Rattle.m51_module.proofs.Units.{root_below}
 use Rattle.m51_monitor.specs.declared.cause.Cause.{Cause}
 use Rattle.m51_monitor.specs.declared.cause.Cause.TheVariants.{Call, Interrupt}
 use Rattle.m51_monitor.specs.Activity.{times, MayEnter}
-use Rattle.m51_monitor.specs.Monitored.{MayBe}
-use Rattle.m51_monitor.specs.Records.{ReturnRecord, Records, one_more_where, is_among, naming, naming_over, units_named, named_over, first_or, running, BeginsAt, WalksOn, StandsAbove, StandsOver, Stand}
+use Rattle.m51_monitor.specs.Monitored.{AreActivations}
+use Rattle.m51_monitor.specs.Records.{ReturnRecord, Records, one_more_where, is_among, naming, naming_over, units_named, named_over, first_or, running, BeginsAt, WalksOn, IsWalkAbove, AreWalksOver, AreWalks}
 use Rattle.m51_monitor.specs.Related.{AreRelatedAll}
 use Rattle.m51_monitor.specs.Rising.{one_more, interrupts}
 use Rattle.m51_flat.specs.Vectors.{vector_of}
 use Rattle.m51_monitor.proofs.Entering.{times_same}
-use Rattle.m51_monitor.proofs.Lists.{contains_head, contains_tail, contains_cases, first_append, among_tells}
+use Rattle.m51_monitor.proofs.Lists.{contains_tail, contains_cases, first_append, among_tells, times_none}
 use Rattle.m51_monitor.proofs.Standing.{all_related}
 
 -- no number twice
@@ -39,13 +40,6 @@ no_plus false n = omega arith
 times_append : (us vs : List ℕ) (u : ℕ) → times (us ++ vs) u ≡ times us u + times vs u
 times_append [] vs u = omega arith
 times_append (x ∷ us) vs u = ap (one_more_where (nat_eq x u)) (times_append us vs u) ∙ sym (where_plus (nat_eq x u) (times us u) (times vs u))
-
-times_none : (us : List ℕ) (u : ℕ) → (Contains us u → ⊥) → times us u ≡ 0
-times_none [] u h = refl
-times_none (v ∷ us) u h = ⊎_elim
-    (λ (t : (nat_eq v u ≡ true) × (v ≡ u)). absurd (h (subst (Contains (v ∷ us)) t.1 (contains_head v us))))
-    (λ (t : (nat_eq v u ≡ false) × (v ≢ u)). rw t.0 (times_none us u (λ k. h (contains_tail u v us k))))
-    (eqb_tells v u)
 
 -- of different numbers each stands there once
 once : (us : List ℕ) (u : ℕ) → Differ us → Contains us u → times us u ≡ 1
@@ -108,7 +102,7 @@ module _ (l : LayoutParts) (sound : IsSound l) where
   none_equal u [] h = tt
   none_equal u (y ∷ ys) h = (
     ⊎_elim
-        (λ (t : (eqb u y ≡ true) × (u ≡ y)). absurd (h (subst (λ x. Contains (y ∷ ys) x) (sym t.1) (contains_head y ys))))
+        (λ (t : (eqb u y ≡ true) × (u ≡ y)). absurd (h (subst (λ x. Contains (y ∷ ys) x) (sym t.1) (contains_first y ys))))
         (λ (t : (eqb u y ≡ false) × (u ≢ y)). t.0)
         (eqb_tells u y),
     none_equal u ys (λ k. h (contains_tail u y ys k)),
@@ -150,11 +144,11 @@ module _ (l : LayoutParts) (sound : IsSound l) where
   begin_first_few (u ∷ []) h = walked_root 0 u 0 [] h (omega arith) (λ u. omega arith)
   begin_first_few (t ∷ u ∷ us) h = walked_on u t 0 (u ∷ us) (begin_first_few (u ∷ us) h.1) h.0
 
-  above_few : (busy below : List ℕ) (others : ℕ) (cause : Cause) (us : List ℕ) → StandsAbove l below busy cause us → Walked l (first_or below 0) others below → Walked l (first_or (us ++ below) 0) (one_more cause others) (us ++ below)
+  above_few : (busy below : List ℕ) (others : ℕ) (cause : Cause) (us : List ℕ) → IsWalkAbove l below busy cause us → Walked l (first_or below 0) others below → Walked l (first_or (us ++ below) 0) (one_more cause others) (us ++ below)
   above_few busy below others Call us h w = go_few others below us w h
   above_few busy below others (Interrupt source) us h w = begin_few (vector_of source) (others + 1) below us (walked_few (first_or below 0) others below w) (walked_rare (first_or below 0) others below w) h.0
 
-  over_few : (reset : List ℕ) (rs : List ReturnRecord) → StandsOver l reset rs → Walked l (first_or (named_over reset rs) 0) (interrupts rs) (named_over reset rs)
+  over_few : (reset : List ℕ) (rs : List ReturnRecord) → AreWalksOver l reset rs → Walked l (first_or (named_over reset rs) 0) (interrupts rs) (named_over reset rs)
   over_few reset [] h = begin_first_few reset h
   over_few reset (r ∷ rs) h = above_few (running rs) (named_over reset rs) (interrupts rs) r.cause r.units h.0 (over_few reset rs h.1)
 
@@ -176,11 +170,11 @@ module _ (l : LayoutParts) (sound : IsSound l) where
         λ a k. ⊎_elim (λ (e : a ≡ t). inl e) (λ (q : Contains (u ∷ us) a). inr (lead_on l.edges a u t (w.1 a q) h.0)) (contains_cases a t (u ∷ us) k),
       )
 
-  record_differs : (below busy : List ℕ) (cause : Cause) (us : List ℕ) → StandsAbove l below busy cause us → Differ us
+  record_differs : (below busy : List ℕ) (cause : Cause) (us : List ℕ) → IsWalkAbove l below busy cause us → Differ us
   record_differs below busy Call us h = (walk_differs (first_or below 0) us h).0
   record_differs below busy (Interrupt source) us h = (root_differs (vector_of source) us h.0).0
 
-  naming_is : (reset : List ℕ) (rs : List ReturnRecord) (u : ℕ) → StandsOver l reset rs → naming_over reset rs u ≡ times (named_over reset rs) u
+  naming_is : (reset : List ℕ) (rs : List ReturnRecord) (u : ℕ) → AreWalksOver l reset rs → naming_over reset rs u ≡ times (named_over reset rs) u
   naming_is reset [] u h = sym (differ_times reset u (root_differs 0 reset h).0)
   naming_is reset (r ∷ rs) u h =
       ap (one_more_where (is_among r.units u)) (naming_is reset rs u h.1)
@@ -189,15 +183,15 @@ module _ (l : LayoutParts) (sound : IsSound l) where
       ∙ sym (times_append r.units (named_over reset rs) u)
 
   -- the number of records that name a unit is how often it is named
-  pub naming_times : (a : Records) (u : ℕ) → Stand l a → naming a u ≡ times (units_named a) u
+  pub naming_times : (a : Records) (u : ℕ) → AreWalks l a → naming a u ≡ times (units_named a) u
   naming_times a u h = naming_is a.reset a.returns u h.over
 
-  pub named_few : (a : Records) → MayBe l a → length (units_named a) ≤ 3000
+  pub named_few : (a : Records) → AreActivations l a → length (units_named a) ≤ 3000
   named_few a h =
       let few = walked_few (first_or (units_named a) 0) (interrupts a.returns) (units_named a) (over_few a.reset a.returns h.stand.over) in
       omega (arith, few, h.levels)
 
-  pub named_rare : (a : Records) (u : ℕ) → MayBe l a → times (units_named a) u ≤ 3
+  pub named_rare : (a : Records) (u : ℕ) → AreActivations l a → times (units_named a) u ≤ 3
   named_rare a u h =
       let rare = walked_rare (first_or (units_named a) 0) (interrupts a.returns) (units_named a) (over_few a.reset a.returns h.stand.over) u in
       omega (arith, rare, h.levels)
@@ -221,11 +215,11 @@ module _ (l : LayoutParts) (sound : IsSound l) where
       (λ (q : Contains (u ∷ us) a). root_units v (u ∷ us) h.1 a q)
       (contains_cases a t (u ∷ us) k)
 
-  record_below : (below busy : List ℕ) (cause : Cause) (us : List ℕ) → StandsAbove l below busy cause us → (a : ℕ) → Contains us a → a < length l.units
+  record_below : (below busy : List ℕ) (cause : Cause) (us : List ℕ) → IsWalkAbove l below busy cause us → (a : ℕ) → Contains us a → a < length l.units
   record_below below busy Call us h = walk_below (first_or below 0) us h
   record_below below busy (Interrupt source) us h = root_units (vector_of source) us h.0
 
-  over_below : (reset : List ℕ) (rs : List ReturnRecord) → StandsOver l reset rs → (a : ℕ) → Contains (named_over reset rs) a → a < length l.units
+  over_below : (reset : List ℕ) (rs : List ReturnRecord) → AreWalksOver l reset rs → (a : ℕ) → Contains (named_over reset rs) a → a < length l.units
   over_below reset [] h a k = root_units 0 reset h a k
   over_below reset (r ∷ rs) h a k = ⊎_elim
       (λ (q : Contains r.units a). record_below (named_over reset rs) (running rs) r.cause r.units h.0 a q)
@@ -233,9 +227,9 @@ module _ (l : LayoutParts) (sound : IsSound l) where
       (Contains-append_cases r.units (named_over reset rs) a k)
 
   -- a unit that is named on top of others may be entered
-  pub may_enter : (b : Records) (u : ℕ) (us : List ℕ) → units_named b ≡ u ∷ us → MayBe l b → MayEnter l us u
+  pub may_enter : (b : Records) (u : ℕ) (us : List ℕ) → units_named b ≡ u ∷ us → AreActivations l b → MayEnter l us u
   may_enter b u us e h = record {
-    unit_is = over_below b.reset b.returns h.stand.over u (subst (λ xs. Contains xs u) (sym e) (contains_head u us));
+    unit_is = over_below b.reset b.returns h.stand.over u (subst (λ xs. Contains xs u) (sym e) (contains_first u us));
     room = let few : length (u ∷ us) ≤ 3000 = subst (λ xs. length xs ≤ 3000) e (named_few b h) in omega (arith, few);
     few =
         let rare : times (u ∷ us) u ≤ 3 = subst (λ xs. times xs u ≤ 3) e (named_rare b u h) in
@@ -244,9 +238,9 @@ module _ (l : LayoutParts) (sound : IsSound l) where
     related = subst (AreRelatedAll l) e (all_related l b h.stand);
   }
 
-  pub first_below : (b : Records) → MayBe l b → 0 < length (units_named b) → first_or (units_named b) 0 < length l.units
+  pub first_below : (b : Records) → AreActivations l b → 0 < length (units_named b) → first_or (units_named b) 0 < length l.units
   first_below b h some = first (units_named b) some (over_below b.reset b.returns h.stand.over)
     where
       first : (us : List ℕ) → 0 < length us → ((a : ℕ) → Contains us a → a < length l.units) → first_or us 0 < length l.units
       first [] some all = absurd (omega (arith, some))
-      first (u ∷ us) some all = all u (contains_head u us)
+      first (u ∷ us) some all = all u (contains_first u us)

@@ -17,12 +17,11 @@ use Rattle.m51_monitor.specs.declared.step.Move.{Move}
 use Rattle.m51_monitor.specs.declared.step.Move.TheVariants.{Stay, Return, Interrupt as InterruptTo}
 use Rattle.m51_monitor.specs.Laws.{CoversIsKept, GoesToVector}
 use Rattle.m51_monitor.specs.Records.{ReturnRecord, Records, current, first_or, named_over}
-use Rattle.m51_monitor.specs.Transfers.{IsFoundAt, IsRootFound, IsRootWanted, ends, goes, interrupts_to, is_at, is_busy, is_by, is_low, judged_as, jumped, leads, move_to, moved, returns_to, unless, within, without_top}
+use Rattle.m51_module.specs.Walks.{has_edge}
+use Rattle.m51_monitor.specs.Transfers.{IsFoundAt, IsRootFound, IsRootWanted, return_move, jump_or_call, interrupts_to, is_at, is_busy, is_by, is_sp_below, judged_as, jumped, move_to, moved, returns_to, unless, within, without_top}
 use Rattle.m51_flat.specs.Vectors.{vector_of}
-use Rattle.m51_monitor.proofs.Moving.{not_false, ok_is, unless_ok}
-
-number_is : (a b : ℕ) → nat_eq a b ≡ true → a ≡ b
-number_is a b e = ⊎_elim (λ (t : (nat_eq a b ≡ true) × (a ≡ b)). t.1) (λ (t : (nat_eq a b ≡ false) × (a ≢ b)). cc (e, t.0)) (eqb_tells a b)
+use Rattle.m51_monitor.proofs.Moving.{ok_is, unless_ok}
+use Rattle.m51_monitor.proofs.Truths.{not_false, number_is}
 
 found_here : (l : LayoutParts) (pc : ℕ) (o : Option ℕ) (u : ℕ) → IsFoundAt l pc o → is_at o u ≡ true → IsUnitAt l pc u
 found_here l pc None u h e = cc e
@@ -45,23 +44,23 @@ moved_within l a e true h = h
 moved_within l a e false h = h
 
 by_same : (l : LayoutParts) (a : Records) (e : Effect) (u : ℕ) (low call same : Bool) (m : Move) → IsUnitAt l e.cpu.pc u → (same ≡ true → u ≡ current a) →
-    Ok m ≡ (if same then unless low SpBelow (Ok (within call)) else unless (not (leads l.edges (current a) u)) NoEdge (unless low SpBelow (Ok (move_to call u)))) → Is l a e m
+    Ok m ≡ (if same then unless low SpBelow (Ok (within call)) else unless (not (has_edge l.edges (current a) u)) NoEdge (unless low SpBelow (Ok (move_to call u)))) → Is l a e m
 by_same l a e u low call true m h is k = subst (Is l a e) (sym (ok_is m (within call) (unless_ok low SpBelow (Ok (within call)) m k).1)) (moved_within l a e call (subst (IsUnitAt l e.cpu.pc) (is refl) h))
 by_same l a e u low call false m h is k =
-    let p = unless_ok (not (leads l.edges (current a) u)) NoEdge (unless low SpBelow (Ok (move_to call u))) m k in
+    let p = unless_ok (not (has_edge l.edges (current a) u)) NoEdge (unless low SpBelow (Ok (move_to call u))) m k in
     subst (Is l a e) (sym (ok_is m (move_to call u) (unless_ok low SpBelow (Ok (move_to call u)) m p.1).1)) (moved_to l a e u call h)
 
-goes_covers : (l : LayoutParts) (a : Records) (e : Effect) (low call : Bool) (o : Option ℕ) (m : Move) → IsFoundAt l e.cpu.pc o → Ok m ≡ goes l (current a) low call o → Is l a e m
+goes_covers : (l : LayoutParts) (a : Records) (e : Effect) (low call : Bool) (o : Option ℕ) (m : Move) → IsFoundAt l e.cpu.pc o → Ok m ≡ jump_or_call l (current a) low call o → Is l a e m
 goes_covers l a e low call None m h k = cc k
 goes_covers l a e low call (Some u) m h k = by_same l a e u low call (nat_eq u (current a)) m h (number_is u (current a)) k
 
-ends_covers : (l : LayoutParts) (a : Records) (e : Effect) (call : Bool) (top to : ℕ) (o : Option ℕ) (rs : List ReturnRecord) (m : Move) → a.returns ≡ rs → IsFoundAt l e.cpu.pc o → Ok m ≡ ends a.reset rs call top to o → Is l a e m
+ends_covers : (l : LayoutParts) (a : Records) (e : Effect) (call : Bool) (top to : ℕ) (o : Option ℕ) (rs : List ReturnRecord) (m : Move) → a.returns ≡ rs → IsFoundAt l e.cpu.pc o → Ok m ≡ return_move a.reset rs call top to o → Is l a e m
 ends_covers l a e call top to o [] m are h k = cc k
 ends_covers l a e call top to o (r ∷ rs) m are h k =
     let inside = is_at o (first_or (named_over a.reset rs) 0) in
-    let p0 = unless_ok (not (is_by call r.cause)) NotCalled (returns_to r.sp r.back top to inside) m k in
-    let p = unless_ok (not (nat_eq top r.sp)) SpMoved (unless (not (nat_eq to r.back)) WrongAddress (unless (not inside) PastEnd (Ok Return))) m p0.1 in
-    let q = unless_ok (not (nat_eq to r.back)) WrongAddress (unless (not inside) PastEnd (Ok Return)) m p.1 in
+    let p0 = unless_ok (not (is_by call r.cause)) NotCalled (returns_to r.sp r.return_address top to inside) m k in
+    let p = unless_ok (not (nat_eq top r.sp)) SpMoved (unless (not (nat_eq to r.return_address)) WrongAddress (unless (not inside) PastEnd (Ok Return))) m p0.1 in
+    let q = unless_ok (not (nat_eq to r.return_address)) WrongAddress (unless (not inside) PastEnd (Ok Return)) m p.1 in
     let s = unless_ok (not inside) PastEnd (Ok Return) m q.1 in
     let here = found_here l e.cpu.pc o (first_or (named_over a.reset rs) 0) h (not_false inside s.0) in
     subst (Is l a e) (sym (ok_is m Return s.1)) (subst (λ rs. IsUnitAt l e.cpu.pc (first_or (named_over a.reset (without_top rs)) 0)) (sym are) here)
@@ -81,14 +80,14 @@ vector_covers l a e source low (Some u) m sound at h k =
 
 covers : (l : LayoutParts) (a : Records) (e : Effect) (top new to : ℕ) (t : Transfer) (o root : Option ℕ) (m : Move) → IsSound l → GoesToVector t e.cpu.pc → IsFoundAt l e.cpu.pc o → IsRootWanted l t root → Ok m ≡ judged_as l a top new to t o root → Is l a e m
 covers l a e top new to Next o root m sound at h w k =
-    let low = is_low a.returns 0 new in
+    let low = is_sp_below a.returns 0 new in
     let p = unless_ok (not (is_at o (current a))) PastEnd (unless low SpBelow (Ok Stay)) m k in
     subst (Is l a e) (sym (ok_is m Stay (unless_ok low SpBelow (Ok Stay) m p.1).1)) (found_here l e.cpu.pc o (current a) h (not_false (is_at o (current a)) p.0))
-covers l a e top new to Jump o root m sound at h w k = goes_covers l a e (is_low a.returns 0 new) false o m h k
-covers l a e top new to Call o root m sound at h w k = goes_covers l a e (is_low a.returns 2 new) true o m h k
+covers l a e top new to Jump o root m sound at h w k = goes_covers l a e (is_sp_below a.returns 0 new) false o m h k
+covers l a e top new to Call o root m sound at h w k = goes_covers l a e (is_sp_below a.returns 2 new) true o m h k
 covers l a e top new to Ret o root m sound at h w k = ends_covers l a e true top to o a.returns m refl h k
 covers l a e top new to Reti o root m sound at h w k = ends_covers l a e false top to o a.returns m refl h k
-covers l a e top new to (Vector source) o root m sound at h w k = vector_covers l a e source (is_low a.returns 2 new) root m sound at w k
+covers l a e top new to (Vector source) o root m sound at h w k = vector_covers l a e source (is_sp_below a.returns 2 new) root m sound at w k
 
 pub covers_is_kept : CoversIsKept
 covers_is_kept m cpu e step sound at j = covers m.layout m.records e (latch cpu sp) (latch e.cpu sp) e.cpu.pc e.transfer j.at j.root step sound at j.at_is j.root_is j.is

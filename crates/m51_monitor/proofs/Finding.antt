@@ -3,6 +3,7 @@ use Rattle.std.proofs.Common.{◌≡◌, ◌≢◌, ℕ, zero, suc, ◌+◌, Boo
 use Rattle.std.specs.Prelude.{slice_get, if◌then◌else◌}
 use Rattle.std.specs.List.{Contains}
 use Rattle.std.proofs.lemmas.Bool.Decides.{eqb_tells}
+use Rattle.std.proofs.lemmas.Bool.{and_parts}
 use Rattle.m51_cells.specs.declared.kind.Kind.{Kind}
 use Rattle.m51_cells.specs.declared.kind.Kind.TheVariants.{Code, Xdata, Direct, Idata, Bits, Number}
 use Rattle.m51_flat.specs.declared.state.Source.{Source}
@@ -20,7 +21,8 @@ use Rattle.m51_cells.specs.Kinds.{is_code}
 use Rattle.m51_monitor.specs.Found.{begins_at, covers_address, extent_passes, first_unit, is_absolute, passes, root_found, unit_found}
 use Rattle.m51_monitor.specs.Transfers.{IsFoundAt, IsRootFound}
 use Rattle.m51_flat.specs.Vectors.{vector_of}
-use Rattle.m51_monitor.proofs.Resolving.{covers_is, is_covered, parts}
+use Rattle.m51_monitor.proofs.Resolving.{covers_is, is_covered}
+use Rattle.m51_monitor.proofs.Truths.{number_is}
 
 -- a unit whose extent passes the test
 record Passing (placed : List Placed) (test : Placed → Bool) (units : List ℕ) (k : ℕ) : Type 0 where
@@ -83,10 +85,7 @@ absolute_is Absolute e = refl
 absolute_is Plain e = cc e
 absolute_is Overlaid e = cc e
 
-number_is : (a b : ℕ) → nat_eq a b ≡ true → a ≡ b
-number_is a b e = ⊎_elim (λ (t : (nat_eq a b ≡ true) × (a ≡ b)). t.1) (λ (t : (nat_eq a b ≡ false) × (a ≢ b)). cc (e, t.0)) (eqb_tells a b)
-
-is_number : (a b : ℕ) → a ≡ b → nat_eq a b ≡ true
+pub is_number : (a b : ℕ) → a ≡ b → nat_eq a b ≡ true
 is_number a b e = ⊎_elim (λ (t : (nat_eq a b ≡ true) × (a ≡ b)). t.0) (λ (t : (nat_eq a b ≡ false) × (a ≢ b)). absurd (t.1 e)) (eqb_tells a b)
 
 all_three : (a b c : Bool) → a ≡ true → b ≡ true → c ≡ true → (a && (b && c)) ≡ true
@@ -107,8 +106,8 @@ root_at_is l vector is = by_found (first_unit l.placed (begins_at vector) l.unit
     by_found : (o : Option ℕ) → IsFirst l.placed (begins_at vector) l.units 0 o → IsRootFound l vector o
     by_found (Some u) h =
         let p = from_zero l.placed (begins_at vector) l.units u h in
-        let a = parts (is_code p.is.kind) (is_absolute p.is.mark && nat_eq p.is.base vector) p.passes_it in
-        let b = parts (is_absolute p.is.mark) (nat_eq p.is.base vector) a.1 in
+        let a = and_parts (is_code p.is.kind) (is_absolute p.is.mark && nat_eq p.is.base vector) p.passes_it in
+        let b = and_parts (is_absolute p.is.mark) (nat_eq p.is.base vector) a.1 in
         record { vector_is = is; is = p.is; unit_is = record { segment = p.segment; unit_is = p.unit_is; placed = p.placed_is }; code = code_is p.is.kind a.0; absolute = absolute_is p.is.mark b.0; base = number_is p.is.base vector b.1 }
     by_found None h = λ u at. h u (record {
       segment = at.unit_is.segment;

@@ -1,8 +1,10 @@
 -- Levels in progress and SP after a move.
 use Rattle.std.proofs.Common.{nat_eq, ◌≡◌, ◌⊎◌, inl, inr, ℕ, ◌+◌, ◌-◌, ◌%◌, ◌<◌, Bool, true, false, not, Option, Some, None, Ok, List, [], ◌∷◌, ◌++◌, length, take, drop, refl, sym, ap, subst, ◌∙◌, ⊎_elim, arith}
 use Rattle.std.specs.Prelude.{if◌then◌else◌}
+use Rattle.std.proofs.lemmas.Bool.{not-true}
 use Rattle.m51_cells.specs.declared.event.Why.TheVariants.{NoEdge, NotCalled, WrongAddress, SpMoved, SpBelow, RootBusy, PastEnd}
 use Rattle.m51_flat.specs.declared.state.Effect.{Effect}
+use Rattle.m51_flat.specs.declared.state.Level.{Level}
 use Rattle.m51_flat.specs.declared.state.Source.{Source}
 use Rattle.m51_flat.specs.declared.state.Transfer.{Transfer}
 use Rattle.m51_flat.specs.declared.state.Transfer.TheVariants.{Next, Jump, Call, Ret, Reti, Vector}
@@ -12,12 +14,14 @@ use Rattle.m51_monitor.specs.declared.cause.Cause.{Cause}
 use Rattle.m51_monitor.specs.declared.cause.Cause.TheVariants.{Call as ByCall, Interrupt as ByInterrupt}
 use Rattle.m51_monitor.specs.declared.step.Move.{Move}
 use Rattle.m51_monitor.specs.declared.step.Move.TheVariants.{Stay, Local, Return, Jump as JumpTo, Call as CallTo, Interrupt as InterruptTo}
-use Rattle.m51_monitor.specs.Laws.{FollowsLevels, LevelsAreKept, Pops, StackIsKept}
+use Rattle.m51_monitor.specs.Laws.{CountsInterrupts, FollowsLevels, InterruptsAreCounted, LevelsAreKept, Pops, StackIsKept}
 use Rattle.m51_monitor.specs.Records.{ReturnRecord, Records, current, first_or, named_over}
-use Rattle.m51_monitor.specs.Rising.{HaveLevels, IsAbove, HeightsRise, Level, ended, ended_by, interrupts, levels, one_more, taken_after}
-use Rattle.m51_monitor.specs.Transfers.{ends, goes, interrupts_to, is_at, is_busy, is_by, is_call, is_low, judged_as, jumped, leads, move_to, moved, returns_to, unless, within, without_top}
+use Rattle.m51_monitor.specs.Rising.{HaveLevels, IsAbove, HeightsRise, ended, ended_by, interrupts, levels, one_more, taken_after}
+use Rattle.m51_module.specs.Walks.{has_edge}
+use Rattle.m51_monitor.specs.Transfers.{return_move, jump_or_call, interrupts_to, is_at, is_busy, is_by, is_call, is_sp_below, judged_as, jumped, move_to, moved, returns_to, unless, within, without_top}
 use Rattle.m51_flat.specs.Vectors.{vector_of}
-use Rattle.m51_monitor.proofs.Moving.{Allowed, IsStay, IsJump, IsLocal, IsCall, IsInterrupt, IsReturn, allowed, ok_is, unless_ok, not_false}
+use Rattle.m51_monitor.proofs.Moving.{Allowed, IsStay, IsJump, IsLocal, IsCall, IsInterrupt, IsReturn, allowed, ok_is, unless_ok}
+use Rattle.m51_monitor.proofs.Truths.{not_false}
 
 -- which moves a transfer is answered by
 data TransferOf (a : Records) : Transfer → Move → Type 0 where
@@ -31,40 +35,36 @@ data TransferOf (a : Records) : Transfer → Move → Type 0 where
   Vectors : (source : Source) (u : ℕ) → TransferOf a (Vector source) (InterruptTo source u)
 
 goes_to : (l : LayoutParts) (from u : ℕ) (low call same : Bool) (m : Move) →
-    Ok m ≡ (if same then unless low SpBelow (Ok (within call)) else unless (not (leads l.edges from u)) NoEdge (unless low SpBelow (Ok (move_to call u)))) → (m ≡ within call) ⊎ (m ≡ move_to call u)
+    Ok m ≡ (if same then unless low SpBelow (Ok (within call)) else unless (not (has_edge l.edges from u)) NoEdge (unless low SpBelow (Ok (move_to call u)))) → (m ≡ within call) ⊎ (m ≡ move_to call u)
 goes_to l from u low call true m e = inl (ok_is m (within call) (unless_ok low SpBelow (Ok (within call)) m e).1)
 goes_to l from u low call false m e =
-    let p = unless_ok (not (leads l.edges from u)) NoEdge (unless low SpBelow (Ok (move_to call u))) m e in
+    let p = unless_ok (not (has_edge l.edges from u)) NoEdge (unless low SpBelow (Ok (move_to call u))) m e in
     inr (ok_is m (move_to call u) (unless_ok low SpBelow (Ok (move_to call u)) m p.1).1)
 
-jump_transfer : (l : LayoutParts) (a : Records) (low : Bool) (o : Option ℕ) (m : Move) → Ok m ≡ goes l (current a) low false o → TransferOf a Jump m
+jump_transfer : (l : LayoutParts) (a : Records) (low : Bool) (o : Option ℕ) (m : Move) → Ok m ≡ jump_or_call l (current a) low false o → TransferOf a Jump m
 jump_transfer l a low None m e = cc e
 jump_transfer l a low (Some u) m e = ⊎_elim
     (λ (k : m ≡ Stay). subst (TransferOf a Jump) (sym k) StayJump)
     (λ (k : m ≡ JumpTo u). subst (TransferOf a Jump) (sym k) (GoJump u))
     (goes_to l (current a) u low false (nat_eq u (current a)) m e)
 
-call_transfer : (l : LayoutParts) (a : Records) (low : Bool) (o : Option ℕ) (m : Move) → Ok m ≡ goes l (current a) low true o → TransferOf a Call m
+call_transfer : (l : LayoutParts) (a : Records) (low : Bool) (o : Option ℕ) (m : Move) → Ok m ≡ jump_or_call l (current a) low true o → TransferOf a Call m
 call_transfer l a low None m e = cc e
 call_transfer l a low (Some u) m e = ⊎_elim
     (λ (k : m ≡ Local). subst (TransferOf a Call) (sym k) LocalCall)
     (λ (k : m ≡ CallTo u). subst (TransferOf a Call) (sym k) (GoCall u))
     (goes_to l (current a) u low true (nat_eq u (current a)) m e)
 
-end_is : (reset : List ℕ) (rs : List ReturnRecord) (call : Bool) (top to : ℕ) (at : Option ℕ) (m : Move) → Ok m ≡ ends reset rs call top to at
+end_is : (reset : List ℕ) (rs : List ReturnRecord) (call : Bool) (top to : ℕ) (at : Option ℕ) (m : Move) → Ok m ≡ return_move reset rs call top to at
     → (m ≡ Return) × ((r : ReturnRecord) × (more : List ReturnRecord) × (rs ≡ r ∷ more) × (is_by call r.cause ≡ true))
 end_is reset [] call top to at m e = cc e
 end_is reset (r ∷ rs) call top to at m e =
     let inside = is_at at (first_or (named_over reset rs) 0) in
-    let o = unless_ok (not (is_by call r.cause)) NotCalled (returns_to r.sp r.back top to inside) m e in
-    let p = unless_ok (not (nat_eq top r.sp)) SpMoved (unless (not (nat_eq to r.back)) WrongAddress (unless (not inside) PastEnd (Ok Return))) m o.1 in
-    let q = unless_ok (not (nat_eq to r.back)) WrongAddress (unless (not inside) PastEnd (Ok Return)) m p.1 in
+    let o = unless_ok (not (is_by call r.cause)) NotCalled (returns_to r.sp r.return_address top to inside) m e in
+    let p = unless_ok (not (nat_eq top r.sp)) SpMoved (unless (not (nat_eq to r.return_address)) WrongAddress (unless (not inside) PastEnd (Ok Return))) m o.1 in
+    let q = unless_ok (not (nat_eq to r.return_address)) WrongAddress (unless (not inside) PastEnd (Ok Return)) m p.1 in
     let s = unless_ok (not inside) PastEnd (Ok Return) m q.1 in
     (ok_is m Return s.1, (r, rs, refl, not_false (is_by call r.cause) o.0))
-
-not_true : (b : Bool) → not b ≡ true → b ≡ false
-not_true true e = cc e
-not_true false e = refl
 
 vector_transfer : (a : Records) (source : Source) (low : Bool) (o : Option ℕ) (m : Move) → Ok m ≡ interrupts_to a source low o → TransferOf a (Vector source) m
 vector_transfer a source low None m e = cc e
@@ -75,14 +75,14 @@ vector_transfer a source low (Some u) m e =
 
 transfer_of : (l : LayoutParts) (a : Records) (top new to : ℕ) (t : Transfer) (at root : Option ℕ) (m : Move) → Ok m ≡ judged_as l a top new to t at root → TransferOf a t m
 transfer_of l a top new to Next at root m e =
-    let low = is_low a.returns 0 new in
+    let low = is_sp_below a.returns 0 new in
     let p = unless_ok (not (is_at at (current a))) PastEnd (unless low SpBelow (Ok Stay)) m e in
     subst (TransferOf a Next) (sym (ok_is m Stay (unless_ok low SpBelow (Ok Stay) m p.1).1)) StayNext
-transfer_of l a top new to Jump at root m e = jump_transfer l a (is_low a.returns 0 new) at m e
-transfer_of l a top new to Call at root m e = call_transfer l a (is_low a.returns 2 new) at m e
+transfer_of l a top new to Jump at root m e = jump_transfer l a (is_sp_below a.returns 0 new) at m e
+transfer_of l a top new to Call at root m e = call_transfer l a (is_sp_below a.returns 2 new) at m e
 transfer_of l a top new to Ret at root m e = let k = end_is a.reset a.returns true top to at m e in subst (TransferOf a Ret) (sym k.0) (EndRet k.1.0 k.1.1 k.1.2 k.1.3)
-transfer_of l a top new to Reti at root m e = let k = end_is a.reset a.returns false top to at m e in subst (TransferOf a Reti) (sym k.0) (EndReti k.1.0 k.1.1 k.1.2 (not_true (is_call k.1.0.cause) k.1.3))
-transfer_of l a top new to (Vector source) at root m e = vector_transfer a source (is_low a.returns 2 new) root m e
+transfer_of l a top new to Reti at root m e = let k = end_is a.reset a.returns false top to at m e in subst (TransferOf a Reti) (sym k.0) (EndReti k.1.0 k.1.1 k.1.2 (not-true (is_call k.1.0.cause) k.1.3))
+transfer_of l a top new to (Vector source) at root m e = vector_transfer a source (is_sp_below a.returns 2 new) root m e
 
 no_more : (cause : Cause) (n : ℕ) → is_call cause ≡ true → one_more cause n ≡ n
 no_more ByCall n e = refl
@@ -137,6 +137,24 @@ levels_are_kept m cpu e step taken j follows h =
     kept m.records e (levels cpu) (levels e.cpu) taken e.transfer step
     (transfer_of m.layout m.records (latch cpu sp) (latch e.cpu sp) e.cpu.pc e.transfer j.at j.root step j.is) follows h
 
+counted : (a : Records) (e : Effect) (t : Transfer) (m : Move) → TransferOf a t m → CountsInterrupts t (interrupts a.returns) (interrupts (moved a e m).returns)
+counted a e t m StayNext = refl
+counted a e t m StayJump = refl
+counted a e t m (GoJump u) = same_levels a.reset a.returns u
+counted a e t m LocalCall = refl
+counted a e t m (GoCall u) = refl
+counted a e t m (EndRet r rs are call) =
+    ap (λ rs. interrupts (without_top rs)) are ∙ sym (no_more r.cause (interrupts rs) call) ∙ sym (ap interrupts are)
+counted a e t m (EndReti r rs are call) =
+    ap interrupts are ∙ one_more_is r.cause (interrupts rs) call ∙ ap (λ n. n + 1) (sym (ap (λ rs. interrupts (without_top rs)) are))
+counted a e t m (Vectors source u) = refl
+
+-- the interrupts that have records are counted by the transfers
+pub interrupts_are_counted : InterruptsAreCounted
+interrupts_are_counted m cpu e step j =
+    counted m.records e e.transfer step
+    (transfer_of m.layout m.records (latch cpu sp) (latch e.cpu sp) e.cpu.pc e.transfer j.at j.root step j.is)
+
 pops_of : (a : Records) (t : Transfer) (top new : ℕ) (m : Move) → TransferOf a t m → m ≡ Return → Pops t top new → new ≡ (top + 254) % 256
 pops_of a t top new m StayNext e p = cc e
 pops_of a t top new m StayJump e p = cc e
@@ -162,7 +180,7 @@ above l a e top to at root m rise pops (IsJump u edge is h) = jumped_above a.res
 above l a e top to at root m rise pops (IsLocal is h) = omega arith
 above l a e top to at root m rise pops (IsCall u edge is h) = omega arith
 above l a e top to at root m rise pops (IsInterrupt source u at_root fresh h) = omega arith
-above l a e top to at root m rise pops (IsReturn r rs are same back) =
+above l a e top to at root m rise pops (IsReturn r rs are same return_address) =
     let heights = subst HeightsRise are rise in
     let fits : top < 256 = subst (λ n. n < 256) (sym same) heights.0 in
     subst (λ rs. IsAbove (without_top rs) 0 (latch e.cpu sp)) (sym are) (above_less rs top (latch e.cpu sp) fits (pops refl) (subst (IsAbove rs 2) (sym same) heights.1))

@@ -2,6 +2,7 @@
 use Rattle.std.proofs.Common.{◌≡◌, true, false, IfSome, IfNone, Option, Some, None, ℕ, ◌<◌, ◌≤◌, List, [], ◌∷◌, ◌++◌, length, refl, sym, ap, subst, ◌∙◌, arith}
 use Rattle.std.specs.Prelude.{slice_index}
 use Rattle.std.proofs.lemmas.Option.{slice_get_within}
+use Rattle.std.proofs.lemmas.Bool.{and_parts}
 use Rattle.m51_cells.specs.Cells.{IsDataCell}
 use Rattle.m51_cells.specs.declared.cell.Cell.{Cell}
 use Rattle.m51_module.specs.declared.parts.LayoutParts.{LayoutParts}
@@ -13,7 +14,7 @@ use Rattle.m51_monitor.specs.declared.cause.Cause.{Cause}
 use Rattle.m51_monitor.specs.declared.cause.Frame.{Frame}
 use Rattle.m51_monitor.specs.Activity.{Activity, AreTimes, KeepsStores, MayEnter, answers_in, times}
 use Rattle.m51_monitor.specs.Frames.{AreFrames, records_of}
-use Rattle.m51_monitor.specs.Monitored.{AnswersAt, AreNumbers, IsStart, started, Monitored, MayBe, KeepsThrough, Holds, live_in, stores_after, stores_changed}
+use Rattle.m51_monitor.specs.Monitored.{AnswersAt, AreNumbers, IsStart, started, Monitored, AreActivations, StandsAfter, MonitorStandsFor, live_in, stores_after, stores_changed}
 use Rattle.m51_monitor.specs.Records.{Records, units_named}
 use Rattle.m51_monitor.specs.Resolved.{resolved_cells}
 use Rattle.m51_monitor.specs.Shared.{shared_cells}
@@ -26,7 +27,7 @@ use Rattle.m51_monitor.proofs.Framing.{units_are, jumped_is, call_is}
 use Rattle.m51_monitor.proofs.Heights.{room_above}
 use Rattle.m51_monitor.proofs.Liveness.{one_live}
 use Rattle.m51_monitor.proofs.Resolved.{cells_resolved}
-use Rattle.m51_monitor.proofs.Resolving.{has_cell_data, has_cell_is, is_has_cell, parts}
+use Rattle.m51_monitor.proofs.Resolving.{has_cell_data, has_cell_is, is_has_cell}
 use Rattle.m51_monitor.proofs.Standing.{all_related}
 use Rattle.m51_monitor.proofs.Starting.{filled_unset}
 
@@ -34,19 +35,19 @@ abbrev pub monitored : List Frame → Activity → Monitored
 monitored frames a = record { layout = a.layout; records = records_of frames a.units; store = a.store }
 
 -- what is kept for the units is kept for the records
-pub kept : (frames frames' : List Frame) (old new : Activity) → KeepsStores old new → KeepsThrough (stores_changed new.layout (records_of frames' new.units)) (monitored frames old) (monitored frames' new)
+pub kept : (frames frames' : List Frame) (old new : Activity) → KeepsStores old new → StandsAfter (stores_changed new.layout (records_of frames' new.units)) (monitored frames old) (monitored frames' new)
 kept frames frames' old new keeps s h =
     subst (λ us. StandsFor new.layout (live_by new.layout us) new.store (unset_dead (live_by new.layout us) s)) (sym (units_are frames' new.units))
     (keeps s (subst (λ us. StandsFor old.layout (live_by old.layout us) old.store s) (units_are frames old.units) h))
 
 -- the same units under other frames
-pub kept_same : (frames frames' : List Frame) (a : Activity) → KeepsThrough (stores_changed a.layout (records_of frames' a.units)) (monitored frames a) (monitored frames' a)
+pub kept_same : (frames frames' : List Frame) (a : Activity) → StandsAfter (stores_changed a.layout (records_of frames' a.units)) (monitored frames a) (monitored frames' a)
 kept_same frames frames' a = kept frames frames' a a (λ s h. same_stands a.layout (live_by a.layout a.units) (live_by a.layout a.units) s a.store (plain_lives a.layout a.units) (λ t. refl) h)
 
 -- a put
 pub kept_put : (frames : List Frame) (old new : Activity) (put : Put) → new.layout ≡ old.layout → new.units ≡ old.units
     → ((s : Stores) → StandsFor old.layout (live_by old.layout old.units) old.store s → StandsFor old.layout (live_by old.layout old.units) new.store (put_into old.layout (live_by old.layout old.units) put s))
-    → KeepsThrough (put_into old.layout (live_in old.layout (records_of frames old.units)) put) (monitored frames old) (monitored frames new)
+    → StandsAfter (put_into old.layout (live_in old.layout (records_of frames old.units)) put) (monitored frames old) (monitored frames new)
 kept_put frames old new put layout units keeps s h =
     let named = units_are frames old.units in
     let first = keeps s (subst (λ us. StandsFor old.layout (live_by old.layout us) old.store s) named h) in
@@ -54,32 +55,32 @@ kept_put frames old new put layout units keeps s h =
     let there = subst (λ us. StandsFor old.layout (live_in old.layout (records_of frames us)) new.store (put_into old.layout (live_in old.layout (records_of frames old.units)) put s)) (sym units) again in
     subst (λ (l : LayoutParts). StandsFor l (live_in l (records_of frames new.units)) new.store (put_into old.layout (live_in old.layout (records_of frames old.units)) put s)) (sym layout) there
 
-pub jump_enters : (l : LayoutParts) (frames : List Frame) (us : List ℕ) (u : ℕ) → IsSound l → AreFrames frames us → MayBe l (jumped (records_of frames us).reset (records_of frames us).returns u) → MayEnter l us u
-jump_enters l frames us u sound are may = may_enter l sound (records_of frames (u ∷ us)) u us (units_are frames (u ∷ us)) (subst (MayBe l) (sym (jumped_is frames us u are)) may)
+pub jump_enters : (l : LayoutParts) (frames : List Frame) (us : List ℕ) (u : ℕ) → IsSound l → AreFrames frames us → AreActivations l (jumped (records_of frames us).reset (records_of frames us).returns u) → MayEnter l us u
+jump_enters l frames us u sound are may = may_enter l sound (records_of frames (u ∷ us)) u us (units_are frames (u ∷ us)) (subst (AreActivations l) (sym (jumped_is frames us u are)) may)
 
-pub call_enters : (l : LayoutParts) (frames : List Frame) (us : List ℕ) (f : Frame) (u : ℕ) → IsSound l → f.start ≡ length us → MayBe l (pushed (records_of frames us) f.cause f.back f.sp (u ∷ [])) → MayEnter l us u
-call_enters l frames us f u sound e may = may_enter l sound (records_of (frames ++ f ∷ []) (u ∷ us)) u us (units_are (frames ++ f ∷ []) (u ∷ us)) (subst (MayBe l) (sym (call_is frames us f u e)) may)
+pub call_enters : (l : LayoutParts) (frames : List Frame) (us : List ℕ) (f : Frame) (u : ℕ) → IsSound l → f.start ≡ length us → AreActivations l (pushed (records_of frames us) f.cause f.return_address f.sp (u ∷ [])) → MayEnter l us u
+call_enters l frames us f u sound e may = may_enter l sound (records_of (frames ++ f ∷ []) (u ∷ us)) u us (units_are (frames ++ f ∷ []) (u ∷ us)) (subst (AreActivations l) (sym (call_is frames us f u e)) may)
 
-pub push_room : (l : LayoutParts) (frames : List Frame) (us : List ℕ) (cause : Cause) (back top : ℕ) (units : List ℕ) → MayBe l (pushed (records_of frames us) cause back top units) → length frames < 128
-push_room l frames us cause back top units may = room_above l frames us (pushed (records_of frames us) cause back top units) (record { cause = cause; back = back; sp = top; units = units }) refl may
+pub push_room : (l : LayoutParts) (frames : List Frame) (us : List ℕ) (cause : Cause) (return_address top : ℕ) (units : List ℕ) → AreActivations l (pushed (records_of frames us) cause return_address top units) → length frames < 128
+push_room l frames us cause return_address top units may = room_above l frames us (pushed (records_of frames us) cause return_address top units) (record { cause = cause; return_address = return_address; sp = top; units = units }) refl may
 
 -- both puts, and a change of the records
 pub commit_keeps : (m0 m1 m2 m3 : Monitored) (e : Effect) → m1.layout ≡ m0.layout → m1.records ≡ m0.records → m3.layout ≡ m0.layout
-    → KeepsThrough (put_into m0.layout (live_in m0.layout m0.records) e.first) m0 m1
-    → KeepsThrough (put_into m1.layout (live_in m1.layout m1.records) e.second) m1 m2
-    → KeepsThrough (stores_changed m3.layout m3.records) m2 m3
-    → KeepsThrough (stores_after m0.layout m0.records m3.records e) m0 m3
+    → StandsAfter (put_into m0.layout (live_in m0.layout m0.records) e.first) m0 m1
+    → StandsAfter (put_into m1.layout (live_in m1.layout m1.records) e.second) m1 m2
+    → StandsAfter (stores_changed m3.layout m3.records) m2 m3
+    → StandsAfter (stores_after m0.layout m0.records m3.records e) m0 m3
 commit_keeps m0 m1 m2 m3 e layout records last first second change s h =
     let x = put_into m0.layout (live_in m0.layout m0.records) e.first s in
     let put : (l : LayoutParts) → Records → Stores = λ l a. put_into l (live_in l a) e.second x in
     let two = second x (first s h) in
     let same : put m1.layout m1.records ≡ put m0.layout m0.records = ap (λ (l : LayoutParts). put l m1.records) layout ∙ ap (put m0.layout) records in
-    let done = change (put m0.layout m0.records) (subst (Holds m2) same two) in
-    subst (λ (l : LayoutParts). Holds m3 (stores_changed l m3.records (put m0.layout m0.records))) last done
+    let done = change (put m0.layout m0.records) (subst (MonitorStandsFor m2) same two) in
+    subst (λ (l : LayoutParts). MonitorStandsFor m3 (stores_changed l m3.records (put m0.layout m0.records))) last done
 
 -- the segment that answers in a cell
 answers_are : (l : LayoutParts) (us : List ℕ) (c : Cell) (t : ℕ) → answers_in l us c t ≡ true → IsDataCell c × IsOver l t c × (live_by l us t ≡ true)
-answers_are l us c t e = let k = parts (live_by l us t) (has_cell l t c) e in (has_cell_data l t c k.1, has_cell_is l t c k.1, k.0)
+answers_are l us c t e = let k = and_parts (live_by l us t) (has_cell l t c) e in (has_cell_data l t c k.1, has_cell_is l t c k.1, k.0)
 
 are_answers : (l : LayoutParts) (us : List ℕ) (c : Cell) (t : ℕ) → IsDataCell c → IsOver l t c → live_by l us t ≡ true → answers_in l us c t ≡ true
 are_answers l us c t is over live = rw live (is_has_cell l t c is over)
@@ -90,7 +91,7 @@ segment_some frames a c (Some t) h =
     let k = answers_are a.layout a.units c t h in
     record { of_data = k.0; over = k.1; live = subst (λ us. live_by a.layout us t ≡ true) (sym (units_are frames a.units)) k.2 }
 
-pub segment_only : (frames : List Frame) (a : Activity) (c : Cell) (o : Option ℕ) → IsSound a.layout → MayBe a.layout (records_of frames a.units)
+pub segment_only : (frames : List Frame) (a : Activity) (c : Cell) (o : Option ℕ) → IsSound a.layout → AreActivations a.layout (records_of frames a.units)
     → IfSome o (λ t. answers_in a.layout a.units c t ≡ true) → IfNone o ((t : ℕ) → t < length a.layout.placed → answers_in a.layout a.units c t ≡ false)
     → (t : ℕ) → AnswersAt (monitored frames a) c t → o ≡ Some t
 segment_only frames a c None sound may some none t h =
@@ -103,7 +104,7 @@ segment_only frames a c (Some u) sound may some none t h =
     ap Some same
 
 -- the numbers of records
-pub numbers_are : (frames : List Frame) (a : Activity) (numbers : List ℕ) → IsSound a.layout → MayBe a.layout (records_of frames a.units) → AreTimes a.layout a.units numbers → AreNumbers (monitored frames a) numbers
+pub numbers_are : (frames : List Frame) (a : Activity) (numbers : List ℕ) → IsSound a.layout → AreActivations a.layout (records_of frames a.units) → AreTimes a.layout a.units numbers → AreNumbers (monitored frames a) numbers
 numbers_are frames a numbers sound may are =
     let named = units_are frames a.units in
     let b = records_of frames a.units in
@@ -115,7 +116,7 @@ numbers_are frames a numbers sound may are =
     }
 
 -- the start
-pub start_may_be : (l : LayoutParts) (root : ℕ) → IsRootAt l 0 root → MayBe l (started root)
+pub start_may_be : (l : LayoutParts) (root : ℕ) → IsRootAt l 0 root → AreActivations l (started root)
 start_may_be l root h = record { stand = record { over = h }; heights = tt; levels = omega arith }
 
 pub start_enters : (l : LayoutParts) (root : ℕ) → IsSound l → IsRootAt l 0 root → MayEnter l [] root
@@ -135,10 +136,10 @@ is_start l fill root old new h layout units stands same entered keeps =
     record { layout = lay; root = root; is_root = h; records = ap (λ us. records_of [] us) us; stores = kept }
 
 -- the memory stands for some stores, and answers as they do
-pub stands_for : (frames : List Frame) (a : Activity) → (s : Stores) × StandsFor a.layout (live_by a.layout a.units) a.store s → (s : Stores) × Holds (monitored frames a) s
+pub stands_for : (frames : List Frame) (a : Activity) → (s : Stores) × StandsFor a.layout (live_by a.layout a.units) a.store s → (s : Stores) × MonitorStandsFor (monitored frames a) s
 stands_for frames a h = (h.0, subst (λ us. StandsFor a.layout (live_by a.layout us) a.store h.0) (sym (units_are frames a.units)) h.1)
 
-pub answers_by : (frames : List Frame) (a : Activity) → IsSound a.layout → MayBe a.layout (records_of frames a.units) → (s : Stores) → Holds (monitored frames a) s
+pub answers_by : (frames : List Frame) (a : Activity) → IsSound a.layout → AreActivations a.layout (records_of frames a.units) → (s : Stores) → MonitorStandsFor (monitored frames a) s
     → shared_cells a.store ≡ resolved_cells a.layout (live_in a.layout (records_of frames a.units)) s
 answers_by frames a sound may s h =
     let b = records_of frames a.units in

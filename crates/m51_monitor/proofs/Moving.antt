@@ -12,21 +12,23 @@ use Rattle.m51_flat.specs.declared.state.Source.TheVariants.{Ie0, Tf0, Ie1, Tf1,
 use Rattle.m51_flat.specs.declared.state.Transfer.{Transfer}
 use Rattle.m51_flat.specs.declared.state.Transfer.TheVariants.{Next, Jump, Call, Ret, Reti, Vector}
 use Rattle.m51_flat.specs.Sfr.{latch, sp}
+use Rattle.m51_module.proofs.EdgeTests.{edge_from_test}
 use Rattle.m51_module.specs.declared.parts.LayoutParts.{LayoutParts}
 use Rattle.m51_module.specs.Plan.{IsRootAt}
-use Rattle.m51_module.specs.Walks.{Edges, HasEdge}
+use Rattle.m51_module.specs.Walks.{Edges, HasEdge, has_edge}
 use Rattle.m51_monitor.specs.declared.cause.Cause.{Cause}
 use Rattle.m51_monitor.specs.declared.cause.Cause.TheVariants.{Call as ByCall, Interrupt as ByInterrupt}
 use Rattle.m51_monitor.specs.declared.step.Move.{Move}
 use Rattle.m51_monitor.specs.declared.step.Move.TheVariants.{Stay, Local, Return, Jump as JumpTo, Call as CallTo, Interrupt as InterruptTo}
-use Rattle.m51_monitor.specs.Records.{ReturnRecord, Records, named_over, first_or, current, running, runs_also, BeginsAt, StandsAbove, StandsOver, Stand}
+use Rattle.m51_monitor.specs.Records.{ReturnRecord, Records, named_over, first_or, current, running, runs_also, BeginsAt, IsWalkAbove, AreWalksOver, AreWalks}
 use Rattle.m51_monitor.specs.Rising.{IsAbove, HeightsRise, one_more, interrupts}
-use Rattle.m51_monitor.specs.Transfers.{is_edge, leads, unless, is_low, is_at, goes, within, move_to, returns_to, is_by, ends, runs_at, is_busy, interrupts_to, judged_as, IsRootFound, IsRootWanted, back_of, jumped, pushed, without_top, moved}
+use Rattle.m51_monitor.specs.Transfers.{unless, is_sp_below, is_at, jump_or_call, within, move_to, returns_to, is_by, return_move, is_of_root, is_busy, interrupts_to, judged_as, IsRootFound, IsRootWanted, return_address_of, jumped, pushed, without_top, moved}
 use Rattle.m51_flat.specs.Vectors.{vector_of}
 use Rattle.m51_monitor.proofs.Lists.{contains_cases, first_append, any_tells}
 use Rattle.m51_module.proofs.Owning.{none_in_empty}
 use Rattle.m51_monitor.specs.Laws.{MovesAreKept}
 use Rattle.m51_monitor.specs.Monitored.{Monitored, HasLevel}
+use Rattle.m51_monitor.proofs.Truths.{not_false, not_lt, number_is}
 
 begins_on : (l : LayoutParts) (v u : ℕ) (us : List ℕ) → BeginsAt l v us → HasEdge l.edges (first_or us 0) u → BeginsAt l v (u ∷ us)
 begins_on l v u [] h e = absurd h
@@ -36,31 +38,31 @@ begins_over : (l : LayoutParts) (v u : ℕ) (us below : List ℕ) → BeginsAt l
 begins_over l v u [] below h e = absurd h
 begins_over l v u (x ∷ xs) below h e = (e, h)
 
-above_on : (l : LayoutParts) (u : ℕ) (below busy : List ℕ) (cause : Cause) (us : List ℕ) → StandsAbove l below busy cause us → HasEdge l.edges (first_or (us ++ below) 0) u → StandsAbove l below busy cause (u ∷ us)
+above_on : (l : LayoutParts) (u : ℕ) (below busy : List ℕ) (cause : Cause) (us : List ℕ) → IsWalkAbove l below busy cause us → HasEdge l.edges (first_or (us ++ below) 0) u → IsWalkAbove l below busy cause (u ∷ us)
 above_on l u below busy ByCall us h e = (subst (λ x. HasEdge l.edges x u) (first_append us below 0) e, h)
 above_on l u below busy (ByInterrupt source) us h e = (begins_over l (vector_of source) u us below h.0 e, h.1)
 
-jump_over : (l : LayoutParts) (u : ℕ) (reset : List ℕ) (rs : List ReturnRecord) → StandsOver l reset rs → HasEdge l.edges (first_or (named_over reset rs) 0) u → Stand l (jumped reset rs u)
+jump_over : (l : LayoutParts) (u : ℕ) (reset : List ℕ) (rs : List ReturnRecord) → AreWalksOver l reset rs → HasEdge l.edges (first_or (named_over reset rs) 0) u → AreWalks l (jumped reset rs u)
 jump_over l u reset [] h e = record { over = begins_on l 0 u reset h e }
 jump_over l u reset (r ∷ rs) h e = record { over = (above_on l u (named_over reset rs) (running rs) r.cause r.units h.0 e, h.1) }
 
-pub jump_stands : (l : LayoutParts) (a : Records) (u : ℕ) → Stand l a → HasEdge l.edges (current a) u → Stand l (jumped a.reset a.returns u)
+pub jump_stands : (l : LayoutParts) (a : Records) (u : ℕ) → AreWalks l a → HasEdge l.edges (current a) u → AreWalks l (jumped a.reset a.returns u)
 jump_stands l a u h e = jump_over l u a.reset a.returns h.over e
 
-pub local_stands : (l : LayoutParts) (a : Records) (back top : ℕ) → Stand l a → Stand l (pushed a ByCall back top [])
-local_stands l a back top h = record { over = (tt, h.over) }
+pub local_stands : (l : LayoutParts) (a : Records) (return_address top : ℕ) → AreWalks l a → AreWalks l (pushed a ByCall return_address top [])
+local_stands l a return_address top h = record { over = (tt, h.over) }
 
-pub call_stands : (l : LayoutParts) (a : Records) (back top u : ℕ) → Stand l a → HasEdge l.edges (current a) u → Stand l (pushed a ByCall back top (u ∷ []))
-call_stands l a back top u h e = record { over = ((e, tt), h.over) }
+pub call_stands : (l : LayoutParts) (a : Records) (return_address top u : ℕ) → AreWalks l a → HasEdge l.edges (current a) u → AreWalks l (pushed a ByCall return_address top (u ∷ []))
+call_stands l a return_address top u h e = record { over = ((e, tt), h.over) }
 
-pub interrupt_stands : (l : LayoutParts) (a : Records) (source : Source) (back top u : ℕ) → Stand l a → IsRootAt l (vector_of source) u → (Contains (running a.returns) (vector_of source) → ⊥) → Stand l (pushed a (ByInterrupt source) back top (u ∷ []))
-interrupt_stands l a source back top u h at fresh = record { over = ((at, fresh), h.over) }
+pub interrupt_stands : (l : LayoutParts) (a : Records) (source : Source) (return_address top u : ℕ) → AreWalks l a → IsRootAt l (vector_of source) u → (Contains (running a.returns) (vector_of source) → ⊥) → AreWalks l (pushed a (ByInterrupt source) return_address top (u ∷ []))
+interrupt_stands l a source return_address top u h at fresh = record { over = ((at, fresh), h.over) }
 
-return_over : (l : LayoutParts) (reset : List ℕ) (rs : List ReturnRecord) → StandsOver l reset rs → StandsOver l reset (without_top rs)
+return_over : (l : LayoutParts) (reset : List ℕ) (rs : List ReturnRecord) → AreWalksOver l reset rs → AreWalksOver l reset (without_top rs)
 return_over l reset [] h = h
 return_over l reset (r ∷ rs) h = h.1
 
-pub return_stands : (l : LayoutParts) (a : Records) → Stand l a → Stand l (record { reset = a.reset; returns = without_top a.returns })
+pub return_stands : (l : LayoutParts) (a : Records) → AreWalks l a → AreWalks l (record { reset = a.reset; returns = without_top a.returns })
 return_stands l a h = record { over = return_over l a.reset a.returns h.over }
 
 -- tests of the table, read backwards
@@ -71,39 +73,7 @@ pub unless_ok : (b : Bool) (why : Why) (rest : Result Move Why) (m : Move) → O
 unless_ok true why rest m e = cc
 unless_ok false why rest m e = (refl, e)
 
-pub not_false : (b : Bool) → not b ≡ false → b ≡ true
-not_false true e = refl
-not_false false e = cc
-
-same_number : (a b : ℕ) → nat_eq a b ≡ true → a ≡ b
-same_number a b e = ⊎_elim (λ (t : (nat_eq a b ≡ true) × (a ≡ b)). t.1) (λ (t : (nat_eq a b ≡ false) × (a ≢ b)). cc (e, t.0)) (eqb_tells a b)
-
--- an edge as a test
-edge_tells : (from to : ℕ) (edge : ℕ × ℕ) → ((is_edge from to edge ≡ true) × ((from, to) ≡ edge)) ⊎ ((is_edge from to edge ≡ false) × ((from, to) ≢ edge))
-edge_tells from to edge = ⊎_elim
-    (λ (t : (nat_eq from edge.0 ≡ true) × (from ≡ edge.0)). ⊎_elim
-    (λ (q : (nat_eq to edge.1 ≡ true) × (to ≡ edge.1)). inl (rw (t.0, q.0) refl, ap (λ (n : ℕ). (n, to)) t.1 ∙ ap (λ (n : ℕ). (edge.0, n)) q.1))
-    (λ (q : (nat_eq to edge.1 ≡ false) × (to ≢ edge.1)). inr (rw (t.0, q.0) refl, λ e. q.1 (ap (λ (p : ℕ × ℕ). p.1) e)))
-    (eqb_tells to edge.1))
-    (λ (t : (nat_eq from edge.0 ≡ false) × (from ≢ edge.0)). inr (rw t.0 refl, λ e. t.1 (ap (λ (p : ℕ × ℕ). p.0) e)))
-    (eqb_tells from edge.0)
-
-pub leads_tells : (edges : Edges) (from to : ℕ) → ((leads edges from to ≡ true) × HasEdge edges from to) ⊎ ((leads edges from to ≡ false) × (HasEdge edges from to → ⊥))
-leads_tells edges from to = ⊎_elim
-    (λ (t : (leads edges from to ≡ true) × ((e : ℕ × ℕ) × Contains edges e × ((from, to) ≡ e))). inl (t.0, subst (Contains edges) (sym t.1.2) t.1.1))
-    (λ (t : (leads edges from to ≡ false) × ((e : ℕ × ℕ) → Contains edges e → (from, to) ≡ e → ⊥)). inr (t.0, λ h. t.1 (from, to) h refl))
-    (any_tells (λ e. (from, to) ≡ e) (is_edge from to) (edge_tells from to) edges)
-
-leads_is : (edges : Edges) (from to : ℕ) → leads edges from to ≡ true → HasEdge edges from to
-leads_is edges from to e = ⊎_elim
-    (λ (t : (leads edges from to ≡ true) × HasEdge edges from to). t.1)
-    (λ (t : (leads edges from to ≡ false) × (HasEdge edges from to → ⊥)). cc (e, t.0))
-    (leads_tells edges from to)
-
-not_lt : (a b : ℕ) → nat_lt a b ≡ false → b ≤ a
-not_lt a b e = grind (arith, nat_tests)
-
-low_above : (rs : List ReturnRecord) (more top : ℕ) → is_low rs more top ≡ false → IsAbove rs more top
+low_above : (rs : List ReturnRecord) (more top : ℕ) → is_sp_below rs more top ≡ false → IsAbove rs more top
 low_above [] more top e = tt
 low_above (r ∷ rs) more top e = not_lt top (r.sp + more) e
 
@@ -119,9 +89,9 @@ vector_is_some Timer2 e = omega (arith, e)
 
 not_busy : (rs : List ReturnRecord) (source : Source) → is_busy rs (vector_of source) ≡ false → Contains (running rs) (vector_of source) → ⊥
 not_busy [] source e h = ⊎_elim (λ (k : vector_of source ≡ 0). vector_is_some source k) (λ (k : Contains [] (vector_of source)). none_in_empty (vector_of source) k) (contains_cases (vector_of source) 0 [] h)
-not_busy (r ∷ rs) source e h = by_cause r.cause (runs_at (vector_of source) r.cause) refl (is_busy rs (vector_of source)) e h (not_busy rs source)
+not_busy (r ∷ rs) source e h = by_cause r.cause (is_of_root (vector_of source) r.cause) refl (is_busy rs (vector_of source)) e h (not_busy rs source)
   where
-    by_cause : (cause : Cause) (b : Bool) → b ≡ runs_at (vector_of source) cause → (rest : Bool) → (b || rest) ≡ false → Contains (runs_also cause (running rs)) (vector_of source)
+    by_cause : (cause : Cause) (b : Bool) → b ≡ is_of_root (vector_of source) cause → (rest : Bool) → (b || rest) ≡ false → Contains (runs_also cause (running rs)) (vector_of source)
         → (rest ≡ false → Contains (running rs) (vector_of source) → ⊥) → ⊥
     by_cause cause true f rest e h behind = cc e
     by_cause ByCall false f rest e h behind = behind e h
@@ -140,46 +110,46 @@ pub data Allowed (l : LayoutParts) (a : Records) (top new to : ℕ) (at root : O
   IsLocal : at ≡ Some (current a) → IsAbove a.returns 2 new → Allowed l a top new to at root Local
   IsCall : (u : ℕ) → HasEdge l.edges (current a) u → at ≡ Some u → IsAbove a.returns 2 new → Allowed l a top new to at root (CallTo u)
   IsInterrupt : (source : Source) (u : ℕ) → IsRootAt l (vector_of source) u → (Contains (running a.returns) (vector_of source) → ⊥) → IsAbove a.returns 2 new → Allowed l a top new to at root (InterruptTo source u)
-  IsReturn : (r : ReturnRecord) (rs : List ReturnRecord) → a.returns ≡ r ∷ rs → top ≡ r.sp → to ≡ r.back → Allowed l a top new to at root Return
+  IsReturn : (r : ReturnRecord) (rs : List ReturnRecord) → a.returns ≡ r ∷ rs → top ≡ r.sp → to ≡ r.return_address → Allowed l a top new to at root Return
 
 goes_back : (l : LayoutParts) (a : Records) (top new to : ℕ) (at root : Option ℕ) (u : ℕ) (low call same : Bool) (m : Move) →
     (same ≡ true → low ≡ false → Allowed l a top new to at root (within call)) → (HasEdge l.edges (current a) u → low ≡ false → Allowed l a top new to at root (move_to call u)) →
-    Ok m ≡ (if same then unless low SpBelow (Ok (within call)) else unless (not (leads l.edges (current a) u)) NoEdge (unless low SpBelow (Ok (move_to call u)))) → Allowed l a top new to at root m
+    Ok m ≡ (if same then unless low SpBelow (Ok (within call)) else unless (not (has_edge l.edges (current a) u)) NoEdge (unless low SpBelow (Ok (move_to call u)))) → Allowed l a top new to at root m
 goes_back l a top new to at root u low call true m own along e =
     let p = unless_ok low SpBelow (Ok (within call)) m e in
     subst (Allowed l a top new to at root) (sym (ok_is m (within call) p.1)) (own refl p.0)
 goes_back l a top new to at root u low call false m own along e =
-    let p = unless_ok (not (leads l.edges (current a) u)) NoEdge (unless low SpBelow (Ok (move_to call u))) m e in
+    let p = unless_ok (not (has_edge l.edges (current a) u)) NoEdge (unless low SpBelow (Ok (move_to call u))) m e in
     let q = unless_ok low SpBelow (Ok (move_to call u)) m p.1 in
-    subst (Allowed l a top new to at root) (sym (ok_is m (move_to call u) q.1)) (along (leads_is l.edges (current a) u (not_false (leads l.edges (current a) u) p.0)) q.0)
+    subst (Allowed l a top new to at root) (sym (ok_is m (move_to call u) q.1)) (along (edge_from_test l.edges (current a) u (not_false (has_edge l.edges (current a) u) p.0)) q.0)
 
-jump_back : (l : LayoutParts) (a : Records) (top new to : ℕ) (at root o : Option ℕ) (m : Move) → at ≡ o → Ok m ≡ goes l (current a) (is_low a.returns 0 new) false o → Allowed l a top new to at root m
+jump_back : (l : LayoutParts) (a : Records) (top new to : ℕ) (at root o : Option ℕ) (m : Move) → at ≡ o → Ok m ≡ jump_or_call l (current a) (is_sp_below a.returns 0 new) false o → Allowed l a top new to at root m
 jump_back l a top new to at root None m same e = cc e
-jump_back l a top new to at root (Some u) m same e = goes_back l a top new to at root u (is_low a.returns 0 new) false (nat_eq u (current a)) m
+jump_back l a top new to at root (Some u) m same e = goes_back l a top new to at root u (is_sp_below a.returns 0 new) false (nat_eq u (current a)) m
     (λ here low. IsStay (low_above a.returns 0 new low))
     (λ edge low. IsJump u edge same (low_above a.returns 0 new low)) e
 
-call_back : (l : LayoutParts) (a : Records) (top new to : ℕ) (at root o : Option ℕ) (m : Move) → at ≡ o → Ok m ≡ goes l (current a) (is_low a.returns 2 new) true o → Allowed l a top new to at root m
+call_back : (l : LayoutParts) (a : Records) (top new to : ℕ) (at root o : Option ℕ) (m : Move) → at ≡ o → Ok m ≡ jump_or_call l (current a) (is_sp_below a.returns 2 new) true o → Allowed l a top new to at root m
 call_back l a top new to at root None m same e = cc e
-call_back l a top new to at root (Some u) m same e = goes_back l a top new to at root u (is_low a.returns 2 new) true (nat_eq u (current a)) m
-    (λ here low. IsLocal (same ∙ ap Some (same_number u (current a) here)) (low_above a.returns 2 new low))
+call_back l a top new to at root (Some u) m same e = goes_back l a top new to at root u (is_sp_below a.returns 2 new) true (nat_eq u (current a)) m
+    (λ here low. IsLocal (same ∙ ap Some (number_is u (current a) here)) (low_above a.returns 2 new low))
     (λ edge low. IsCall u edge same (low_above a.returns 2 new low)) e
 
-ends_back : (l : LayoutParts) (a : Records) (top new to : ℕ) (at root : Option ℕ) (rs : List ReturnRecord) (call : Bool) (m : Move) → a.returns ≡ rs → Ok m ≡ ends a.reset rs call top to at → Allowed l a top new to at root m
+ends_back : (l : LayoutParts) (a : Records) (top new to : ℕ) (at root : Option ℕ) (rs : List ReturnRecord) (call : Bool) (m : Move) → a.returns ≡ rs → Ok m ≡ return_move a.reset rs call top to at → Allowed l a top new to at root m
 ends_back l a top new to at root [] call m same e = cc e
 ends_back l a top new to at root (r ∷ rs) call m same e =
     let inside = is_at at (first_or (named_over a.reset rs) 0) in
-    let o = unless_ok (not (is_by call r.cause)) NotCalled (returns_to r.sp r.back top to inside) m e in
-    let p = unless_ok (not (nat_eq top r.sp)) SpMoved (unless (not (nat_eq to r.back)) WrongAddress (unless (not inside) PastEnd (Ok Return))) m o.1 in
-    let q = unless_ok (not (nat_eq to r.back)) WrongAddress (unless (not inside) PastEnd (Ok Return)) m p.1 in
+    let o = unless_ok (not (is_by call r.cause)) NotCalled (returns_to r.sp r.return_address top to inside) m e in
+    let p = unless_ok (not (nat_eq top r.sp)) SpMoved (unless (not (nat_eq to r.return_address)) WrongAddress (unless (not inside) PastEnd (Ok Return))) m o.1 in
+    let q = unless_ok (not (nat_eq to r.return_address)) WrongAddress (unless (not inside) PastEnd (Ok Return)) m p.1 in
     let s = unless_ok (not inside) PastEnd (Ok Return) m q.1 in
     subst (Allowed l a top new to at root) (sym (ok_is m Return s.1))
-    (IsReturn r rs same (same_number top r.sp (not_false (nat_eq top r.sp) p.0)) (same_number to r.back (not_false (nat_eq to r.back) q.0)))
+    (IsReturn r rs same (number_is top r.sp (not_false (nat_eq top r.sp) p.0)) (number_is to r.return_address (not_false (nat_eq to r.return_address) q.0)))
 
-interrupt_back : (l : LayoutParts) (a : Records) (top new to : ℕ) (at root : Option ℕ) (source : Source) (m : Move) → IsRootFound l (vector_of source) root → Ok m ≡ interrupts_to a source (is_low a.returns 2 new) root → Allowed l a top new to at root m
+interrupt_back : (l : LayoutParts) (a : Records) (top new to : ℕ) (at root : Option ℕ) (source : Source) (m : Move) → IsRootFound l (vector_of source) root → Ok m ≡ interrupts_to a source (is_sp_below a.returns 2 new) root → Allowed l a top new to at root m
 interrupt_back l a top new to at None source m found e = cc e
 interrupt_back l a top new to at (Some u) source m found e =
-    let low = is_low a.returns 2 new in
+    let low = is_sp_below a.returns 2 new in
     let p = unless_ok (is_busy a.returns (vector_of source)) RootBusy (unless low SpBelow (Ok (InterruptTo source u))) m e in
     let q = unless_ok low SpBelow (Ok (InterruptTo source u)) m p.1 in
     subst (Allowed l a top new to at (Some u)) (sym (ok_is m (InterruptTo source u) q.1))
@@ -188,7 +158,7 @@ interrupt_back l a top new to at (Some u) source m found e =
 -- what the table allows, and why
 pub allowed : (l : LayoutParts) (a : Records) (top new to : ℕ) (t : Transfer) (at root : Option ℕ) (m : Move) → IsRootWanted l t root → Ok m ≡ judged_as l a top new to t at root → Allowed l a top new to at root m
 allowed l a top new to Next at root m found e =
-    let low = is_low a.returns 0 new in
+    let low = is_sp_below a.returns 0 new in
     let p = unless_ok (not (is_at at (current a))) PastEnd (unless low SpBelow (Ok Stay)) m e in
     let q = unless_ok low SpBelow (Ok Stay) m p.1 in
     subst (Allowed l a top new to at root) (sym (ok_is m Stay q.1)) (IsStay (low_above a.returns 0 new q.0))
@@ -200,13 +170,13 @@ allowed l a top new to (Vector source) at root m found e = interrupt_back l a to
 
 -- the records after a move that is allowed
 module _ (l : LayoutParts) (a : Records) (e : Effect) (top to : ℕ) (at root : Option ℕ) where
-  pub allowed_stands : (m : Move) → Stand l a → Allowed l a top (latch e.cpu sp) to at root m → Stand l (moved a e m)
+  pub allowed_stands : (m : Move) → AreWalks l a → Allowed l a top (latch e.cpu sp) to at root m → AreWalks l (moved a e m)
   allowed_stands m h (IsStay above) = h
   allowed_stands m h (IsJump u edge is above) = jump_stands l a u h edge
-  allowed_stands m h (IsLocal is above) = local_stands l a (back_of e) (latch e.cpu sp) h
-  allowed_stands m h (IsCall u edge is above) = call_stands l a (back_of e) (latch e.cpu sp) u h edge
-  allowed_stands m h (IsInterrupt source u root fresh above) = interrupt_stands l a source (back_of e) (latch e.cpu sp) u h root fresh
-  allowed_stands m h (IsReturn r rs are same back) = return_stands l a h
+  allowed_stands m h (IsLocal is above) = local_stands l a (return_address_of e) (latch e.cpu sp) h
+  allowed_stands m h (IsCall u edge is above) = call_stands l a (return_address_of e) (latch e.cpu sp) u h edge
+  allowed_stands m h (IsInterrupt source u root fresh above) = interrupt_stands l a source (return_address_of e) (latch e.cpu sp) u h root fresh
+  allowed_stands m h (IsReturn r rs are same return_address) = return_stands l a h
 
   jumped_heights : (reset : List ℕ) (rs : List ReturnRecord) (u : ℕ) → HeightsRise rs → HeightsRise (jumped reset rs u).returns
   jumped_heights reset [] u h = tt
@@ -223,7 +193,7 @@ module _ (l : LayoutParts) (a : Records) (e : Effect) (top to : ℕ) (at root : 
   allowed_rise m fits h (IsLocal is above) = (fits, above, h)
   allowed_rise m fits h (IsCall u edge is above) = (fits, above, h)
   allowed_rise m fits h (IsInterrupt source u root fresh above) = (fits, above, h)
-  allowed_rise m fits h (IsReturn r rs are same back) = less_heights a.returns h
+  allowed_rise m fits h (IsReturn r rs are same return_address) = less_heights a.returns h
 
   jumped_levels : (reset : List ℕ) (rs : List ReturnRecord) (u : ℕ) → interrupts (jumped reset rs u).returns ≡ interrupts rs
   jumped_levels reset [] u = refl

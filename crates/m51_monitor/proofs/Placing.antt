@@ -4,6 +4,7 @@ use Rattle.std.specs.Prelude.{slice_index, slice_index_or}
 use Rattle.std.specs.List.{Contains}
 use Rattle.std.proofs.lemmas.Option.{slice_get-get_or, slice_get_within}
 use Rattle.std.proofs.lemmas.List.Elements.{Contains-get_or}
+use Rattle.std.proofs.lemmas.Bool.{cases_lt}
 use Rattle.m51_cells.specs.declared.cell.Cell.{Cell}
 use Rattle.m51_cells.specs.Extent.{Covers}
 use Rattle.m51_module.specs.declared.parts.LayoutParts.{LayoutParts}
@@ -13,8 +14,7 @@ use Rattle.m51_module.specs.Plan.{IsPlaced, owners_of, AreLocals}
 use Rattle.m51_module.specs.Sound.{IsSound, IsFit}
 use Rattle.m51_flat.specs.States.{CellState}
 use Rattle.m51_monitor.specs.Shared.{Shared, cell_state, IsTurned}
-use Rattle.m51_monitor.specs.Turning.{Turned, Under, Beside, AreTurned, is_quiet, IsLocalOf, IsLocalAmong}
-use Rattle.m51_monitor.proofs.Marking.{lt_or_le}
+use Rattle.m51_monitor.specs.Turning.{Turned, Under, Beside, AreTurned, none_is_active, IsLocalOf, IsLocalAmong}
 use Rattle.m51_monitor.proofs.Reading.{covers_or_not}
 
 pub placed_at : (l : LayoutParts) (t : ℕ) (p : Placed) → t < length l.placed → slice_index_or l.placed t p ≡ p → IsPlaced l t p
@@ -60,7 +60,7 @@ get_or_same (x ∷ xs) zero d h = refl
 get_or_same (x ∷ xs) (suc k) d h = get_or_same xs k d (omega (arith, h))
 
 pub last_or_before : (t k : ℕ) → t < k + 1 → (t ≡ k) ⊎ (t < k)
-last_or_before t k h = ⊎_elim (λ (q : t < k). inr q) (λ (q : k ≤ t). inl (omega (arith, q, h))) (lt_or_le t k)
+last_or_before t k h = ⊎_elim (λ (q : t < k). inr q) (λ (q : k ≤ t). inl (omega (arith, q, h))) (cases_lt t k)
 
 module _ (l : LayoutParts) (numbers locals : List ℕ) (place : ℕ) (to : CellState) (below : place < length locals) where
   before : (t : ℕ) → IsLocalAmong l numbers locals place t → IsLocalAmong l numbers locals (place + 1) t
@@ -73,39 +73,39 @@ module _ (l : LayoutParts) (numbers locals : List ℕ) (place : ℕ) (to : CellS
       (last_or_before k.place place k.below)
 
   -- the segment at this place has turned
-  pub local_turned : (p : Placed) (old mid new : Shared) → IsPlaced l (slice_index locals place) p → is_quiet numbers (owners_of l.owners (slice_index locals place)) ≡ true → IsTurned (extent_at p) to mid new
+  pub turned : (p : Placed) (old mid new : Shared) → IsPlaced l (slice_index locals place) p → none_is_active numbers (owners_of l.owners (slice_index locals place)) ≡ true → IsTurned (extent_at p) to mid new
       → AreTurned l (IsLocalAmong l numbers locals place) to old mid → AreTurned l (IsLocalAmong l numbers locals (place + 1)) to old new
-  local_turned p old mid new at quiet turn h =
+  turned p old mid new at quiet turn h =
       next_turned l (IsLocalAmong l numbers locals place) (IsLocalAmong l numbers locals (place + 1)) to (slice_index locals place) p at
       (record { place = place; below = omega arith; inside = below; is = refl; quiet = quiet })
       before here_or_before old mid new turn h
 
   -- it stays, as an owner is active
-  pub local_stays : (old mid : Shared) → is_quiet numbers (owners_of l.owners (slice_index locals place)) ≡ false → AreTurned l (IsLocalAmong l numbers locals place) to old mid → AreTurned l (IsLocalAmong l numbers locals (place + 1)) to old mid
-  local_stays old mid loud h = turned_as l (IsLocalAmong l numbers locals place) (IsLocalAmong l numbers locals (place + 1)) to old mid
+  pub stays : (old mid : Shared) → none_is_active numbers (owners_of l.owners (slice_index locals place)) ≡ false → AreTurned l (IsLocalAmong l numbers locals place) to old mid → AreTurned l (IsLocalAmong l numbers locals (place + 1)) to old mid
+  stays old mid loud h = turned_as l (IsLocalAmong l numbers locals place) (IsLocalAmong l numbers locals (place + 1)) to old mid
       before
       (λ t k. ⊎_elim
-      (λ (e : t ≡ slice_index locals place). cc (subst (λ t. is_quiet numbers (owners_of l.owners t) ≡ true) e k.quiet, loud))
+      (λ (e : t ≡ slice_index locals place). cc (subst (λ t. none_is_active numbers (owners_of l.owners t) ≡ true) e k.quiet, loud))
       (λ (m : IsLocalAmong l numbers locals place t). m)
       (here_or_before t k))
       h
 
-pub none_turned : (l : LayoutParts) (numbers locals : List ℕ) (to : CellState) (m : Shared) → AreTurned l (IsLocalAmong l numbers locals 0) to m m
-none_turned l numbers locals to m = none_among l (IsLocalAmong l numbers locals 0) to m (λ t k. omega (arith, k.below))
+pub none : (l : LayoutParts) (numbers locals : List ℕ) (to : CellState) (m : Shared) → AreTurned l (IsLocalAmong l numbers locals 0) to m m
+none l numbers locals to m = none_among l (IsLocalAmong l numbers locals 0) to m (λ t k. omega (arith, k.below))
 
-pub locals_turned : (l : LayoutParts) (numbers locals : List ℕ) (unit : ℕ) (to : CellState) (old new : Shared) → AreLocals l unit locals → AreTurned l (IsLocalAmong l numbers locals (length locals)) to old new → AreTurned l (IsLocalOf l numbers unit) to old new
-locals_turned l numbers locals unit to old new are h = turned_as l (IsLocalAmong l numbers locals (length locals)) (IsLocalOf l numbers unit) to old new
+pub turned_all : (l : LayoutParts) (numbers locals : List ℕ) (unit : ℕ) (to : CellState) (old new : Shared) → AreLocals l unit locals → AreTurned l (IsLocalAmong l numbers locals (length locals)) to old new → AreTurned l (IsLocalOf l numbers unit) to old new
+turned_all l numbers locals unit to old new are h = turned_as l (IsLocalAmong l numbers locals (length locals)) (IsLocalOf l numbers unit) to old new
     (λ t k. record { owns = (are.owned t).0 (subst (Contains locals) k.is (Contains-get_or locals k.place 0 k.inside)); quiet = k.quiet })
     (λ t k. let c = (are.owned t).1 k.owns in record { place = c.0; below = c.1; inside = c.1; is = get_or_same locals c.0 t c.1 ∙ c.2; quiet = k.quiet })
     h
 
 -- what a unit owns is placed
-pub local_below : (l : LayoutParts) (locals : List ℕ) (unit : ℕ) → IsSound l → AreLocals l unit locals → (t : ℕ) → Contains locals t → t < length l.placed
-local_below l locals unit sound are t h = let o = (sound.owned unit t ((are.owned t).0 h)).1 in slice_get_within l.placed t o.0 o.1
+pub below : (l : LayoutParts) (locals : List ℕ) (unit : ℕ) → IsSound l → AreLocals l unit locals → (t : ℕ) → Contains locals t → t < length l.placed
+below l locals unit sound are t h = let o = (sound.owned unit t ((are.owned t).0 h)).1 in slice_get_within l.placed t o.0 o.1
 
 -- an element of a list, by its place
-pub element_is : (locals : List ℕ) (bound place : ℕ) → ((t : ℕ) → Contains locals t → t < bound) → place < length locals → slice_index locals place < bound
-element_is locals bound place all h = all (slice_index locals place) (Contains-get_or locals place 0 h)
+pub item_is : (locals : List ℕ) (bound place : ℕ) → ((t : ℕ) → Contains locals t → t < bound) → place < length locals → slice_index locals place < bound
+item_is locals bound place all h = all (slice_index locals place) (Contains-get_or locals place 0 h)
 
 -- what fails below a number and at it fails up to it
 pub none_up_to : (P : ℕ → Bool) (k : ℕ) → ((t : ℕ) → t < k → P t ≡ false) → P k ≡ false → (t : ℕ) → t < k + 1 → P t ≡ false

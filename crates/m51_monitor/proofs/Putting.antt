@@ -3,6 +3,7 @@ use Rattle.std.proofs.Common.{◌≡◌, ◌≢◌, ℕ, zero, suc, ◌+◌, ◌
 use Rattle.std.specs.Prelude.{if◌then◌else◌}
 use Rattle.std.specs.Int.{bit_at}
 use Rattle.std.proofs.lemmas.Bool.Decides.{eqb_tells}
+use Rattle.std.proofs.lemmas.Bool.{cases_lt}
 use Rattle.m51_alu.specs.Arithmetic.{bit_of}
 use Rattle.m51_cells.specs.declared.cell.Cell.{Cell}
 use Rattle.m51_cells.specs.declared.cell.Space.{Space}
@@ -18,8 +19,8 @@ use Rattle.m51_cells.specs.Cells.{IsDataCell}
 use Rattle.m51_monitor.specs.Masks.{IsCellAt, Mask, flag_in, flag_of, IsMarked}
 use Rattle.m51_monitor.specs.Shared.{Shared, masked, shared_cells, shared_barred, cells_put}
 use Rattle.m51_flat.specs.States.{ram_written, xram_written, written_in, state_over}
-use Rattle.m51_monitor.proofs.Marking.{lt_or_le}
 use Rattle.m51_monitor.proofs.Reading.{covers_or_not}
+use Rattle.m51_monitor.proofs.Truths.{if_false, if_true, not_false}
 
 open_at : (b : Bool) (c : Cell) (rest : Option Cell) → (if b then Some c else rest) ≡ None → (b ≡ false) × (rest ≡ None)
 open_at true c rest e = cc e
@@ -33,11 +34,7 @@ all_open barred (suc k) n e i low high =
     ⊎_elim
     (λ (q : n < i). all_open barred k (n + 1) h.1 i (omega (arith, q)) (omega (arith, high)))
     (λ (q : i ≤ n). let same : i ≡ n = omega (arith, q, low) in subst (λ i. barred (ram_cell i) ≡ false) (sym same) h.0)
-    (lt_or_le n i)
-
-live_where_open : (b : Bool) → not b ≡ false → b ≡ true
-live_where_open true e = refl
-live_where_open false e = cc e
+    (cases_lt n i)
 
 -- the cells of a put that is not shut are live
 pub put_lives : (m : Shared) (put : Put) → shut_of (shared_barred m) put ≡ None → (c : Cell) → Covers (cells_put put) c → flag_of m.live c ≡ true
@@ -46,24 +43,16 @@ put_lives m put e c h = by_put put e c.space c.at h.space h.from h.below
   where
     by_put : (put : Put) → shut_of (shared_barred m) put ≡ None → (s : Space) (n : ℕ) → s ≡ (cells_put put).space → (cells_put put).first ≤ n → n < (cells_put put).first + (cells_put put).len → flag_in m.live s n ≡ true
     by_put Nothing e s n same low high = absurd (omega (arith, low, high))
-    by_put (Byte a v) e s n same low high = subst (λ (s : Space). flag_in m.live s n ≡ true) (sym same) (live_where_open (flag_in m.live Ram n) (all_open (shared_barred m) 8 (8 * a) e n low high))
-    by_put (Bit a b) e s n same low high = subst (λ (s : Space). flag_in m.live s n ≡ true) (sym same) (live_where_open (flag_in m.live Ram n) (all_open (shared_barred m) 1 (256 + a) e n low high))
+    by_put (Byte a v) e s n same low high = subst (λ (s : Space). flag_in m.live s n ≡ true) (sym same) (not_false (flag_in m.live Ram n) (all_open (shared_barred m) 8 (8 * a) e n low high))
+    by_put (Bit a b) e s n same low high = subst (λ (s : Space). flag_in m.live s n ≡ true) (sym same) (not_false (flag_in m.live Ram n) (all_open (shared_barred m) 1 (256 + a) e n low high))
     by_put (Xbyte a v) e s n same low high =
         let here : n ≡ a = omega (arith, low, high) in
-        subst (λ (s : Space). flag_in m.live s n ≡ true) (sym same) (ap (λ n. flag_in m.live Xram n) here ∙ live_where_open (flag_in m.live Xram a) (open_at (shared_barred m (xram_cell a)) (xram_cell a) None e).0)
+        subst (λ (s : Space). flag_in m.live s n ≡ true) (sym same) (ap (λ n. flag_in m.live Xram n) here ∙ not_false (flag_in m.live Xram a) (open_at (shared_barred m (xram_cell a)) (xram_cell a) None e).0)
 
 -- a put writes a value into a cell that it covers, and into no other
 pub data Tells (put : Put) (c : Cell) (w : Option ℕ) : Type 0 where
   Inside : Covers (cells_put put) c → (v : ℕ) → w ≡ Some v → Tells put c w
   Beside : (Covers (cells_put put) c → ⊥) → w ≡ None → Tells put c w
-
-if_true : (b : Bool) (v : ℕ) → b ≡ true → (if b then Some v else None) ≡ Some v
-if_true true v e = refl
-if_true false v e = cc e
-
-if_false : (b : Bool) (v : ℕ) → b ≡ false → ◌≡◌ {A = Option ℕ} (if b then Some v else None) None
-if_false true v e = cc e
-if_false false v e = refl
 
 pub put_tells : (put : Put) (s : Space) (n : ℕ) → Tells put (record { space = s; at = n }) (written_in put s n)
 put_tells Nothing Ram n = Beside (λ h. absurd (omega (arith, h.below))) refl

@@ -3,6 +3,7 @@ use Rattle.std.proofs.Common.{◌≡◌, ◌≢◌, ◌⊎◌, inl, inr, ℕ, ze
 use Rattle.std.specs.Prelude.{slice_index, slice_index_or, if◌then◌else◌}
 use Rattle.std.specs.Int.{bit_at}
 use Rattle.std.proofs.lemmas.Bool.{lt-ltb, le-ltb}
+use Rattle.std.proofs.lemmas.Bool.{cases_lt}
 use Rattle.m51_cells.specs.declared.cell.Cell.{Cell}
 use Rattle.m51_cells.specs.declared.cell.Space.{Space}
 use Rattle.m51_cells.specs.declared.cell.Space.TheVariants.{Ram, Xram, Code}
@@ -17,7 +18,7 @@ use Rattle.m51_flat.proofs.Flat.{same_states}
 use Rattle.m51_cells.specs.Cells.{IsDataCell}
 use Rattle.m51_monitor.specs.Masks.{IsCellAt, Mask, IsMask, flag_in, flag_of, IsMarked}
 use Rattle.m51_monitor.specs.Shared.{Shared, masked, unwritten, shared_cells, shared_barred, IsTurned, turned_to, Blocks}
-use Rattle.m51_monitor.proofs.Marking.{lt_or_le, between_or_beside}
+use Rattle.m51_monitor.proofs.Marks.{between_or_beside}
 
 -- what holds of a cell of each memory
 pub by_space : (P : Space → ℕ → Type 0) → ((n : ℕ) → P Ram n) → ((n : ℕ) → P Xram n) → ((n : ℕ) → P Code n) → (s : Space) (n : ℕ) → P s n
@@ -33,8 +34,8 @@ none_behind (b ∷ flags) (suc n) h = none_behind flags n (omega (arith, h))
 
 -- only cells have flags
 pub flag_is_of_cell : (m : Mask) → IsMask m → (s : Space) (n : ℕ) → flag_in m s n ≡ true → IsCellAt s n
-flag_is_of_cell m is Ram n e = ⊎_elim (λ (h : n < 2048). (tt, h)) (λ (h : 2048 ≤ n). cc (e, none_behind m.ram n (omega (arith, h, is.ram)))) (lt_or_le n 2048)
-flag_is_of_cell m is Xram n e = ⊎_elim (λ (h : n < 65536). (tt, h)) (λ (h : 65536 ≤ n). cc (e, none_behind m.xram n (omega (arith, h, is.xram)))) (lt_or_le n 65536)
+flag_is_of_cell m is Ram n e = ⊎_elim (λ (h : n < 2048). (tt, h)) (λ (h : 2048 ≤ n). cc (e, none_behind m.ram n (omega (arith, h, is.ram)))) (cases_lt n 2048)
+flag_is_of_cell m is Xram n e = ⊎_elim (λ (h : n < 65536). (tt, h)) (λ (h : 65536 ≤ n). cc (e, none_behind m.xram n (omega (arith, h, is.xram)))) (cases_lt n 65536)
 flag_is_of_cell m is Code n e = cc e
 
 -- flat memory holds a value in each cell
@@ -62,14 +63,14 @@ xfresh m n h e f = rw (e, f) (fresh_state ((flat_cells m.memory).xram n) (slice_
 pub holds : (m : Shared) (n : ℕ) → flag_of m.live (ram_cell n) ≡ true → flag_of m.written (ram_cell n) ≡ true → (shared_cells m).ram n ≡ (flat_cells m.memory).ram n
 holds m n e f = rw (e, f) refl
 
-pub xbyte_dead : (m : Shared) (n : ℕ) → flag_of m.live (xram_cell n) ≡ false → xbyte_seen (shared_cells m) n ≡ Outside (xram_cell n)
-xbyte_dead m n e = rw e refl
+pub xdead : (m : Shared) (n : ℕ) → flag_of m.live (xram_cell n) ≡ false → xbyte_seen (shared_cells m) n ≡ Outside (xram_cell n)
+xdead m n e = rw e refl
 
-pub xbyte_fresh : (m : Shared) (n : ℕ) → n < 65536 → flag_of m.live (xram_cell n) ≡ true → flag_of m.written (xram_cell n) ≡ false → xbyte_seen (shared_cells m) n ≡ Unset (xram_cell n)
-xbyte_fresh m n h e f = ap (answered (xram_cell n)) (xfresh m n h e f)
+pub xnew : (m : Shared) (n : ℕ) → n < 65536 → flag_of m.live (xram_cell n) ≡ true → flag_of m.written (xram_cell n) ≡ false → xbyte_seen (shared_cells m) n ≡ Unset (xram_cell n)
+xnew m n h e f = ap (answered (xram_cell n)) (xfresh m n h e f)
 
-pub xbyte_value : (m : Shared) (n : ℕ) → flag_of m.live (xram_cell n) ≡ true → flag_of m.written (xram_cell n) ≡ true → xbyte_seen (shared_cells m) n ≡ xbyte_seen (flat_cells m.memory) n
-xbyte_value m n e f = rw (e, f) refl
+pub xhas : (m : Shared) (n : ℕ) → flag_of m.live (xram_cell n) ≡ true → flag_of m.written (xram_cell n) ≡ true → xbyte_seen (shared_cells m) n ≡ xbyte_seen (flat_cells m.memory) n
+xhas m n e f = rw (e, f) refl
 
 pub bit_value : (m : Shared) (n : ℕ) → (shared_cells m).ram n ≡ (flat_cells m.memory).ram n → bit_seen (shared_cells m) n ≡ bit_seen (flat_cells m.memory) n
 bit_value m n e = ap (answered (ram_cell n)) e
@@ -135,7 +136,7 @@ barred_at m zero first k low high before here = absurd (omega (arith, low, high)
 barred_at m (suc count) first k low high before here = ⊎_elim
     (λ (h : first < k). rw (before first (omega arith) h) (barred_at m count (first + 1) k (omega (arith, h)) (omega (arith, high)) (λ i l u. before i (omega (arith, l)) u) here))
     (λ (h : k ≤ first). let e : k ≡ first = omega (arith, h, low) in subst (λ n. Some (ram_cell k) ≡ (if not (flag_of m.live (ram_cell n)) then Some (ram_cell n) else first_barred (shared_barred m) count (n + 1))) e (rw here refl))
-    (lt_or_le first k)
+    (cases_lt first k)
 
 pub barred_none : (m : Shared) (count first : ℕ) → ((i : ℕ) → first ≤ i → i < first + count → flag_of m.live (ram_cell i) ≡ true) → None ≡ first_barred (shared_barred m) count first
 barred_none m zero first all = refl
@@ -158,7 +159,7 @@ filled_cells_are m fill e live written =
     by_end n end l w state live written = ⊎_elim
         (λ (h : n < end). rw (live h, written h) refl)
         (λ (h : end ≤ n). rw (le-ltb n end h) (past l w))
-        (lt_or_le n end)
+        (cases_lt n end)
 
 pub filled_is_live : (live written : Mask) → IsMask written → ((c : Cell) → IsDataCell c → flag_of live c ≡ true) → (c : Cell) → flag_of written c ≡ true → flag_of live c ≡ true
 filled_is_live live written is all c e = all c (flag_is_of_cell written is c.space c.at e)

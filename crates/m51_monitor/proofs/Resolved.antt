@@ -2,6 +2,7 @@
 use Rattle.std.proofs.Common.{◌≡◌, ◌≢◌, ℕ, zero, suc, ◌+◌, ◌<◌, ◌≤◌, Bool, true, false, not, ◌&&◌, Option, Some, None, List, [], ◌∷◌, refl, sym, ap, subst, ◌∙◌, ⊎_elim, arith}
 use Rattle.std.specs.Prelude.{slice_get, if◌then◌else◌}
 use Rattle.std.proofs.lemmas.Bool.{le-ltb}
+use Rattle.std.proofs.lemmas.Bool.{and_parts, cases_lt}
 use Rattle.m51_cells.specs.declared.cell.Cell.{Cell}
 use Rattle.m51_cells.specs.declared.cell.Space.{Space}
 use Rattle.m51_cells.specs.declared.cell.Space.TheVariants.{Ram, Xram, Code}
@@ -18,9 +19,8 @@ use Rattle.m51_monitor.specs.Shared.{Shared, shared_cells, shared_barred}
 use Rattle.m51_monitor.specs.SharedLaws.{shared_are_cells}
 use Rattle.m51_monitor.specs.Stores.{Stores, IsOver, Live, Resolves, InSegment, InCommon, Nowhere, is_common, is_data, is_over, StandsFor}
 use Rattle.m51_monitor.proofs.Changing.{lives_inside}
-use Rattle.m51_monitor.proofs.Marking.{lt_or_le}
 use Rattle.m51_monitor.proofs.Reading.{flag_is_of_cell}
-use Rattle.m51_monitor.proofs.Resolving.{common_or_over, is_data_cell, is_over_cell, one_answer, over_is, parts}
+use Rattle.m51_monitor.proofs.Resolving.{common_or_over, is_data_cell, is_over_cell, one_answer, over_is}
 
 -- the search answers a live segment over the cell
 abbrev IsFound : List Placed → ℕ → Live → Cell → Option ℕ → Type 0
@@ -51,7 +51,7 @@ found [] n live c = λ k p at alive over. cc at
 found (p ∷ ps) n live c = by_test (live n && is_over p c) refl (found ps (n + 1) live c)
   where
     by_test : (b : Bool) → (live n && is_over p c) ≡ b → IsFound ps (n + 1) live c (live_over ps (n + 1) live c) → IsFound (p ∷ ps) n live c (if b then Some n else live_over ps (n + 1) live c)
-    by_test true e h = let k = parts (live n) (is_over p c) e in (0, p, refl, (let z : n ≡ n + 0 = omega arith in z), k.0, k.1)
+    by_test true e h = let k = and_parts (live n) (is_over p c) e in (0, p, refl, (let z : n ≡ n + 0 = omega arith in z), k.0, k.1)
     by_test false e h = found_next p ps n live c (live_over ps (n + 1) live c) e h
 
 -- the live segment over a cell, or that there is none
@@ -101,11 +101,11 @@ cells_resolved l live m s one h =
     (λ n. ⊎_elim
     (λ (lt : n < 2048). one_answer l live s (ram_cell n) ((shared_cells m).ram n) (resolved l live s (ram_cell n)) one (h.cells (ram_cell n) (tt, lt)) (resolves l live s (ram_cell n) (tt, lt)))
     (λ (le : 2048 ≤ n). (shared_are_cells m).ram_end n le ∙ sym (no_data (is_data (ram_cell n)) (held_in s (ram_cell n) (is_common l (ram_cell n)) (segment_over l live (ram_cell n))) (le-ltb n 2048 le)))
-    (lt_or_le n 2048))
+    (cases_lt n 2048))
     (λ n. ⊎_elim
     (λ (lt : n < 65536). one_answer l live s (xram_cell n) ((shared_cells m).xram n) (resolved l live s (xram_cell n)) one (h.cells (xram_cell n) (tt, lt)) (resolves l live s (xram_cell n) (tt, lt)))
     (λ (le : 65536 ≤ n). (shared_are_cells m).xram_end n le ∙ sym (no_data (is_data (xram_cell n)) (held_in s (xram_cell n) (is_common l (xram_cell n)) (segment_over l live (xram_cell n))) (le-ltb n 65536 le)))
-    (lt_or_le n 65536))
+    (cases_lt n 65536))
 
 -- it bars the cells that are outside
 live_present : (state : CellState) → state ≢ Absent → false ≡ is_absent state

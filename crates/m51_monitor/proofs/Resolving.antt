@@ -4,6 +4,7 @@ use Rattle.std.specs.Prelude.{slice_get}
 use Rattle.std.specs.List.{list_any}
 use Rattle.std.proofs.lemmas.Bool.{lt-ltb, ltb-true}
 use Rattle.std.proofs.lemmas.Bool.Decides.{nat_tests}
+use Rattle.std.proofs.lemmas.Bool.{and_parts}
 use Rattle.m51_cells.specs.declared.cell.Cell.{Cell}
 use Rattle.m51_cells.specs.declared.cell.Space.{Space}
 use Rattle.m51_cells.specs.declared.cell.Space.TheVariants.{Ram, Xram, Code}
@@ -22,6 +23,7 @@ use Rattle.m51_cells.specs.Cells.{IsDataCell}
 use Rattle.m51_monitor.specs.Related.{OneLive}
 use Rattle.m51_monitor.specs.Stores.{Stores, IsOver, held, Live, Resolves, InSegment, InCommon, Nowhere, over, is_segment, is_in, covers, is_over, is_over_at, is_data_in, is_data, has_cell, is_common, put_into}
 use Rattle.m51_flat.specs.States.{written_to, state_over}
+use Rattle.m51_monitor.proofs.Truths.{both, is_le, le_is, or_after}
 
 -- coverage as a test
 segment_tells : (mark : Mark) → ((is_segment mark ≡ true) × IsSegment mark) ⊎ ((is_segment mark ≡ false) × (IsSegment mark → ⊥))
@@ -50,23 +52,10 @@ is_space a b e = subst (λ b. is_in a b ≡ true) e (same a)
     same Xram = refl
     same Code = refl
 
-both : (a b : Bool) → a ≡ true → b ≡ true → (a && b) ≡ true
-both a b e f = rw (e, f) refl
-
-pub parts : (a b : Bool) → (a && b) ≡ true → (a ≡ true) × (b ≡ true)
-parts true b e = (refl, e)
-parts false b e = cc e
-
-le_is : (a b : ℕ) → nat_le a b ≡ true → a ≤ b
-le_is a b e = grind (arith, nat_tests)
-
-is_le : (a b : ℕ) → a ≤ b → nat_le a b ≡ true
-is_le a b e = grind (arith, nat_tests)
-
 pub covers_is : (e : Extent) (c : Cell) → covers e c ≡ true → Covers e c
 covers_is e c h =
-    let p = parts (is_in c.space e.space) (nat_le e.first c.at && nat_lt c.at (e.first + e.len)) h in
-    let q = parts (nat_le e.first c.at) (nat_lt c.at (e.first + e.len)) p.1 in
+    let p = and_parts (is_in c.space e.space) (nat_le e.first c.at && nat_lt c.at (e.first + e.len)) h in
+    let q = and_parts (nat_le e.first c.at) (nat_lt c.at (e.first + e.len)) p.1 in
     record { space = space_is c.space e.space p.0; from = le_is e.first c.at q.0; below = ltb-true c.at (e.first + e.len) q.1 }
 
 pub is_covered : (e : Extent) (c : Cell) → Covers e c → covers e c ≡ true
@@ -92,7 +81,7 @@ data_cell_is c h = by_space c.space c.at h
 
 pub over_is : (p : Placed) (c : Cell) → is_over p c ≡ true → IsSegment p.mark × Covers (extent_at p) c
 over_is p c h =
-    let q = parts (is_segment p.mark) (covers (extent_at p) c) h in (
+    let q = and_parts (is_segment p.mark) (covers (extent_at p) c) h in (
       ⊎_elim (λ (t : (is_segment p.mark ≡ true) × IsSegment p.mark). t.1) (λ (t : (is_segment p.mark ≡ false) × (IsSegment p.mark → ⊥)). cc (q.0, t.0)) (segment_tells p.mark),
       covers_is (extent_at p) c q.1,
     )
@@ -107,10 +96,10 @@ over_at_is l t c None e h = cc h
 over_at_is l t c (Some p) e h = let k = over_is p c h in record { is = p; placed = e; segment = k.0; covers = k.1 }
 
 pub has_cell_is : (l : LayoutParts) (t : ℕ) (c : Cell) → has_cell l t c ≡ true → IsOver l t c
-has_cell_is l t c h = over_at_is l t c (slice_get l.placed t) refl (parts (is_data c) (is_over_at (slice_get l.placed t) c) h).1
+has_cell_is l t c h = over_at_is l t c (slice_get l.placed t) refl (and_parts (is_data c) (is_over_at (slice_get l.placed t) c) h).1
 
 pub has_cell_data : (l : LayoutParts) (t : ℕ) (c : Cell) → has_cell l t c ≡ true → IsDataCell c
-has_cell_data l t c h = data_cell_is c (parts (is_data c) (is_over_at (slice_get l.placed t) c) h).0
+has_cell_data l t c h = data_cell_is c (and_parts (is_data c) (is_over_at (slice_get l.placed t) c) h).0
 
 pub is_has_cell : (l : LayoutParts) (t : ℕ) (c : Cell) → IsDataCell c → IsOver l t c → has_cell l t c ≡ true
 is_has_cell l t c is h = both (is_data c) (is_over_at (slice_get l.placed t) c) (is_data_cell c is) (rw h.placed (is_over_cell h.is c h.segment h.covers))
@@ -127,14 +116,10 @@ over_some : (c : Cell) (ps : List Placed) → list_any (λ p. is_over p c) ps �
 over_some c [] h = cc h
 over_some c (p ∷ ps) h = over_first c p ps (is_over p c) (list_any (λ p. is_over p c) ps) refl (λ k. over_some c ps k) h
 
-or_behind : (b rest : Bool) → rest ≡ true → (b || rest) ≡ true
-or_behind true rest e = refl
-or_behind false rest e = e
-
 some_over : (c : Cell) (ps : List Placed) (t : ℕ) (p : Placed) → slice_get ps t ≡ Some p → is_over p c ≡ true → list_any (λ p. is_over p c) ps ≡ true
 some_over c [] t p e h = cc e
 some_over c (q ∷ ps) zero p e h = let same : q ≡ p = cc e in rw (subst (λ (p : Placed). is_over p c ≡ true) (sym same) h) refl
-some_over c (q ∷ ps) (suc t) p e h = or_behind (is_over q c) (list_any (λ p. is_over p c) ps) (some_over c ps t p e h)
+some_over c (q ∷ ps) (suc t) p e h = or_after (is_over q c) (list_any (λ p. is_over p c) ps) (some_over c ps t p e h)
 
 -- a cell of data memory is common, or some segment is over it
 pub common_or_over : (l : LayoutParts) (c : Cell) → IsDataCell c → ((is_common l c ≡ true) × ((t : ℕ) → IsOver l t c → ⊥)) ⊎ ((is_common l c ≡ false) × ((t : ℕ) × IsOver l t c))

@@ -1,6 +1,7 @@
 -- What stands, is related.
 use Rattle.std.proofs.Common.{◌≡◌, ◌≢◌, ◌⊎◌, inl, inr, ℕ, List, [], ◌∷◌, ◌++◌, refl, sym, ap, subst, ◌∙◌}
 use Rattle.std.specs.List.{Contains}
+use Rattle.m51_cells.proofs.Small.{contains_first}
 use Rattle.m51_module.specs.declared.parts.LayoutParts.{LayoutParts}
 use Rattle.m51_module.specs.Conflict.{Same, Before, After, FirstUnderNone, SecondUnderNone, UnderTwo}
 use Rattle.m51_module.specs.Plan.{IsRootAt, UnitLiesUnder, UnitsRelated, layout_graph}
@@ -9,10 +10,10 @@ use Rattle.m51_module.proofs.Owning.{none_in_empty}
 use Rattle.m51_module.proofs.Reach.{lead_on, under_on, under_root}
 use Rattle.m51_monitor.specs.declared.cause.Cause.{Cause}
 use Rattle.m51_monitor.specs.declared.cause.Cause.TheVariants.{Call, Interrupt}
-use Rattle.m51_monitor.specs.Records.{runs_also, StandsAbove, ReturnRecord, Records, units_named, named_over, first_or, running, BeginsAt, WalksOn, StandsOver, Stand}
+use Rattle.m51_monitor.specs.Records.{runs_also, IsWalkAbove, ReturnRecord, Records, units_named, named_over, first_or, running, BeginsAt, WalksOn, AreWalksOver, AreWalks}
 use Rattle.m51_monitor.specs.Related.{AreRelatedAll}
 use Rattle.m51_flat.specs.Vectors.{vector_of}
-use Rattle.m51_monitor.proofs.Lists.{contains_head, contains_tail, contains_cases, first_append}
+use Rattle.m51_monitor.proofs.Lists.{contains_tail, contains_cases, first_append}
 
 -- a unit leads to the current one c, under the root that runs; or it lies under another root
 data Stood (l : LayoutParts) (w c : ℕ) (ws : List ℕ) (a : ℕ) : Type 0 where
@@ -78,7 +79,7 @@ fine_first l w r h = record {
 }
 
 stood_below : (l : LayoutParts) (w c : ℕ) (ws : List ℕ) (v r a : ℕ) → Stood l w c ws a → (x : ℕ) × Contains (w ∷ ws) x × UnitLiesUnder l x a
-stood_below l w c ws v r a (Here p q) = (w, contains_head w ws, p)
+stood_below l w c ws v r a (Here p q) = (w, contains_first w ws, p)
 stood_below l w c ws v r a (Elsewhere x q p) = (x, contains_tail x w ws q, p)
 
 -- another root runs above
@@ -114,7 +115,7 @@ go_above : (l : LayoutParts) (w : ℕ) (ws below us : List ℕ) → Fine l w (fi
 go_above l w ws below [] f h = f
 go_above l w ws below (v ∷ vs) f h = fine_on l w (first_or (vs ++ below) 0) v ws (vs ++ below) (go_above l w ws below vs f h.1) (subst (λ u. HasEdge l.edges u v) (sym (first_append vs below 0)) h.0)
 
-stack_above : (l : LayoutParts) (busy below : List ℕ) (cause : Cause) (us : List ℕ) → StandsAbove l below busy cause us → Stacked l busy below → Stacked l (runs_also cause busy) (us ++ below)
+stack_above : (l : LayoutParts) (busy below : List ℕ) (cause : Cause) (us : List ℕ) → IsWalkAbove l below busy cause us → Stacked l busy below → Stacked l (runs_also cause busy) (us ++ below)
 stack_above l busy below Call us h s = record { w = s.w; ws = s.ws; is = s.is; fine = go_above l s.w s.ws below us s.fine h }
 stack_above l busy below (Interrupt source) us h s = record {
   w = vector_of source;
@@ -123,10 +124,10 @@ stack_above l busy below (Interrupt source) us h s = record {
   fine = begin_above l s.w (first_or below 0) (vector_of source) s.ws below us s.fine (subst (λ vs. Contains vs (vector_of source) → ⊥) s.is h.1) h.0;
 }
 
-stacked : (l : LayoutParts) (reset : List ℕ) (rs : List ReturnRecord) → StandsOver l reset rs → Stacked l (running rs) (named_over reset rs)
+stacked : (l : LayoutParts) (reset : List ℕ) (rs : List ReturnRecord) → AreWalksOver l reset rs → Stacked l (running rs) (named_over reset rs)
 stacked l reset [] h = record { w = 0; ws = []; is = refl; fine = begin_first l 0 reset h }
 stacked l reset (r ∷ rs) h = stack_above l (running rs) (named_over reset rs) r.cause r.units h.0 (stacked l reset rs h.1)
 
 -- all active units are related
-pub all_related : (l : LayoutParts) (a : Records) → Stand l a → AreRelatedAll l (units_named a)
+pub all_related : (l : LayoutParts) (a : Records) → AreWalks l a → AreRelatedAll l (units_named a)
 all_related l a h = record { each = (stacked l a.reset a.returns h.over).fine.pairs }

@@ -29,8 +29,9 @@ use Rattle.m51_monitor.proofs.Entering.{plain_lives}
 use Rattle.m51_monitor.proofs.Liveness.{is_live, mark_tells, overlaid_tells}
 use Rattle.m51_monitor.proofs.Placing.{last_or_before, next_turned, none_among, turned_as}
 use Rattle.m51_monitor.proofs.Resolving.{common_or_over, is_has_cell}
+use Rattle.m51_monitor.proofs.Truths.{if_false, if_true}
 
-mark_is : (mark : Mark) → is_overlaid_mark mark ≡ true → mark ≡ Overlaid
+pub mark_is : (mark : Mark) → is_overlaid_mark mark ≡ true → mark ≡ Overlaid
 mark_is mark e = ⊎_elim (λ (k : (is_overlaid_mark mark ≡ true) × (mark ≡ Overlaid)). k.1) (λ (k : (is_overlaid_mark mark ≡ false) × (mark ≢ Overlaid)). cc (e, k.0)) (mark_tells mark)
 
 mark_is_not : (mark : Mark) → is_overlaid_mark mark ≡ false → mark ≢ Overlaid
@@ -66,14 +67,6 @@ filled_at fill Ram n h = rw (lt-ltb n 2048 h.1) refl
 filled_at fill Xram n h = rw (lt-ltb n 65536 h.1) refl
 filled_at fill Code n h = absurd h.0
 
-if_some : (b : Bool) (v : ℕ) → b ≡ true → (if b then Some v else None) ≡ Some v
-if_some true v e = refl
-if_some false v e = cc e
-
-if_none : (b : Bool) (v : ℕ) → b ≡ false → ◌≡◌ {A = Option ℕ} (if b then Some v else None) None
-if_none true v e = cc e
-if_none false v e = refl
-
 both : (a b : Bool) → a ≡ false → b ≡ true → (not a && b) ≡ true
 both a b e f = rw (e, f) refl
 
@@ -96,11 +89,11 @@ dead_overlaid l us t e = by_mark (is_overlaid_at (slice_get l.placed t)) refl
 
 pub filled_are_stores : (l : LayoutParts) (us : List ℕ) (fill : ℕ) → AreStores l (live_by l us) (filled_stores l fill)
 filled_are_stores l us fill = record {
-  of_segment = λ t c e. if_none (not (is_overlaid_at (slice_get l.placed t)) && has_cell l t c) (fill_in fill c.space c.at) (no_cell (is_overlaid_at (slice_get l.placed t)) (has_cell l t c) e);
-  of_common = λ c e. if_none (is_common l c) (fill_in fill c.space c.at) e;
-  dead = λ t c e. if_none (not (is_overlaid_at (slice_get l.placed t)) && has_cell l t c) (fill_in fill c.space c.at) (overlaid_none (is_overlaid_at (slice_get l.placed t)) (has_cell l t c) (dead_overlaid l us t e));
-  plain = λ t c e f. set_is ((filled_stores l fill).segment t c) (fill_in fill c.space c.at) (if_some (not (is_overlaid_at (slice_get l.placed t)) && has_cell l t c) (fill_in fill c.space c.at) (both (is_overlaid_at (slice_get l.placed t)) (has_cell l t c) e f));
-  common = λ c e. set_is ((filled_stores l fill).common c) (fill_in fill c.space c.at) (if_some (is_common l c) (fill_in fill c.space c.at) e);
+  of_segment = λ t c e. if_false (not (is_overlaid_at (slice_get l.placed t)) && has_cell l t c) (fill_in fill c.space c.at) (no_cell (is_overlaid_at (slice_get l.placed t)) (has_cell l t c) e);
+  of_common = λ c e. if_false (is_common l c) (fill_in fill c.space c.at) e;
+  dead = λ t c e. if_false (not (is_overlaid_at (slice_get l.placed t)) && has_cell l t c) (fill_in fill c.space c.at) (overlaid_none (is_overlaid_at (slice_get l.placed t)) (has_cell l t c) (dead_overlaid l us t e));
+  plain = λ t c e f. set_is ((filled_stores l fill).segment t c) (fill_in fill c.space c.at) (if_true (not (is_overlaid_at (slice_get l.placed t)) && has_cell l t c) (fill_in fill c.space c.at) (both (is_overlaid_at (slice_get l.placed t)) (has_cell l t c) e f));
+  common = λ c e. set_is ((filled_stores l fill).common c) (fill_in fill c.space c.at) (if_true (is_common l c) (fill_in fill c.space c.at) e);
 }
 
 not_overlaid : (l : LayoutParts) (t : ℕ) → (IsOverlaid l t → ⊥) → is_overlaid_at (slice_get l.placed t) ≡ false
@@ -122,13 +115,13 @@ module _ (l : LayoutParts) (fill : ℕ) (sound : IsSound l) where
       (λ same. live_is_plain l u live (subst (IsOverlaid l) same k.overlaid))
       (SecondPlain (live_is_plain l u live)) (c, h, q.covers)) f
   start_resolves c old new is e (Beside none f) = ⊎_elim
-      (λ (k : (is_common l c ≡ true) × ((t : ℕ) → IsOver l t c → ⊥)). InCommon k.1 (f ∙ e ∙ ap held (sym (if_some (is_common l c) (fill_in fill c.space c.at) k.0))))
+      (λ (k : (is_common l c ≡ true) × ((t : ℕ) → IsOver l t c → ⊥)). InCommon k.1 (f ∙ e ∙ ap held (sym (if_true (is_common l c) (fill_in fill c.space c.at) k.0))))
       (λ (k : (is_common l c ≡ false) × ((t : ℕ) × IsOver l t c)).
       let t = k.1.0 in
       let q = k.1.1 in
       let plain = not_overlaid l t (λ o. none t (record { below = slice_get_within l.placed t q.is q.placed; overlaid = o }) q.is q.placed q.covers) in
       InSegment t q (plain_lives l [] t plain)
-      (f ∙ e ∙ ap held (sym (if_some (not (is_overlaid_at (slice_get l.placed t)) && has_cell l t c) (fill_in fill c.space c.at) (both (is_overlaid_at (slice_get l.placed t)) (has_cell l t c) plain (is_has_cell l t c is q))))))
+      (f ∙ e ∙ ap held (sym (if_true (not (is_overlaid_at (slice_get l.placed t)) && has_cell l t c) (fill_in fill c.space c.at) (both (is_overlaid_at (slice_get l.placed t)) (has_cell l t c) plain (is_has_cell l t c is q))))))
       (common_or_over l c is)
 
   pub start_stands : (m m' : Shared) → shared_cells m ≡ filled_cells fill → AreTurned l (IsOverlaidAmong l (length l.placed)) Absent m m' → StandsFor l (live_by l []) m' (filled_stores l fill)

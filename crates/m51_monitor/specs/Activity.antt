@@ -4,6 +4,7 @@ use Rattle.std.specs.Prelude.{◌≡◌, ℕ, ◌<◌, Bool, ◌&&◌, nat_eq, L
 use Rattle.std.specs.List.{Contains}
 use Rattle.m51_cells.specs.declared.cell.Cell.{Cell}
 use Rattle.m51_module.specs.declared.parts.LayoutParts.{LayoutParts}
+use Rattle.m51_monitor.specs.declared.activity.TheConstants.{MOST_NAMED}
 use Rattle.m51_monitor.specs.Records.{one_more_where}
 use Rattle.m51_monitor.specs.Related.{AreRelatedAll}
 use Rattle.m51_monitor.specs.Shared.{Shared}
@@ -34,7 +35,7 @@ pub record IsActivity (l : LayoutParts) (units numbers : List ℕ) (store : Shar
 -- the unit may be named once more
 pub record MayEnter (l : LayoutParts) (units : List ℕ) (unit : ℕ) : Type 0 where
   pub unit_is : unit < length l.units
-  pub room : length units < 3000
+  pub room : length units < MOST_NAMED
   pub few : times units unit < 3
   pub related : AreRelatedAll l (unit ∷ units)
 

@@ -23,7 +23,8 @@ extent_passes placed test (Some s) = passes test (slice_get placed s)
 -- the first of these units, counted from a number on, whose extent passes the test
 abbrev pub first_unit : List Placed → (Placed → Bool) → List ℕ → ℕ → Option ℕ
 first_unit placed test [] number = None
-first_unit placed test (s ∷ more) number = if extent_passes placed test (Some s) then Some number else first_unit placed test more (number + 1)
+first_unit placed test (s ∷ more) number =
+    if extent_passes placed test (Some s) then Some number else first_unit placed test more (number + 1)
 
 -- the extent covers the address
 abbrev pub covers_address : ℕ → Placed → Bool

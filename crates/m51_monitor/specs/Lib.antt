@@ -6,6 +6,7 @@ pub mod Laws
 pub mod Masks
 pub mod Monitored
 pub mod Records
+pub mod Reached
 pub mod Related
 pub mod Resolved
 pub mod Rising

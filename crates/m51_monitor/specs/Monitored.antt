@@ -10,7 +10,7 @@ use Rattle.m51_monitor.specs.declared.step.Move.{Move}
 use Rattle.m51_flat.specs.declared.state.Put.{Put}
 use Rattle.m51_flat.specs.declared.state.Put.TheVariants.{Byte}
 use Rattle.m51_monitor.specs.declared.step.Move.TheVariants.{Stay, Return, Jump as JumpTo, Interrupt as InterruptTo}
-use Rattle.m51_monitor.specs.Records.{Records, Stand, units_named, naming}
+use Rattle.m51_monitor.specs.Records.{Records, AreWalks, units_named, naming}
 use Rattle.m51_monitor.specs.Rising.{HeightsRise, interrupts}
 use Rattle.m51_monitor.specs.Shared.{Shared}
 use Rattle.m51_monitor.specs.Stores.{IsOver, Live, Stores, StandsFor, filled_stores, live_by, put_into, unset_dead}
@@ -26,8 +26,8 @@ abbrev pub live_in : LayoutParts → Records → Live
 live_in l a = live_by l (units_named a)
 
 -- Records that a run may have: they stand, SP rises from each to the next, and two interrupts are in progress at most.
-pub record MayBe (l : LayoutParts) (a : Records) : Type 0 where
-  pub stand : Stand l a
+pub record AreActivations (l : LayoutParts) (a : Records) : Type 0 where
+  pub stand : AreWalks l a
   pub heights : HeightsRise a.returns
   pub levels : interrupts a.returns ≤ 2
 
@@ -40,12 +40,12 @@ abbrev pub stores_after : LayoutParts → Records → Records → Effect → Sto
 stores_after l a b e s = stores_changed l b (put_into l (live_in l a) e.second (put_into l (live_in l a) e.first s))
 
 -- the monitor's memory stands for the stores
-abbrev pub Holds : Monitored → Stores → Type 0
-Holds m s = StandsFor m.layout (live_in m.layout m.records) m.store s
+abbrev pub MonitorStandsFor : Monitored → Stores → Type 0
+MonitorStandsFor m s = StandsFor m.layout (live_in m.layout m.records) m.store s
 
 -- whichever stores the memory stands for, it stands afterwards for them after the change
-abbrev pub KeepsThrough : (Stores → Stores) → Monitored → Monitored → Type 0
-KeepsThrough change old new = (s : Stores) → Holds old s → Holds new (change s)
+abbrev pub StandsAfter : (Stores → Stores) → Monitored → Monitored → Type 0
+StandsAfter change old new = (s : Stores) → MonitorStandsFor old s → MonitorStandsFor new (change s)
 
 -- the table allowed the move, for a processor before the effect
 pub record WasJudged (m : Monitored) (e : Effect) (step : Move) : Type 0 where
@@ -85,10 +85,10 @@ pub record IsStart (l : LayoutParts) (fill : ℕ) (m : Monitored) : Type 0 where
   pub root : ℕ
   pub is_root : IsRootAt l 0 root
   pub records : m.records ≡ started root
-  pub stores : Holds m (filled_stores l fill)
+  pub stores : MonitorStandsFor m (filled_stores l fill)
 
--- the segment of that number is live and over the cell of data memory, so that its store is the one that answers: stores
--- have no cells of program memory
+-- the segment of that number is live and over the cell of data memory, so that its store is the one that answers:
+-- stores have no cells of program memory
 pub record AnswersAt (m : Monitored) (c : Cell) (t : ℕ) : Type 0 where
   pub of_data : IsDataCell c
   pub over : IsOver m.layout t c

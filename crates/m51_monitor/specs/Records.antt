@@ -2,7 +2,7 @@
 use Rattle.std.specs.Prelude.{ℕ, ◌+◌, Bool, true, false, nat_eq, List, [], ◌∷◌, ◌++◌}
 use Rattle.std.specs.List.{Contains, list_any}
 use Rattle.m51_module.specs.declared.parts.LayoutParts.{LayoutParts}
-use Rattle.m51_module.specs.Plan.{IsOverlaid, Owns, IsRootAt}
+use Rattle.m51_module.specs.Plan.{IsRootAt}
 use Rattle.m51_module.specs.Walks.{Edges, HasEdge}
 use Rattle.m51_monitor.specs.declared.cause.Cause.{Cause}
 use Rattle.m51_monitor.specs.declared.cause.Cause.TheVariants.{Call, Interrupt}
@@ -11,7 +11,7 @@ use Rattle.m51_flat.specs.Vectors.{vector_of}
 -- A return record: its cause, the return address, SP after the push, and the units that it names, the last first.
 pub record ReturnRecord : Type 0 where
   pub cause : Cause
-  pub back : ℕ
+  pub return_address : ℕ
   pub sp : ℕ
   pub units : List ℕ
 
@@ -36,14 +36,6 @@ first_or (v ∷ vs) u = v
 -- the current unit: the last one of the topmost record that has one
 abbrev pub current : Records → ℕ
 current a = first_or (units_named a) 0
-
--- a unit is active where some record names it
-abbrev pub IsActive : Records → ℕ → Type 0
-IsActive a u = Contains (units_named a) u
-
--- a segment is live where it is not overlaid or some owner is active
-abbrev pub IsLive : LayoutParts → Records → ℕ → Type 0
-IsLive l a s = IsOverlaid l s → (u : ℕ) × Owns l u s × IsActive a u
 
 -- one of these
 abbrev pub is_among : List ℕ → ℕ → Bool
@@ -81,17 +73,19 @@ abbrev pub WalksOn : Edges → ℕ → List ℕ → Type 0
 WalksOn edges u [] = Unit {0}
 WalksOn edges u (v ∷ vs) = HasEdge edges (first_or vs u) v × WalksOn edges u vs
 
--- The units of a call's record go on from the unit that was current; those of an interrupt's begin at its root, which was
--- not running.
-abbrev pub StandsAbove : LayoutParts → List ℕ → List ℕ → Cause → List ℕ → Type 0
-StandsAbove l below busy Call units = WalksOn l.edges (first_or below 0) units
-StandsAbove l below busy (Interrupt source) units = BeginsAt l (vector_of source) units × (Contains busy (vector_of source) → ⊥)
+-- The units of a call's record go on from the unit that was current; those of an interrupt's begin at its root, which
+-- was not running.
+abbrev pub IsWalkAbove : LayoutParts → List ℕ → List ℕ → Cause → List ℕ → Type 0
+IsWalkAbove l below busy Call units = WalksOn l.edges (first_or below 0) units
+IsWalkAbove l below busy (Interrupt source) units =
+    BeginsAt l (vector_of source) units × (Contains busy (vector_of source) → ⊥)
 
-abbrev pub StandsOver : LayoutParts → List ℕ → List ReturnRecord → Type 0
-StandsOver l reset [] = BeginsAt l 0 reset
-StandsOver l reset (r ∷ rs) = StandsAbove l (named_over reset rs) (running rs) r.cause r.units × StandsOver l reset rs
+abbrev pub AreWalksOver : LayoutParts → List ℕ → List ReturnRecord → Type 0
+AreWalksOver l reset [] = BeginsAt l 0 reset
+AreWalksOver l reset (r ∷ rs) =
+    IsWalkAbove l (named_over reset rs) (running rs) r.cause r.units × AreWalksOver l reset rs
 
 -- The units named from a reset or interrupt record up to the next interrupt record form a walk that begins with that
 -- record's root, and no root has two of these records.
-pub record Stand (l : LayoutParts) (a : Records) : Type 0 where
-  pub over : StandsOver l a.reset a.returns
+pub record AreWalks (l : LayoutParts) (a : Records) : Type 0 where
+  pub over : AreWalksOver l a.reset a.returns

@@ -1,6 +1,8 @@
 -- SP and the records.
 use Rattle.std.specs.Prelude.{◌≡◌, ◌≤◌, ◌<◌, ℕ, ◌+◌, Bool, true, false, List, [], ◌∷◌, ◌++◌, length, take, drop}
 use Rattle.m51_flat.specs.declared.state.Cpu.{Cpu}
+use Rattle.m51_flat.specs.declared.state.Level.{Level}
+use Rattle.m51_flat.specs.declared.state.Level.TheVariants.{Low, High}
 use Rattle.m51_monitor.specs.declared.cause.Cause.{Cause}
 use Rattle.m51_monitor.specs.declared.cause.Cause.TheVariants.{Call, Interrupt}
 use Rattle.m51_monitor.specs.declared.step.Move.{Move}
@@ -26,11 +28,6 @@ abbrev pub interrupts : List ReturnRecord → ℕ
 interrupts [] = 0
 interrupts (r ∷ rs) = one_more r.cause (interrupts rs)
 
--- the level of priority at which an interrupt is taken
-pub data Level : Type 0 where
-  Low : Level
-  High : Level
-
 -- the levels in progress, the uppermost first: a high one interrupts a low one
 abbrev pub in_progress : Bool → Bool → List Level
 in_progress false false = []
@@ -41,8 +38,8 @@ in_progress true true = High ∷ Low ∷ []
 abbrev pub levels : Cpu → List Level
 levels cpu = in_progress cpu.low cpu.high
 
--- Each interrupt that has a record was taken at a level, of the topmost record first. These are the levels in progress, so
--- that a low one is below a high one.
+-- Each interrupt that has a record was taken at a level, of the topmost record first. These are the levels in progress,
+-- so that a low one is below a high one.
 pub record HaveLevels (returns : List ReturnRecord) (taken progress : List Level) : Type 0 where
   pub each : length taken ≡ interrupts returns
   pub same : taken ≡ progress

@@ -41,13 +41,14 @@ held (Some v) = Holds v
 abbrev pub Live : Type 0
 Live = ℕ → Bool
 
--- What the separate stores answer in a cell: the live segment over it, or the common store where no segment is over it, or
--- else the cell is outside. In a sound layout, where the records stand, at most one live segment is over a cell, so that
--- no order among several is needed.
+-- What the separate stores answer in a cell: the live segment over it, or the common store where no segment is over it,
+-- or else the cell is outside. In a sound layout, where the units of the records form walks, at most one live segment
+-- is over a cell, so that no order among several is needed.
 pub data Resolves (l : LayoutParts) (live : Live) (s : Stores) (c : Cell) (state : CellState) : Type 0 where
   InSegment : (t : ℕ) → IsOver l t c → live t ≡ true → state ≡ held (s.segment t c) → Resolves l live s c state
   InCommon : ((t : ℕ) → IsOver l t c → ⊥) → state ≡ held (s.common c) → Resolves l live s c state
-  Nowhere : (t : ℕ) → IsOver l t c → ((t : ℕ) → IsOver l t c → live t ≡ true → ⊥) → state ≡ Absent → Resolves l live s c state
+  Nowhere : (t : ℕ) → IsOver l t c → ((t : ℕ) → IsOver l t c → live t ≡ true → ⊥) → state ≡ Absent
+      → Resolves l live s c state
 
 -- liveness as a test, by the units that are active
 abbrev pub is_overlaid_mark : Mark → Bool
@@ -133,7 +134,8 @@ fill_in fill Code at = fill
 -- the stores at the start: the fill in each plain segment and in the common store, and overlaid segments unset
 abbrev pub filled_stores : LayoutParts → ℕ → Stores
 filled_stores l fill = record {
-  segment = λ t c. if not (is_overlaid_at (slice_get l.placed t)) && has_cell l t c then Some (fill_in fill c.space c.at) else None;
+  segment = λ t c.
+      if not (is_overlaid_at (slice_get l.placed t)) && has_cell l t c then Some (fill_in fill c.space c.at) else None;
   common = λ c. if is_common l c then Some (fill_in fill c.space c.at) else None;
 }
 
@@ -147,12 +149,13 @@ pub record AreStores (l : LayoutParts) (live : Live) (s : Stores) : Type 0 where
   pub of_segment : (t : ℕ) (c : Cell) → has_cell l t c ≡ false → s.segment t c ≡ None
   pub of_common : (c : Cell) → is_common l c ≡ false → s.common c ≡ None
   pub dead : (t : ℕ) (c : Cell) → live t ≡ false → s.segment t c ≡ None
-  pub plain : (t : ℕ) (c : Cell) → is_overlaid_at (slice_get l.placed t) ≡ false → has_cell l t c ≡ true → IsSet (s.segment t c)
+  pub plain : (t : ℕ) (c : Cell) → is_overlaid_at (slice_get l.placed t) ≡ false → has_cell l t c ≡ true
+      → IsSet (s.segment t c)
   pub common : (c : Cell) → is_common l c ≡ true → IsSet (s.common c)
 
--- The one memory stands for the separate stores: each of its cells holds what the cell resolves to. So the live mask has
--- the common cells and those that a live segment covers, the written mask has those of them whose resolved value is set,
--- and on these the memory has that value.
+-- The one memory stands for the separate stores: each of its cells holds what the cell resolves to. So the live mask
+-- has the common cells and those that a live segment covers, the written mask has those of them whose resolved value is
+-- set, and on these the memory has that value.
 pub record StandsFor (l : LayoutParts) (live : Live) (m : Shared) (s : Stores) : Type 0 where
   pub stores : AreStores l live s
   pub cells : (c : Cell) → IsDataCell c → Resolves l live s c (cell_state m c)

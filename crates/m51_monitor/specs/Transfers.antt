@@ -15,7 +15,7 @@ use Rattle.m51_flat.specs.declared.state.Transfer.TheVariants.{Next, Jump, Call,
 use Rattle.m51_flat.specs.Sfr.{latch, sp}
 use Rattle.m51_module.specs.declared.parts.LayoutParts.{LayoutParts}
 use Rattle.m51_module.specs.Plan.{IsUnitAt, IsRootAt}
-use Rattle.m51_module.specs.Walks.{Edges}
+use Rattle.m51_module.specs.Walks.{has_edge}
 use Rattle.m51_monitor.specs.declared.cause.Cause.{Cause}
 use Rattle.m51_monitor.specs.declared.cause.Cause.TheVariants.{Call as ByCall, Interrupt as ByInterrupt}
 use Rattle.m51_monitor.specs.declared.cause.Frame.{Frame}
@@ -24,22 +24,15 @@ use Rattle.m51_monitor.specs.declared.step.Move.TheVariants.{Stay, Local, Return
 use Rattle.m51_monitor.specs.Records.{ReturnRecord, Records, named_over, first_or, current}
 use Rattle.m51_flat.specs.Vectors.{vector_of}
 
--- an edge leads from the first unit to the second
-abbrev pub is_edge : ℕ → ℕ → ℕ × ℕ → Bool
-is_edge from to edge = if nat_eq from edge.0 then nat_eq to edge.1 else false
-
-abbrev pub leads : Edges → ℕ → ℕ → Bool
-leads edges from to = list_any (is_edge from to) edges
-
 -- refused where the test holds
 abbrev pub unless : Bool → Why → Result Move Why → Result Move Why
 unless true why rest = Err why
 unless false why rest = rest
 
 -- SP is less than that of the topmost return record plus so much
-abbrev pub is_low : List ReturnRecord → ℕ → ℕ → Bool
-is_low [] more top = false
-is_low (r ∷ rs) more top = nat_lt top (r.sp + more)
+abbrev pub is_sp_below : List ReturnRecord → ℕ → ℕ → Bool
+is_sp_below [] more sp_after = false
+is_sp_below (r ∷ rs) more sp_after = nat_lt sp_after (r.sp + more)
 
 -- the unit is the one at the target
 abbrev pub is_at : Option ℕ → ℕ → Bool
@@ -56,16 +49,17 @@ move_to true u = CallTo u
 move_to false u = JumpTo u
 
 -- A jump or a call to the unit at the target: within the current unit, or along an edge.
-abbrev pub goes : LayoutParts → ℕ → Bool → Bool → Option ℕ → Result Move Why
-goes l from low call None = Err NoUnit
-goes l from low call (Some u) =
+abbrev pub jump_or_call : LayoutParts → ℕ → Bool → Bool → Option ℕ → Result Move Why
+jump_or_call l from low call None = Err NoUnit
+jump_or_call l from low call (Some u) =
     if nat_eq u from then unless low SpBelow (Ok (within call))
-    else unless (not (leads l.edges from u)) NoEdge (unless low SpBelow (Ok (move_to call u)))
+    else unless (not (has_edge l.edges from u)) NoEdge (unless low SpBelow (Ok (move_to call u)))
 
 -- a return to where a record says, where in_unit says whether the target lies in the unit that is current afterwards
 abbrev pub returns_to : ℕ → ℕ → ℕ → ℕ → Bool → Result Move Why
-returns_to recorded back top to in_unit =
-    unless (not (nat_eq top recorded)) SpMoved (unless (not (nat_eq to back)) WrongAddress (unless (not in_unit) PastEnd (Ok Return)))
+returns_to recorded return_address sp_before to in_unit =
+    unless (not (nat_eq sp_before recorded)) SpMoved
+    (unless (not (nat_eq to return_address)) WrongAddress (unless (not in_unit) PastEnd (Ok Return)))
 
 -- the record was made by a call, or by an interrupt
 abbrev pub is_call : Cause → Bool
@@ -76,36 +70,42 @@ abbrev pub is_by : Bool → Cause → Bool
 is_by true cause = is_call cause
 is_by false cause = not (is_call cause)
 
-abbrev pub ends : List ℕ → List ReturnRecord → Bool → ℕ → ℕ → Option ℕ → Result Move Why
-ends reset [] call top to at = Err NotCalled
-ends reset (r ∷ rs) call top to at =
-    unless (not (is_by call r.cause)) NotCalled (returns_to r.sp r.back top to (is_at at (first_or (named_over reset rs) 0)))
+abbrev pub return_move : List ℕ → List ReturnRecord → Bool → ℕ → ℕ → Option ℕ → Result Move Why
+return_move reset [] call sp_before to at = Err NotCalled
+return_move reset (r ∷ rs) call sp_before to at =
+    unless (not (is_by call r.cause)) NotCalled
+    (returns_to r.sp r.return_address sp_before to (is_at at (first_or (named_over reset rs) 0)))
 
 -- the same of a frame
 abbrev pub returns_from : Frame → Bool → ℕ → ℕ → Bool → Result Move Why
-returns_from f call top to inside = unless (not (is_by call f.cause)) NotCalled (returns_to f.sp f.back top to inside)
+returns_from f call sp_before to inside =
+    unless (not (is_by call f.cause)) NotCalled (returns_to f.sp f.return_address sp_before to inside)
 
 -- a record of the root at the vector is there
-abbrev pub runs_at : ℕ → Cause → Bool
-runs_at vector ByCall = false
-runs_at vector (ByInterrupt source) = nat_eq (vector_of source) vector
+abbrev pub is_of_root : ℕ → Cause → Bool
+is_of_root vector ByCall = false
+is_of_root vector (ByInterrupt source) = nat_eq (vector_of source) vector
 
 abbrev pub is_busy : List ReturnRecord → ℕ → Bool
-is_busy returns vector = list_any (λ r. runs_at vector r.cause) returns
+is_busy returns vector = list_any (λ r. is_of_root vector r.cause) returns
 
 abbrev pub interrupts_to : Records → Source → Bool → Option ℕ → Result Move Why
 interrupts_to a source low None = Err NoHandler
-interrupts_to a source low (Some root) = unless (is_busy a.returns (vector_of source)) RootBusy (unless low SpBelow (Ok (InterruptTo source root)))
+interrupts_to a source low (Some root) =
+    unless (is_busy a.returns (vector_of source)) RootBusy (unless low SpBelow (Ok (InterruptTo source root)))
 
--- The table. SP before the step is top and after it new, and to is the target; at is the unit there, and root the one that
--- begins at the vector.
+-- The table. The target is to, at is the unit there, and root the one that begins at the vector.
 abbrev pub judged_as : LayoutParts → Records → ℕ → ℕ → ℕ → Transfer → Option ℕ → Option ℕ → Result Move Why
-judged_as l a top new to Next at root = unless (not (is_at at (current a))) PastEnd (unless (is_low a.returns 0 new) SpBelow (Ok Stay))
-judged_as l a top new to Jump at root = goes l (current a) (is_low a.returns 0 new) false at
-judged_as l a top new to Call at root = goes l (current a) (is_low a.returns 2 new) true at
-judged_as l a top new to Ret at root = ends a.reset a.returns true top to at
-judged_as l a top new to Reti at root = ends a.reset a.returns false top to at
-judged_as l a top new to (Vector source) at root = interrupts_to a source (is_low a.returns 2 new) root
+judged_as l a sp_before sp_after to Next at root =
+    unless (not (is_at at (current a))) PastEnd (unless (is_sp_below a.returns 0 sp_after) SpBelow (Ok Stay))
+judged_as l a sp_before sp_after to Jump at root =
+    jump_or_call l (current a) (is_sp_below a.returns 0 sp_after) false at
+judged_as l a sp_before sp_after to Call at root =
+    jump_or_call l (current a) (is_sp_below a.returns 2 sp_after) true at
+judged_as l a sp_before sp_after to Ret at root = return_move a.reset a.returns true sp_before to at
+judged_as l a sp_before sp_after to Reti at root = return_move a.reset a.returns false sp_before to at
+judged_as l a sp_before sp_after to (Vector source) at root =
+    interrupts_to a source (is_sp_below a.returns 2 sp_after) root
 
 abbrev pub judged : LayoutParts → Records → Cpu → Effect → Option ℕ → Option ℕ → Result Move Why
 judged l a cpu e at root = judged_as l a (latch cpu sp) (latch e.cpu sp) e.cpu.pc e.transfer at root
@@ -148,17 +148,20 @@ byte_put (Byte address value) = value
 byte_put _ = 0
 
 -- the return address: the number that the two puts store, the low byte first
-abbrev pub back_of : Effect → ℕ
-back_of e = byte_put e.first + 256 * byte_put e.second
+abbrev pub return_address_of : Effect → ℕ
+return_address_of e = byte_put e.first + 256 * byte_put e.second
 
 -- the unit is appended to the top record
 abbrev pub jumped : List ℕ → List ReturnRecord → ℕ → Records
 jumped reset [] u = record { reset = u ∷ reset; returns = [] }
-jumped reset (r ∷ rs) u = record { reset = reset; returns = record { cause = r.cause; back = r.back; sp = r.sp; units = u ∷ r.units } ∷ rs }
+jumped reset (r ∷ rs) u = record { reset = reset; returns = record r { units = u ∷ r.units } ∷ rs }
 
 -- a record more, on top
 abbrev pub pushed : Records → Cause → ℕ → ℕ → List ℕ → Records
-pushed a cause back top units = record { reset = a.reset; returns = record { cause = cause; back = back; sp = top; units = units } ∷ a.returns }
+pushed a cause return_address sp_after units = record {
+  reset = a.reset;
+  returns = record { cause = cause; return_address = return_address; sp = sp_after; units = units } ∷ a.returns;
+}
 
 abbrev pub without_top : List ReturnRecord → List ReturnRecord
 without_top [] = []
@@ -168,7 +171,7 @@ without_top (r ∷ rs) = rs
 abbrev pub moved : Records → Effect → Move → Records
 moved a e Stay = a
 moved a e (JumpTo u) = jumped a.reset a.returns u
-moved a e Local = pushed a ByCall (back_of e) (latch e.cpu sp) []
-moved a e (CallTo u) = pushed a ByCall (back_of e) (latch e.cpu sp) (u ∷ [])
-moved a e (InterruptTo source u) = pushed a (ByInterrupt source) (back_of e) (latch e.cpu sp) (u ∷ [])
+moved a e Local = pushed a ByCall (return_address_of e) (latch e.cpu sp) []
+moved a e (CallTo u) = pushed a ByCall (return_address_of e) (latch e.cpu sp) (u ∷ [])
+moved a e (InterruptTo source u) = pushed a (ByInterrupt source) (return_address_of e) (latch e.cpu sp) (u ∷ [])
 moved a e Return = record { reset = a.reset; returns = without_top a.returns }

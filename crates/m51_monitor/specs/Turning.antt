@@ -15,19 +15,20 @@ use Rattle.m51_monitor.specs.Stores.{Live}
 -- A cell under one of these segments has turned, and one under none of them is as before.
 pub data Turned (l : LayoutParts) (Is : ℕ → Type 0) (to : CellState) (c : Cell) (old new : CellState) : Type 0 where
   Under : (t : ℕ) → Is t → (p : Placed) → IsPlaced l t p → Covers (extent_at p) c → new ≡ to → Turned l Is to c old new
-  Beside : ((t : ℕ) → Is t → (p : Placed) → IsPlaced l t p → Covers (extent_at p) c → ⊥) → new ≡ old → Turned l Is to c old new
+  Beside : ((t : ℕ) → Is t → (p : Placed) → IsPlaced l t p → Covers (extent_at p) c → ⊥) → new ≡ old
+      → Turned l Is to c old new
 
 pub record AreTurned (l : LayoutParts) (Is : ℕ → Type 0) (to : CellState) (old new : Shared) : Type 0 where
   pub cell : (c : Cell) → IsDataCell c → Turned l Is to c (cell_state old c) (cell_state new c)
 
 -- by these numbers of records no owner is active
-abbrev pub is_quiet : List ℕ → List ℕ → Bool
-is_quiet numbers owners = not (list_any (λ u. nat_lt 0 (slice_index numbers u)) owners)
+abbrev pub none_is_active : List ℕ → List ℕ → Bool
+none_is_active numbers owners = not (list_any (λ u. nat_lt 0 (slice_index numbers u)) owners)
 
 -- a segment that the unit owns, and no other active one
 pub record IsLocalOf (l : LayoutParts) (numbers : List ℕ) (unit t : ℕ) : Type 0 where
   pub owns : Owns l unit t
-  pub quiet : is_quiet numbers (owners_of l.owners t) ≡ true
+  pub quiet : none_is_active numbers (owners_of l.owners t) ≡ true
 
 -- the same among the first of these segments
 pub record IsLocalAmong (l : LayoutParts) (numbers locals : List ℕ) (count t : ℕ) : Type 0 where
@@ -35,7 +36,7 @@ pub record IsLocalAmong (l : LayoutParts) (numbers locals : List ℕ) (count t :
   pub below : place < count
   pub inside : place < length locals
   pub is : slice_index locals place ≡ t
-  pub quiet : is_quiet numbers (owners_of l.owners t) ≡ true
+  pub quiet : none_is_active numbers (owners_of l.owners t) ≡ true
 
 -- an overlaid segment among the first so many
 pub record IsOverlaidAmong (l : LayoutParts) (count t : ℕ) : Type 0 where

@@ -11,7 +11,7 @@ ghost use Rattle.m51_monitor.specs.Records.{first_or};
 ghost use Rattle.m51_monitor.specs.Resolved.{outside_of};
 ghost use Rattle.m51_monitor.specs.Shared.{Shared, shared_barred, shared_cells, turned_to};
 ghost use Rattle.m51_monitor.specs.Stores.{Stores, StandsFor, filled_stores, has_cell, live_by, put_into};
-ghost use Rattle.m51_monitor.specs.Turning.{AreTurned, IsOverlaidAmong, IsLocalAmong, IsLocalOf, is_quiet};
+ghost use Rattle.m51_monitor.specs.Turning.{AreTurned, IsOverlaidAmong, IsLocalAmong, IsLocalOf, none_is_active};
 
 use crate::covering::{is_data, is_over, is_overlaid};
 use crate::shared::SharedRam;
@@ -20,6 +20,9 @@ use m51_flat::{CellStore, Put};
 use m51_module::{Layout, Placed};
 use std::alloc::Global;
 use std::marker::Model;
+
+// The most units that records name: three walks at most stand at once, and no unit is twice in one of them.
+const MOST_NAMED: usize = 3_000;
 
 /// The units that the records name, how many records name each unit, and the memory.
 #[derive(Drop)]
@@ -33,13 +36,14 @@ pub(crate) struct Activity {
 impl Model for Activity {
     ghost use Rattle.std.specs.Prelude.{◌≤◌, vec_capacity, reverse};
     ghost use Rattle.m51_monitor.specs.Activity as active;
+    ghost use Rattle.m51_monitor.specs.declared.activity.TheConstants.{MOST_NAMED};
 
     ghost Value = { active.Activity };
 
     ghost view = { λ a. record { layout = a.layout; units = reverse a.units.items; store = a.store } };
 
     ghost invariant = { λ a. active.IsActivity a.layout (reverse a.units.items) a.numbers.items a.store
-        × (3000 ≤ vec_capacity a.units) };
+        × (MOST_NAMED ≤ vec_capacity a.units) };
 }
 
 // A placed extent, which is as a sound layout has it.
@@ -70,14 +74,14 @@ fn any_named(numbers: &[u8], owners: &[u16]) -> bool
 }
 
 // By these numbers of records no owner is active.
-fn is_quiet(numbers: &[u8], owners: &[u16]) -> bool
-    ensures { result ≡ is_quiet numbers.now owners.now }
+fn none_is_active(numbers: &[u8], owners: &[u16]) -> bool
+    ensures { result ≡ none_is_active numbers.now owners.now }
 {
     !any_named(numbers, owners)
 }
 
 // Turns the segment of this place in the list live and unset, or outside, where no owner is active.
-#[tactic(auto, using(crate::proofs::Placing::local_turned, crate::proofs::Placing::local_stays, crate::proofs::Placing::element_is))]
+#[tactic(auto, using(crate::proofs::Placing::turned, crate::proofs::Placing::stays, crate::proofs::Placing::item_is))]
 fn turn_local(
     store: &mut SharedRam,
     layout: &Layout,
@@ -94,13 +98,13 @@ fn turn_local(
         (turned_to live) old store.new }
 {
     let segment = locals[place];
-    if is_quiet(numbers, layout.owners(segment)) {
+    if none_is_active(numbers, layout.owners(segment)) {
         store.turn(placed_at(layout, usize::from(segment)).cells(), live);
     }
 }
 
 // Turns the segments that the unit owns live and unset, or outside, but for those of which an owner is active.
-#[tactic(auto, using(crate::proofs::Placing::none_turned, crate::proofs::Placing::locals_turned, crate::proofs::Placing::local_below))]
+#[tactic(auto, using(crate::proofs::Placing::none, crate::proofs::Placing::turned_all, crate::proofs::Placing::below))]
 fn turn_owned(store: &mut SharedRam, layout: &Layout, numbers: &[u8], unit: u16, live: bool)
     requires { unit < length layout.now.units }
     ensures { AreTurned layout.now (IsLocalOf layout.now numbers.now unit) (turned_to live) store.old store.new }
@@ -202,7 +206,7 @@ impl Activity {
             (filled_stores layout fill)) }
     {
         let mut store = SharedRam::filled(alloc, fill)?;
-        let units = Vec::with_capacity(alloc, 3000)?;
+        let units = Vec::with_capacity(alloc, MOST_NAMED)?;
         let numbers = zeros(alloc, layout.units().len())?;
         turn_overlaid(&mut store, &layout);
         Ok(Activity {
@@ -310,6 +314,7 @@ impl Activity {
         self.numbers[usize::from(unit)] += 1;
         match self.units.push(unit) {
             Ok(()) => {}
+            // There is room.
             Err(_) => unreachable!(),
         }
     }

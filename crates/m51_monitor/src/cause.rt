@@ -19,7 +19,7 @@ pub(crate) enum Cause {
 pub(crate) struct Frame {
     pub cause: Cause,
     /// The return address.
-    pub back: u16,
+    pub return_address: u16,
     /// SP after the return address was pushed.
     pub sp: u8,
     /// How many units the records below name.

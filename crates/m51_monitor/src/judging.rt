@@ -3,8 +3,9 @@ ghost use Rattle.std.specs.Prelude.{◌≡◌, ◌<◌, ◌+◌, ℕ, length, If
 ghost use Rattle.std.specs.List.{list_any};
 ghost use Rattle.m51_monitor.specs.Frames.{IsTop};
 ghost use Rattle.m51_monitor.specs.Found.{root_found, unit_found};
-ghost use Rattle.m51_monitor.specs.Transfers.{IsFoundAt, IsRootWanted, goes, is_at, is_by, leads, returns_from};
-ghost use Rattle.m51_monitor.specs.Transfers.{runs_at};
+ghost use Rattle.m51_monitor.specs.Transfers.{IsFoundAt, IsRootWanted, jump_or_call};
+ghost use Rattle.m51_monitor.specs.Transfers.{is_at, is_by, returns_from};
+ghost use Rattle.m51_monitor.specs.Transfers.{is_of_root};
 
 use crate::cause::{Cause, Frame};
 use crate::step::Move;
@@ -14,7 +15,7 @@ use m51_module::Layout;
 
 /// The topmost frame.
 #[tactic(auto, using(crate::proofs::Topping::no_top, crate::proofs::Topping::last_split))]
-pub(crate) fn top(frames: &[Frame]) -> Option<Frame>
+pub(crate) fn topmost(frames: &[Frame]) -> Option<Frame>
     ensures { IsTop frames.now result }
 {
     if frames.is_empty() {
@@ -24,8 +25,8 @@ pub(crate) fn top(frames: &[Frame]) -> Option<Frame>
 }
 
 // The record is of an interrupt whose root is at the vector.
-fn runs_at(cause: Cause, vector: u16) -> bool
-    ensures { result ≡ runs_at vector cause }
+fn is_of_root(cause: Cause, vector: u16) -> bool
+    ensures { result ≡ is_of_root vector cause }
 {
     match cause {
         Cause::Call => false,
@@ -34,10 +35,10 @@ fn runs_at(cause: Cause, vector: u16) -> bool
 }
 
 /// Some frame is of an interrupt whose root is at the vector.
-pub(crate) fn any_runs(frames: &[Frame], vector: u16) -> bool
-    ensures { result ≡ list_any (λ f. runs_at vector f.cause) frames.now }
+pub(crate) fn any_of_root(frames: &[Frame], vector: u16) -> bool
+    ensures { result ≡ list_any (λ f. is_of_root vector f.cause) frames.now }
 {
-    frames.iter().any(|frame| runs_at(frame.cause, vector))
+    frames.iter().any(|frame| is_of_root(frame.cause, vector))
 }
 
 /// The unit at the target is this one.
@@ -60,40 +61,31 @@ fn is_by(call: bool, cause: Cause) -> bool
     }
 }
 
-// Whether an edge leads from the first unit to the second.
-fn leads(layout: &Layout, from: u16, to: u16) -> bool
-    requires from { from < length layout.now.units }
-    requires to { to < length layout.now.units }
-    ensures { result ≡ leads layout.now.edges from to }
-{
-    layout.edge(from, to)
-}
-
 /// A jump or a call from the current unit, within it or along an edge.
-pub(crate) fn goes(
+pub(crate) fn jump_or_call(
     layout: &Layout,
     from: u16,
-    low: bool,
+    sp_below: bool,
     call: bool,
     at: Option<u16>,
 ) -> Result<Move, Why>
     requires from { from < length layout.now.units }
     requires at { IfSome at (λ u. u < length layout.now.units) }
-    ensures { result ≡ goes layout.now from low call at }
+    ensures { result ≡ jump_or_call layout.now from sp_below call at }
 {
     let Some(unit) = at else {
         return Err(Why::NoUnit);
     };
     if unit == from {
-        if low {
+        if sp_below {
             return Err(Why::SpBelow);
         }
         return Ok(if call { Move::Local } else { Move::Stay });
     }
-    if !leads(layout, from, unit) {
+    if !layout.edge(from, unit) {
         return Err(Why::NoEdge);
     }
-    if low {
+    if sp_below {
         return Err(Why::SpBelow);
     }
     Ok(if call {
@@ -107,19 +99,19 @@ pub(crate) fn goes(
 pub(crate) fn returns_from(
     frame: &Frame,
     call: bool,
-    top: u8,
+    sp_before: u8,
     to: u16,
     inside: bool,
 ) -> Result<Move, Why>
-    ensures { result ≡ returns_from frame.now call top to inside }
+    ensures { result ≡ returns_from frame.now call sp_before to inside }
 {
     if !is_by(call, frame.cause) {
         return Err(Why::NotCalled);
     }
-    if top != frame.sp {
+    if sp_before != frame.sp {
         return Err(Why::SpMoved);
     }
-    if to != frame.back {
+    if to != frame.return_address {
         return Err(Why::WrongAddress);
     }
     if !inside {

@@ -1,6 +1,7 @@
 //! What follows from the definitions. Each law is the contract of a function that does nothing.
-ghost use Rattle.m51_monitor.specs.Laws.{CoversIsKept, LevelsAreKept, MovesAreKept, OneAnswer, OneLiveSegment};
-ghost use Rattle.m51_monitor.specs.Laws.{OneState, StackIsKept};
+ghost use Rattle.m51_monitor.specs.Laws.{CoversIsKept, InterruptsAreCounted, LevelsAreKept, MovesAreKept, OneAnswer};
+ghost use Rattle.m51_monitor.specs.Laws.{OneLiveSegment, OneState, StackIsKept};
+ghost use Rattle.m51_monitor.specs.Reached.{RunsAreBounded};
 
 /// In a sound layout, where the records stand, at most one live segment covers a cell.
 ///
@@ -23,6 +24,15 @@ pub fn moves_are_kept()
     ensures { MovesAreKept }
 {}
 
+/// Of all records that a run over a sound layout can reach, where an interrupt comes over at most one other: at most
+/// one live segment covers a cell, arguments with several owners included; there are 128 return records at most; SP of
+/// each is at least two above that of the one below.
+///
+/// Source: own choice ("Activations").
+pub fn runs_are_bounded()
+    ensures { RunsAreBounded }
+{}
+
 /// A memory stands for one state of the separate stores: what it stands for is read off it.
 ///
 /// Source: own choice ("Stores of segments").
@@ -30,12 +40,21 @@ pub fn one_state()
     ensures { OneState }
 {}
 
-/// Where the levels of the processor follow the transfer (a vectoring adds one, RETI ends the uppermost), the interrupts
-/// that have records were taken at the levels in progress, a low one below a high one, after a move if they were before.
+/// Where the levels of the processor follow the transfer (a vectoring adds one, RETI ends the uppermost), the
+/// interrupts that have records were taken at the levels in progress, a low one below a high one, after a move if they
+/// were before.
 ///
 /// Source: own choice ("Activations").
 pub fn levels_are_kept()
     ensures { LevelsAreKept }
+{}
+
+/// A vectoring that the table allows adds one to the interrupts that have records, RETI takes one away, and all other
+/// transfers leave their number as it is.
+///
+/// Source: own choice ("Activations").
+pub fn interrupts_are_counted()
+    ensures { InterruptsAreCounted }
 {}
 
 /// Where SP rises from record to record, and RET and RETI take two bytes off the stack, SP is after each move not below

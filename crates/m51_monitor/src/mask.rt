@@ -4,7 +4,7 @@ ghost use Rattle.m51_cells.specs.declared.cell.Cell.{Cell};
 ghost use Rattle.m51_module.specs.Sound.{IsInside};
 ghost use Rattle.m51_cells.specs.Cells.{IsDataCell, cells_in};
 ghost use Rattle.m51_monitor.specs.Masks.{IsMarked, IsMask, flag_of};
-ghost use Rattle.m51_monitor.specs.Rows.{IsSet};
+ghost use Rattle.m51_monitor.specs.Rows.{AreSet};
 
 use m51_cells::{Cell, Extent, NoMemory, Space};
 use std::alloc::Global;
@@ -30,7 +30,7 @@ impl Model for Mask {
 // Sets flags in a row.
 fn set_row(flags: &mut [bool], first: usize, count: usize, value: bool)
     requires { first + count ≤ length flags.old }
-    ensures { IsSet first count value flags.old flags.new }
+    ensures { AreSet first count value flags.old flags.new }
 {
     for place in first..first + count {
         flags[place] = value;
@@ -47,7 +47,7 @@ fn flags(alloc: Global, value: bool, count: usize) -> Result<Vec<bool>, NoMemory
 
 impl Mask {
     /// A mask with all flags set so.
-    #[tactic(auto, using(crate::proofs::Marking::all_set))]
+    #[tactic(auto, using(crate::proofs::Marks::all_set))]
     pub(crate) fn filled(alloc: Global, value: bool) -> Result<Mask, NoMemory>
         ensures { IfOk result (λ mask. (c : Cell) → IsDataCell c → flag_of mask c ≡ value) }
     {
@@ -69,7 +69,7 @@ impl Mask {
     }
 
     // Sets the flags of the cells of an extent that ends inside its memory.
-    #[tactic(auto, using(crate::proofs::Marking::ram_marked, crate::proofs::Marking::xram_marked, crate::proofs::Marking::code_marked))]
+    #[tactic(auto, using(crate::proofs::Marks::on_ram, crate::proofs::Marks::on_xram, crate::proofs::Marks::on_code))]
     fn mark_some(&mut self, cells: Extent, value: bool)
         requires { cells.first + cells.len ≤ cells_in cells.space }
         ensures marked { IsMarked cells value self.old self.new }
@@ -85,7 +85,7 @@ impl Mask {
     }
 
     /// Sets the flags of the cells of an extent.
-    #[tactic(auto, using(crate::proofs::Marking::none_marked, crate::proofs::Marking::ends_inside))]
+    #[tactic(auto, using(crate::proofs::Marks::none_marked, crate::proofs::Marks::ends_inside))]
     pub(crate) fn mark(&mut self, cells: Extent, value: bool)
         requires { IsInside cells }
         ensures marked { IsMarked cells value self.old self.new }

@@ -104,7 +104,7 @@ impl SharedRam {
     }
 
     // Why a cell of internal RAM has no value.
-    #[tactic(auto, using(crate::proofs::Reading::dead, crate::proofs::Reading::fresh, crate::proofs::Reading::holds))]
+    #[tactic(auto, using(crate::proofs::Reading::xdead, crate::proofs::Reading::xnew, crate::proofs::Reading::holds))]
     fn blocked(&self, at: usize) -> Option<Seen>
         requires { at < 2048 }
         ensures some { IfSome result (λ seen. Blocks ((shared_cells self.now).ram at) × (seen
@@ -178,7 +178,7 @@ impl CellStore for SharedRam {
         }
     }
 
-    #[tactic(auto, using(crate::proofs::Reading::xbyte_dead, crate::proofs::Reading::xbyte_fresh, crate::proofs::Reading::xbyte_value))]
+    #[tactic(auto, using(crate::proofs::Reading::xdead, crate::proofs::Reading::xnew, crate::proofs::Reading::xhas))]
     fn xbyte(&self, address: u16) -> Seen {
         let cell = Cell {
             space: Space::Xram,

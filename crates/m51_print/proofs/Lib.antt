@@ -1,5 +1,4 @@
 pub mod Columns
-pub mod EdgeTests
 pub mod GivenRows
 pub mod PlacedTitles
 pub mod Ranges

@@ -13,7 +13,7 @@ use Rattle.m51_module.specs.declared.placed.Mark.{Mark}
 use Rattle.m51_module.specs.declared.placed.Mark.TheVariants.{Bank, Reserve, Absolute, Plain, Overlaid}
 use Rattle.m51_module.specs.declared.placed.Placed.{Placed}
 use Rattle.m51_module.specs.Roots.{vectors}
-use Rattle.m51_module.specs.Walks.{Edges}
+use Rattle.m51_module.specs.Walks.{Edges, has_edge}
 use Rattle.m51_print.specs.Lines.{titles_of, title_of}
 
 -- a kind, left in 5 places; what has no kind has no word
@@ -61,10 +61,6 @@ root_titles byte = map title_at (roots_among byte vectors)
 -- the title of a unit
 unfoldable pub unit_title : LayoutParts → ℕ → List ℕ
 unit_title l unit = title_of (titles_of l.placed) (slice_index l.units unit)
-
--- an edge leads from the first unit to the second
-abbrev pub has_edge : Edges → ℕ → ℕ → Bool
-has_edge edges from to = list_any (λ edge. (edge.0 == from) && (edge.1 == to)) edges
 
 -- the units to which an edge leads from this one, by number
 abbrev pub targets_of : LayoutParts → ℕ → List ℕ

@@ -1,6 +1,8 @@
 -- The lines of refusals.
 use Rattle.std.specs.Prelude.{ℕ, List, [], ◌++◌, codes, flat_map}
 use Rattle.std.specs.Fmt.{decimal}
+use Rattle.m51_cells.specs.declared.limits.TheConstants.{MOST_FILES, MOST_FILE_BYTES, MOST_CONTROL_LINES}
+use Rattle.m51_cells.specs.declared.limits.TheConstants.{MOST_SCRIPT_LINES, MOST_MODULES, MOST_SEGMENTS, MOST_UNITS}
 use Rattle.m51_cells.specs.Hex.{hex4}
 use Rattle.m51_module.specs.declared.linked.Quantity.{Quantity}
 use Rattle.m51_module.specs.declared.linked.Quantity.TheVariants.{Files, Bytes, ControlLines, ScriptLines, Modules}
@@ -13,15 +15,29 @@ use Rattle.m51_module.specs.declared.linked.Refusal.TheVariants.{L13, Limit, Mem
 abbrev pub after_blank : List ℕ → List ℕ
 after_blank name = codes " " ++ name
 
+-- what a limit is of
+abbrev pub quantity_word : Quantity → List ℕ
+quantity_word Files = codes "FILES"
+quantity_word Bytes = codes "BYTES"
+quantity_word ControlLines = codes "CONTROLLINES"
+quantity_word ScriptLines = codes "SCRIPTLINES"
+quantity_word Modules = codes "MODULES"
+quantity_word Segments = codes "SEGMENTS"
+quantity_word Units = codes "UNITS"
+
+-- how many there may be
+abbrev pub most_of : Quantity → ℕ
+most_of Files = MOST_FILES
+most_of Bytes = MOST_FILE_BYTES
+most_of ControlLines = MOST_CONTROL_LINES
+most_of ScriptLines = MOST_SCRIPT_LINES
+most_of Modules = MOST_MODULES
+most_of Segments = MOST_SEGMENTS
+most_of Units = MOST_UNITS
+
 -- what a limit is of, and its number
 abbrev pub limit_text : Quantity → List ℕ
-limit_text Files = codes "FILES 64"
-limit_text Bytes = codes "BYTES 1048576"
-limit_text ControlLines = codes "CONTROLLINES 1000"
-limit_text ScriptLines = codes "SCRIPTLINES 65536"
-limit_text Modules = codes "MODULES 255"
-limit_text Segments = codes "SEGMENTS 2000"
-limit_text Units = codes "UNITS 1000"
+limit_text what = quantity_word what ++ codes " " ++ decimal (most_of what)
 
 -- a refusal: its number and the names, each after a blank; never asked of out of memory, which has no text
 abbrev pub refusal_words : Refusal → List ℕ

@@ -1,9 +1,13 @@
 //! The lines of refusals.
 ghost use Rattle.std.specs.Prelude.{◌≡◌, ◌≢◌, ◌++◌, OnOk, IfOk, flat_map};
-ghost use Rattle.m51_print.specs.Refusals.{after_blank, limit_text, refusal_words, refusal_text};
+ghost use Rattle.m51_print.specs.Refusals.{after_blank, quantity_word, most_of, limit_text};
+ghost use Rattle.m51_print.specs.Refusals.{refusal_words, refusal_text};
 
 use crate::pushing::{push_decimal, push_hex4, push_text};
-use m51_cells::{Name, NoMemory};
+use m51_cells::{
+    MOST_CONTROL_LINES, MOST_FILE_BYTES, MOST_FILES, MOST_MODULES, MOST_SCRIPT_LINES,
+    MOST_SEGMENTS, MOST_UNITS, Name, NoMemory,
+};
 use m51_module::{Quantity, Refusal};
 use std::alloc::Global;
 
@@ -25,19 +29,43 @@ fn push_names(text: &mut Vec<u8>, names: &[Name]) -> Result<(), NoMemory>
     Ok(())
 }
 
-// What a limit is of, and its number.
-fn limit_text(what: Quantity) -> &'static [u8]
-    ensures { result.now ≡ limit_text what }
+// What a limit is of.
+fn quantity_word(what: Quantity) -> &'static [u8]
+    ensures { result.now ≡ quantity_word what }
 {
     match what {
-        Quantity::Files => b"FILES 64",
-        Quantity::Bytes => b"BYTES 1048576",
-        Quantity::ControlLines => b"CONTROLLINES 1000",
-        Quantity::ScriptLines => b"SCRIPTLINES 65536",
-        Quantity::Modules => b"MODULES 255",
-        Quantity::Segments => b"SEGMENTS 2000",
-        Quantity::Units => b"UNITS 1000",
+        Quantity::Files => b"FILES",
+        Quantity::Bytes => b"BYTES",
+        Quantity::ControlLines => b"CONTROLLINES",
+        Quantity::ScriptLines => b"SCRIPTLINES",
+        Quantity::Modules => b"MODULES",
+        Quantity::Segments => b"SEGMENTS",
+        Quantity::Units => b"UNITS",
     }
+}
+
+// How many there may be.
+fn most_of(what: Quantity) -> usize
+    ensures { result ≡ most_of what }
+{
+    match what {
+        Quantity::Files => MOST_FILES,
+        Quantity::Bytes => MOST_FILE_BYTES,
+        Quantity::ControlLines => MOST_CONTROL_LINES,
+        Quantity::ScriptLines => MOST_SCRIPT_LINES,
+        Quantity::Modules => MOST_MODULES,
+        Quantity::Segments => MOST_SEGMENTS,
+        Quantity::Units => MOST_UNITS,
+    }
+}
+
+// Appends what a limit is of, and its number.
+fn push_quantity(text: &mut Vec<u8>, what: Quantity) -> Result<(), NoMemory>
+    ensures { OnOk result (text.new.items ≡ text.old.items ++ limit_text what) }
+{
+    push_text(text, quantity_word(what))?;
+    push_text(text, b" ")?;
+    push_decimal(text, most_of(what) as u64)
 }
 
 // Appends a rule of linking and a name.
@@ -95,7 +123,7 @@ fn push_limit(text: &mut Vec<u8>, what: Quantity) -> Result<(), NoMemory>
     ensures { OnOk result (text.new.items ≡ text.old.items ++ refusal_words (Refusal.Limit what)) }
 {
     push_text(text, b"LIMIT ")?;
-    push_text(text, limit_text(what))
+    push_quantity(text, what)
 }
 
 // Appends the words of a refusal.

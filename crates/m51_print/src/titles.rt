@@ -2,7 +2,7 @@
 ghost use Rattle.std.specs.Prelude.{◌≡◌, ◌<◌, ◌++◌, OnOk, IfOk, IsTrue, ◌↔◌, true, map, flat_map, length, All};
 ghost use Rattle.m51_cells.specs.Name.{title_at};
 ghost use Rattle.m51_module.specs.Roots.{vectors};
-ghost use Rattle.m51_print.specs.Map.{after_comma, listed, roots_among, root_titles, unit_title, has_edge, targets_of};
+ghost use Rattle.m51_print.specs.Map.{after_comma, listed, roots_among, root_titles, unit_title, targets_of};
 
 use crate::pushing::push_text;
 use m51_cells::{Name, NoMemory};
@@ -83,15 +83,6 @@ pub(crate) fn unit_titles(
     Ok(titles)
 }
 
-// Whether an edge leads from the first unit to the second.
-fn has_edge(layout: &Layout, from: u16, to: u16) -> bool
-    requires from { from < length layout.now.units }
-    requires to { to < length layout.now.units }
-    ensures { result ≡ has_edge layout.now.edges from to }
-{
-    layout.edge(from, to)
-}
-
 /// The titles of the units to which an edge leads from this one, by number.
 #[tactic(auto, using(crate::proofs::Ranges::named_yes, crate::proofs::Ranges::named_no))]
 pub(crate) fn target_titles(
@@ -104,7 +95,7 @@ pub(crate) fn target_titles(
 {
     let mut titles = Vec::new(alloc);
     for target in 0..layout.units().len() {
-        if has_edge(layout, unit, target as u16) {
+        if layout.edge(unit, target as u16) {
             titles.push(*unit_title(layout, target as u16))?;
         }
     }

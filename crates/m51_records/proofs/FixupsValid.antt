@@ -1,7 +1,7 @@
 -- The fixups of a module are valid where each passes the tests of the reader after those before it.
-use Rattle.std.proofs.Common.{◌≡◌, ◌≢◌, ℕ, zero, suc, ◌+◌, ◌-◌, ◌<◌, ◌≤◌, Bool, true, false, eqb, List, [], ◌∷◌, ◌++◌, length, Option, Some, None, refl, sym, ap, subst, ◌∙◌, arith, All, AllPairs, length-append}
+use Rattle.std.proofs.Common.{◌≡◌, ◌≢◌, ℕ, zero, suc, ◌+◌, ◌-◌, ◌<◌, ◌≤◌, true, false, eqb, List, [], ◌∷◌, ◌++◌, length, Option, Some, None, refl, sym, ap, subst, ◌∙◌, arith, All, AllPairs, length-append}
 use Rattle.std.specs.Prelude.{not, ◌&&◌, ◌||◌, nat_le, nat_lt}
-use Rattle.std.proofs.lemmas.Bool.{eqb-true, eq-eqb, leb-true, le-leb, lt-ltb, ltb-true, and_from, and_parts}
+use Rattle.std.proofs.lemmas.Bool.{eqb-true, eq-eqb, leb-true, le-leb, lt-ltb, ltb-true, and_from, and_parts, or_right}
 use Rattle.std.proofs.lemmas.List.Folds.{Any-from_list_any, list_any_at}
 use Rattle.m51_module.specs.declared.content.Fixup.{Fixup}
 use Rattle.m51_module.specs.declared.content.Form.{Form}
@@ -23,10 +23,6 @@ use Rattle.m51_records.proofs.FixupLaws.{IsFixupTested}
 abbrev Passes : Fixup → Option Fixup → Type 0
 Passes f previous = (field_segment_follows previous f.segment ≡ true) × (field_follows previous f.segment f.offset ≡ true)
 
-or_true : (b : Bool) → (b || true) ≡ true
-or_true true = refl
-or_true false = refl
-
 before_from : (g f : Fixup) → Passes f (Some g) → FieldBefore g f
 before_from g f t = test_split (eqb g.segment f.segment) (FieldBefore g f)
     (λ same. let fits : nat_le (g.offset + field_len g.form) f.offset ≡ true = subst (λ b. (not b || nat_le (g.offset + field_len g.form) f.offset) ≡ true) same t.1 in
@@ -37,7 +33,7 @@ before_to : (g f : Fixup) → FieldBefore g f → Passes f (Some g)
 before_to g f (EarlierSegmentOf less) =
     (le-leb g.segment f.segment (omega (arith, less)), ap (λ b. not b || nat_le (g.offset + field_len g.form) f.offset) (false_of (eqb g.segment f.segment) (λ e. omega (arith, less, eqb-true g.segment f.segment e))))
 before_to g f (BeforeIn same fits) =
-    (le-leb g.segment f.segment (omega (arith, same)), ap (λ b. not (eqb g.segment f.segment) || b) (le-leb (g.offset + field_len g.form) f.offset fits) ∙ or_true (not (eqb g.segment f.segment)))
+    (le-leb g.segment f.segment (omega (arith, same)), ap (λ b. not (eqb g.segment f.segment) || b) (le-leb (g.offset + field_len g.form) f.offset fits) ∙ or_right (not (eqb g.segment f.segment)) true refl)
 
 some_field : (form : Form) → 0 < field_len form
 some_field Word = omega arith
@@ -107,7 +103,7 @@ module _ (pieces : List Piece) (segment : ℕ) where
       (held_from offset (subst (IsHeld pieces segment) (omega arith) (h 0 (some_field form))))
       (test_split (eqb (field_len form) 1) ((eqb (field_len form) 1 || is_held pieces segment (offset + 1)) ≡ true)
       (λ one. ap (λ b. b || is_held pieces segment (offset + 1)) one)
-      (λ two. ap (λ b. eqb (field_len form) 1 || b) (held_from (offset + 1) (h 1 (omega (arith, some_field form, eqb_no (field_len form) 1 two)))) ∙ or_true (eqb (field_len form) 1)))
+      (λ two. ap (λ b. eqb (field_len form) 1 || b) (held_from (offset + 1) (h 1 (omega (arith, some_field form, eqb_no (field_len form) 1 two)))) ∙ or_right (eqb (field_len form) 1) true refl))
 
 -- ---- validity
 

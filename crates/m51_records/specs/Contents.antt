@@ -2,6 +2,7 @@
 use Rattle.std.specs.Prelude.{ℕ, ◌+◌, ◌-◌, Bool, true, ◌&&◌, ◌==◌, nat_le, nat_lt, min, if◌then◌else◌, List, ◌∷◌}
 use Rattle.std.specs.Prelude.{◌++◌, length, drop, slice_get, Option, Some, None, Result, Ok}
 use Rattle.m51_module.specs.declared.content.Piece.{Piece}
+use Rattle.m51_cells.specs.declared.limits.TheConstants.{MOST_PIECE_BYTES}
 use Rattle.m51_module.specs.declared.segment.Segment.{Segment}
 use Rattle.m51_module.specs.Validity.{numbered}
 use Rattle.m51_module.specs.declared.object_error.ObjError.{ObjError}
@@ -28,10 +29,10 @@ code_segment_at segments previous end bytes = do
   segment ← or_absent (numbered segments number.0) end bytes
   checked (is_code segment.kind && segment_follows previous number.0) end bytes (number.0, segment.size, number.1)
 
--- the piece ends below the offset, or at it with 1,024 bytes: so many lie between its offset and this one
+-- the piece ends below the offset, or at it with the most bytes: so many lie between its offset and this one
 abbrev pub ends_before : Piece → ℕ → Bool
 ends_before p offset =
-    if length p.bytes == offset - p.offset then length p.bytes == 1024
+    if length p.bytes == offset - p.offset then length p.bytes == MOST_PIECE_BYTES
     else nat_lt (length p.bytes) (offset - p.offset)
 
 -- the piece before ends so, where it is in the same segment
@@ -48,11 +49,12 @@ piece_offset_at previous segment end bytes = do
 abbrev pub limited : ℕ → ℕ → List ℕ → Result (List ℕ) ObjError
 limited most end bytes = checked (nat_le (length bytes) most) end (drop most bytes) bytes
 
--- one byte or more, of which the first 1,024 lie inside the segment; and no more than those
+-- one byte or more, of which as many as a piece may have lie inside the segment; and no more than those
 unfoldable pub content_at : ℕ → ℕ → ℕ → List ℕ → Result (List ℕ) ObjError
 content_at size offset end bytes = do
-  inside ← checked (nat_lt 0 (length bytes) && nat_le (offset + min (length bytes) 1024) size) end bytes bytes
-  limited 1024 end inside
+  inside ← checked
+      (nat_lt 0 (length bytes) && nat_le (offset + min (length bytes) MOST_PIECE_BYTES) size) end bytes bytes
+  limited MOST_PIECE_BYTES end inside
 
 unfoldable pub piece_in : List Segment → List Piece → ℕ → List ℕ → Result Piece ObjError
 piece_in segments before end bytes = do

@@ -1,6 +1,7 @@
 -- The record of an external.
 use Rattle.std.specs.Prelude.{ℕ, nat_lt, List, ◌∷◌, length, map, Result, Ok}
 use Rattle.m51_cells.specs.declared.kind.Kind.{Kind}
+use Rattle.m51_cells.specs.declared.limits.TheConstants.{MOST_EXTERNALS}
 use Rattle.m51_module.specs.declared.symbol.External.{External}
 use Rattle.m51_module.specs.declared.object_error.ObjError.{ObjError}
 use Rattle.m51_records.specs.Codes.{kind_number, kind_of}
@@ -20,7 +21,7 @@ kind_at end bytes = do
 -- at most 255 externals, whose names differ
 unfoldable pub external_in : List External → ℕ → List ℕ → Result External ObjError
 external_in before end bytes = do
-  all ← checked (nat_lt (length before) 255) end bytes bytes
+  all ← checked (nat_lt (length before) MOST_EXTERNALS) end bytes bytes
   kind ← kind_at end all
   name ← new_name_at (map (λ (e : External). e.name) before) end kind.1
   Ok (record { name = name; kind = kind.0 })

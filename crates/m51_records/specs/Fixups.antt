@@ -4,6 +4,7 @@ use Rattle.std.specs.Prelude.{◌∷◌, ◌++◌, length, Option, Some, None, R
 use Rattle.std.specs.List.{list_any}
 use Rattle.m51_cells.specs.declared.kind.Base.{Base}
 use Rattle.m51_cells.specs.declared.kind.Base.TheVariants.{None as NoBase, Segment as InSegment, External as OfExternal}
+use Rattle.m51_cells.specs.declared.limits.TheConstants.{MOST_FIXUPS}
 use Rattle.m51_module.specs.declared.content.Fixup.{Fixup}
 use Rattle.m51_module.specs.declared.content.Form.{Form}
 use Rattle.m51_module.specs.declared.content.Form.TheVariants.{Conv}
@@ -110,7 +111,7 @@ addend_at end bytes = do
 -- at most 65,535 fixups
 unfoldable pub fixup_in : List Segment → List External → List Piece → List Fixup → ℕ → List ℕ → Result Fixup ObjError
 fixup_in segments externals pieces before end bytes = do
-  all ← checked (nat_lt (length before) 65535) end bytes bytes
+  all ← checked (nat_lt (length before) MOST_FIXUPS) end bytes bytes
   segment ← fixup_segment_at segments (latest before) end all
   offset ← fixup_offset_at (latest before) segment.0 end segment.1
   form ← form_at pieces segment.0 offset.0 end offset.1

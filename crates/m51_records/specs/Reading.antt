@@ -7,6 +7,8 @@ use Rattle.m51_module.specs.declared.segment.Segment.{Segment}
 use Rattle.m51_module.specs.declared.symbol.External.{External}
 use Rattle.m51_module.specs.declared.symbol.Public.{Public}
 use Rattle.m51_module.specs.declared.object_error.ObjError.{ObjError}
+use Rattle.m51_records.specs.declared.types.TheConstants.{HEADER, END, CONTENT, FIXUP}
+use Rattle.m51_records.specs.declared.types.TheConstants.{SEGMENT, PUBLIC, EXTERNAL}
 use Rattle.m51_records.specs.Fields.{◌>>=◌}
 use Rattle.m51_records.specs.Frame.{begins, record_at, checksum_place}
 use Rattle.m51_records.specs.Ends.{header_in, end_in}
@@ -44,27 +46,27 @@ all_at type read total number bytes = many_at type read total number (length byt
 
 -- the records of each type
 abbrev pub segments_at : ℕ → ℕ → ℕ → List ℕ → Result (List Segment × List ℕ) ObjError
-segments_at version total number bytes = all_at 0x0E (segment_in version) total number bytes
+segments_at version total number bytes = all_at SEGMENT (segment_in version) total number bytes
 
 abbrev pub externals_at : ℕ → ℕ → List ℕ → Result (List External × List ℕ) ObjError
-externals_at total number bytes = all_at 0x18 external_in total number bytes
+externals_at total number bytes = all_at EXTERNAL external_in total number bytes
 
 abbrev pub publics_at : List Segment → ℕ → ℕ → List ℕ → Result (List Public × List ℕ) ObjError
-publics_at segments total number bytes = all_at 0x16 (public_in segments) total number bytes
+publics_at segments total number bytes = all_at PUBLIC (public_in segments) total number bytes
 
 abbrev pub pieces_at : List Segment → ℕ → ℕ → List ℕ → Result (List Piece × List ℕ) ObjError
-pieces_at segments total number bytes = all_at 0x06 (piece_in segments) total number bytes
+pieces_at segments total number bytes = all_at CONTENT (piece_in segments) total number bytes
 
 abbrev pub fixups_at : List Segment → List External → List Piece → ℕ → ℕ → List ℕ
     → Result (List Fixup × List ℕ) ObjError
 fixups_at segments externals pieces total number bytes =
-    all_at 0x08 (fixup_in segments externals pieces) total number bytes
+    all_at FIXUP (fixup_in segments externals pieces) total number bytes
 
 abbrev pub header_at : ℕ → ℕ → List ℕ → Result ((List ℕ × ℕ) × List ℕ) ObjError
-header_at total number bytes = one_at 0x02 header_in total number bytes
+header_at total number bytes = one_at HEADER header_in total number bytes
 
 abbrev pub end_at : List ℕ → ℕ → ℕ → List ℕ → Result (ℕ × List ℕ) ObjError
-end_at name total number bytes = one_at 0x04 (end_in name) total number bytes
+end_at name total number bytes = one_at END (end_in name) total number bytes
 
 -- The module at the front of these bytes, and the bytes after it. They end with the file, at its total length, and the
 -- first record has that number.

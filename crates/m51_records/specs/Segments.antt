@@ -5,6 +5,7 @@ use Rattle.std.specs.List.{list_any}
 use Rattle.m51_cells.specs.declared.kind.Kind.{Kind}
 use Rattle.m51_cells.specs.declared.kind.Kind.TheVariants.{Direct, Idata, Bits, Number}
 use Rattle.m51_cells.specs.declared.kind.Reloc.{Reloc}
+use Rattle.m51_cells.specs.declared.limits.TheConstants.{MOST_MODULE_SEGMENTS}
 use Rattle.m51_cells.specs.Kinds.{same_kind, is_absolute, allows, may_overlay, largest}
 use Rattle.m51_module.specs.Arguments.{is_argument_name}
 use Rattle.m51_module.specs.declared.segment.Segment.{Segment}
@@ -118,7 +119,7 @@ segment_name_at before reloc argument end bytes = do
 -- at most 254 segments, of a module of that version
 unfoldable pub segment_in : ℕ → List Segment → ℕ → List ℕ → Result Segment ObjError
 segment_in version before end bytes = do
-  all ← checked (nat_lt (length before) 254) end bytes bytes
+  all ← checked (nat_lt (length before) MOST_MODULE_SEGMENTS) end bytes bytes
   kind ← segment_kind_at end all
   reloc ← reloc_at kind.0 end kind.1
   marks ← marks_at version kind.0 reloc.0 end reloc.1

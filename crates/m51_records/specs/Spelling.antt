@@ -7,6 +7,8 @@ use Rattle.m51_module.specs.declared.parts.ModuleParts.{ModuleParts}
 use Rattle.m51_module.specs.declared.segment.Segment.{Segment}
 use Rattle.m51_module.specs.declared.symbol.External.{External}
 use Rattle.m51_module.specs.declared.symbol.Public.{Public}
+use Rattle.m51_records.specs.declared.types.TheConstants.{HEADER, END, CONTENT, FIXUP}
+use Rattle.m51_records.specs.declared.types.TheConstants.{SEGMENT, PUBLIC, EXTERNAL}
 use Rattle.m51_records.specs.Frame.{record_of}
 use Rattle.m51_records.specs.Ends.{header_contents, end_contents}
 use Rattle.m51_records.specs.Segments.{segment_contents}
@@ -17,25 +19,25 @@ use Rattle.m51_records.specs.Fixups.{fixup_contents}
 
 -- a record of each
 abbrev pub segment_record : Segment → List ℕ
-segment_record s = record_of 0x0E (segment_contents s)
+segment_record s = record_of SEGMENT (segment_contents s)
 
 abbrev pub external_record : External → List ℕ
-external_record e = record_of 0x18 (external_contents e)
+external_record e = record_of EXTERNAL (external_contents e)
 
 abbrev pub public_record : Public → List ℕ
-public_record p = record_of 0x16 (public_contents p)
+public_record p = record_of PUBLIC (public_contents p)
 
 abbrev pub piece_record : Piece → List ℕ
-piece_record p = record_of 0x06 (piece_contents p)
+piece_record p = record_of CONTENT (piece_contents p)
 
 abbrev pub fixup_record : Fixup → List ℕ
-fixup_record f = record_of 0x08 (fixup_contents f)
+fixup_record f = record_of FIXUP (fixup_contents f)
 
 abbrev pub header_record : List ℕ → ℕ → List ℕ
-header_record name version = record_of 0x02 (header_contents name version)
+header_record name version = record_of HEADER (header_contents name version)
 
 abbrev pub end_record : List ℕ → ℕ → List ℕ
-end_record name banks = record_of 0x04 (end_contents name banks)
+end_record name banks = record_of END (end_contents name banks)
 
 -- the records in their order
 unfoldable pub bytes_of : ModuleParts → List ℕ

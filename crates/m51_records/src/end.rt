@@ -9,11 +9,6 @@ use m51_cells::{Name, NoMemory};
 use m51_module::ObjError;
 use std::alloc::Global;
 
-/// The type of the last record.
-///
-/// Source: OMF-51.
-pub(crate) const END: u8 = 0x04;
-
 // The name once more, and the bytes after it. O4 where it is another.
 fn again_at<'a>(name: &Name, end: u32, bytes: &'a [u8]) -> Result<(&'a [u8], &'a [u8]), ObjError>
     ensures { Reads (λ x. (x.0.now, x.1.now)) result (again_at name.now end bytes.now) }

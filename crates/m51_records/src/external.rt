@@ -3,11 +3,13 @@ ghost use Rattle.std.specs.Prelude.{◌≡◌, ◌<◌, ◌++◌, ◌∷◌, [],
 ghost use Rattle.m51_module.specs.declared.symbol.External.{External};
 ghost use Rattle.m51_records.specs.Fields.{Reads, is_among};
 ghost use Rattle.m51_records.specs.Externals.{external_contents, kind_at, external_in};
+ghost use Rattle.m51_records.specs.declared.types.TheConstants.{EXTERNAL};
 
 use crate::codes::{kind_number, kind_of};
 use crate::fields::{broken, byte_at, put_text};
 use crate::record::{Reader, Record};
 use crate::seen::{Seen, new_name_at};
+use crate::types::EXTERNAL;
 use m51_cells::{Kind, MOST_EXTERNALS, NoMemory};
 use m51_module::{External, ObjError};
 use std::alloc::Global;
@@ -27,13 +29,13 @@ pub(crate) fn kind_at(end: u32, bytes: &[u8]) -> Result<(Kind, &[u8]), ObjError>
 }
 
 impl Record for External {
-    ghost TYPE = { 0x18 };
+    ghost TYPE = { EXTERNAL };
 
     ghost spelled = { external_contents };
 
     ghost is_short = { λ _. Unit {0} };
 
-    const TYPE: u8 = 0x18;
+    const TYPE: u8 = EXTERNAL;
 
     fn contents(&self, alloc: Global) -> Result<Vec<u8>, NoMemory> {
         let mut contents = Vec::new(alloc);

@@ -9,11 +9,13 @@ ghost use Rattle.m51_records.specs.Fixups.{target_fields, fixup_contents, field_
 ghost use Rattle.m51_records.specs.Fixups.{field_follows, fixup_offset_at, holds, is_held, is_inside, form_at, is_bit};
 ghost use Rattle.m51_records.specs.Fixups.{bit_at, target_of, tag_at, target_at, addend_at, fixup_in};
 ghost use Rattle.m51_records.specs.WorkPieces.{ends_by, EndBy, ArePassed};
+ghost use Rattle.m51_records.specs.declared.types.TheConstants.{FIXUP};
 
 use crate::codes::{form_number, form_of};
 use crate::fields::{absent, broken, byte_at, pair_at, put_pair};
 use crate::numbered::{external_numbered, segment_numbered};
 use crate::record::{Reader, Record};
+use crate::types::FIXUP;
 use m51_cells::{Base, MOST_FIXUPS, NoMemory};
 use m51_module::{External, Fixup, Form, ObjError, Piece, Segment};
 use std::alloc::Global;
@@ -93,7 +95,7 @@ fn fixup_offset_at<'a>(
 }
 
 // Whether the piece ends at the offset or below it.
-fn ends_before(piece: &Piece, offset: u16) -> bool
+fn ends_below(piece: &Piece, offset: u16) -> bool
     ensures { result ≡ (nat_le piece.now.offset offset && nat_le (length piece.now.bytes) (offset - piece.now.offset)) }
 {
     piece.offset <= offset && piece.bytes.len() <= usize::from(offset - piece.offset)
@@ -103,7 +105,7 @@ fn ends_before(piece: &Piece, offset: u16) -> bool
 fn ends_by(piece: &Piece, segment: u8, offset: u16) -> bool
     ensures { result ≡ ends_by segment offset piece.now }
 {
-    piece.segment < segment || (piece.segment == segment && ends_before(piece, offset))
+    piece.segment < segment || (piece.segment == segment && ends_below(piece, offset))
 }
 
 // How many pieces of the front end by that place of the segment; so many are known to.
@@ -329,13 +331,13 @@ fn put_target(out: &mut Vec<u8>, target: Base) -> Result<(), NoMemory>
 }
 
 impl Record for Fixup {
-    ghost TYPE = { 0x08 };
+    ghost TYPE = { FIXUP };
 
     ghost spelled = { fixup_contents };
 
     ghost is_short = { λ _. Unit {0} };
 
-    const TYPE: u8 = 0x08;
+    const TYPE: u8 = FIXUP;
 
     fn contents(&self, alloc: Global) -> Result<Vec<u8>, NoMemory> {
         let mut contents = Vec::new(alloc);

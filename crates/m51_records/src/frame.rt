@@ -153,7 +153,8 @@ pub(crate) fn put_record(
     Ok(())
 }
 
-/// The bytes of a record of the type with these contents. Want of memory is the one refusal.
+/// The bytes of a record of the type with these contents, which must be less than 65,535 bytes: the type, the length of
+/// what follows it in two bytes, the contents and the checksum. Out of memory is the one error.
 ///
 /// Source: OMF-51.
 pub fn record_bytes(alloc: Global, record_type: u8, contents: &[u8]) -> Result<Vec<u8>, NoMemory>

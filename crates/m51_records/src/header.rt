@@ -9,11 +9,6 @@ use m51_cells::{Name, NoMemory};
 use m51_module::ObjError;
 use std::alloc::Global;
 
-/// The type of the first record.
-///
-/// Source: OMF-51.
-pub(crate) const HEADER: u8 = 0x02;
-
 // Whether it is a version of objects.
 fn is_version(version: u8) -> bool
     ensures { result ≡ is_version version }

@@ -17,6 +17,7 @@ mod reading;
 mod record;
 mod seen;
 mod segment;
+mod types;
 mod writing;
 
 pub use fields::{broken, pair, pair_at, place};
@@ -24,6 +25,7 @@ pub use frame::{checksum_place, record_at, record_bytes};
 pub use laws::{one_number, one_spelling};
 pub use m51_module::ObjError;
 pub use reading::{module_at, read_module};
+pub use types::LIBRARY_HEADER;
 pub use writing::write_module;
 
 #[cfg(test)]

@@ -4,16 +4,16 @@ ghost use Rattle.m51_module.specs.declared.content.Piece.{Piece};
 ghost use Rattle.m51_records.specs.Fields.{Reads};
 ghost use Rattle.m51_records.specs.Contents.{piece_contents, segment_follows, latest, code_segment_at, ends_before};
 ghost use Rattle.m51_records.specs.Contents.{piece_follows, piece_offset_at, limited, content_at, piece_in};
+ghost use Rattle.m51_cells.specs.declared.limits.TheConstants.{MOST_PIECE_BYTES};
+ghost use Rattle.m51_records.specs.declared.types.TheConstants.{CONTENT};
 
 use crate::fields::{absent, broken, byte_at, pair_at, put_pair};
 use crate::numbered::segment_numbered;
 use crate::record::{Reader, Record};
-use m51_cells::{Bytes, NoMemory, is_code};
+use crate::types::CONTENT;
+use m51_cells::{Bytes, MOST_PIECE_BYTES, NoMemory, is_code};
 use m51_module::{ObjError, Piece, Segment};
 use std::alloc::Global;
-
-// The most bytes of a piece.
-const MOST_BYTES: usize = 1024;
 
 // Whether no piece before stands in a later segment.
 fn segment_follows(before: &[Piece], segment: u8) -> bool
@@ -53,7 +53,7 @@ fn ends_before(piece: &Piece, offset: u16) -> bool
     let len = piece.bytes.len();
     let room = usize::from(offset.saturating_sub(piece.offset));
     if len == room {
-        len == MOST_BYTES
+        len == MOST_PIECE_BYTES
     } else {
         len < room
     }
@@ -108,11 +108,11 @@ fn limited(most: usize, end: u32, bytes: &[u8]) -> Result<&[u8], ObjError>
 fn content_at(size: u16, offset: u16, end: u32, bytes: &[u8]) -> Result<&[u8], ObjError>
     ensures { Reads (λ x. x.now) result (content_at size offset end bytes.now) }
 {
-    let len = bytes.len().min(MOST_BYTES);
+    let len = bytes.len().min(MOST_PIECE_BYTES);
     if bytes.is_empty() || usize::from(offset) + len > usize::from(size) {
         return Err(broken(end, bytes));
     }
-    limited(MOST_BYTES, end, bytes)
+    limited(MOST_PIECE_BYTES, end, bytes)
 }
 
 // A copy of the bytes.
@@ -159,13 +159,13 @@ impl<'a> Reader for PieceReader<'a> {
 }
 
 impl Record for Piece {
-    ghost TYPE = { 0x06 };
+    ghost TYPE = { CONTENT };
 
     ghost spelled = { piece_contents };
 
-    ghost is_short = { λ (p : Piece). length p.bytes ≤ 1024 };
+    ghost is_short = { λ (p : Piece). length p.bytes ≤ MOST_PIECE_BYTES };
 
-    const TYPE: u8 = 0x06;
+    const TYPE: u8 = CONTENT;
 
     fn contents(&self, alloc: Global) -> Result<Vec<u8>, NoMemory> {
         let mut contents = Vec::new(alloc);

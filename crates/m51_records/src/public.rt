@@ -4,6 +4,7 @@ ghost use Rattle.m51_module.specs.Validity.{numbered};
 ghost use Rattle.m51_module.specs.declared.symbol.Public.{Public};
 ghost use Rattle.m51_records.specs.Fields.{Reads, is_among};
 ghost use Rattle.m51_records.specs.Publics.{base_number, public_contents, base_of, public_base_at, public_in};
+ghost use Rattle.m51_records.specs.declared.types.TheConstants.{PUBLIC};
 
 use crate::codes::kind_number;
 use crate::external::kind_at;
@@ -11,6 +12,7 @@ use crate::fields::{absent, broken, byte_at, pair_at, put_pair, put_text};
 use crate::numbered::segment_numbered;
 use crate::record::{Reader, Record};
 use crate::seen::{Seen, new_name_at};
+use crate::types::PUBLIC;
 use m51_cells::{Base, Kind, NoMemory, same_kind};
 use m51_module::{ObjError, Public, Segment};
 use std::alloc::Global;
@@ -124,13 +126,13 @@ fn base_number(base: Base) -> u8
 }
 
 impl Record for Public {
-    ghost TYPE = { 0x16 };
+    ghost TYPE = { PUBLIC };
 
     ghost spelled = { public_contents };
 
     ghost is_short = { λ _. Unit {0} };
 
-    const TYPE: u8 = 0x16;
+    const TYPE: u8 = PUBLIC;
 
     fn contents(&self, alloc: Global) -> Result<Vec<u8>, NoMemory> {
         let mut contents = Vec::new(alloc);

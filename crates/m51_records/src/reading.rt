@@ -7,16 +7,17 @@ ghost use Rattle.m51_records.specs.Reading.{segments_at, externals_at, publics_a
 ghost use Rattle.m51_records.specs.Reading.{read_of};
 ghost use Rattle.m51_records.specs.Spelling.{bytes_of, records_in};
 
-use crate::end::{END, read_end};
+use crate::end::read_end;
 use crate::external::ExternalReader;
 use crate::fixup::FixupReader;
 use crate::frame::{checksum_place, record_at};
-use crate::header::{HEADER, read_header};
+use crate::header::read_header;
 use crate::piece::PieceReader;
 use crate::public::PublicReader;
 use crate::record::read_records;
 use crate::seen::Seen;
 use crate::segment::SegmentReader;
+use crate::types::{CONTENT, END, EXTERNAL, FIXUP, HEADER, PUBLIC, SEGMENT};
 use m51_cells::ListOf;
 use m51_module::{External, Fixup, Module, ModuleParts, ObjError, Piece, Public, Segment};
 use std::alloc::Global;
@@ -34,7 +35,14 @@ fn segments_at(
     ensures value { Reads (λ x. (x.0.items, x.1.now)) result (segments_at version total number bytes.now) }
     ensures few { IfOk result (λ x. length x.0.items + length x.1.now ≤ length bytes.now) }
 {
-    read_records(alloc, SegmentReader { version }, total, number, bytes)
+    read_records(
+        alloc,
+        SEGMENT,
+        SegmentReader { version },
+        total,
+        number,
+        bytes,
+    )
 }
 
 // The externals, in the same way.
@@ -51,7 +59,7 @@ fn externals_at(
     let reader = ExternalReader {
         seen: Seen::new(alloc),
     };
-    read_records(alloc, reader, total, number, bytes)
+    read_records(alloc, EXTERNAL, reader, total, number, bytes)
 }
 
 // The publics of a module with these segments.
@@ -70,7 +78,7 @@ fn publics_at<'a>(
         segments,
         seen: Seen::new(alloc),
     };
-    read_records(alloc, reader, total, number, bytes)
+    read_records(alloc, PUBLIC, reader, total, number, bytes)
 }
 
 // The pieces of a module with these segments.
@@ -85,7 +93,14 @@ fn pieces_at<'a>(
     ensures value { Reads (λ x. (x.0.items, x.1.now)) result (pieces_at segments.now total number bytes.now) }
     ensures few { IfOk result (λ x. length x.0.items + length x.1.now ≤ length bytes.now) }
 {
-    read_records(alloc, PieceReader { segments }, total, number, bytes)
+    read_records(
+        alloc,
+        CONTENT,
+        PieceReader { segments },
+        total,
+        number,
+        bytes,
+    )
 }
 
 // The fixups of a module with these segments, externals and pieces.
@@ -109,7 +124,7 @@ fn fixups_at<'a>(
         pieces,
         passed: 0,
     };
-    read_records(alloc, reader, total, number, bytes)
+    read_records(alloc, FIXUP, reader, total, number, bytes)
 }
 
 // The parts of the module at the front of the bytes, the number of the record after it, and the bytes after it.
@@ -155,10 +170,13 @@ fn parts_at(
 }
 
 /// The module at the front of the bytes, the bytes after it, and the number of the record after it. The bytes end with
-/// the file, at its total length, and the first record of the module has that number.
+/// the file, at its total length, and the first record of the module has that number. The number and the length of the
+/// bytes must make less than 4,294,967,296.
 ///
-/// Errors: O1 to O5, the first test that fails, record by record and in a record field by field, with its place in the
-/// file; want of memory.
+/// Errors: the first test that fails, record by record and in a record field by field, with its place in the file.
+/// `O1` where the bytes end inside a record or before one that must come; `O2` where a checksum is wrong; `O3` where a
+/// record of another type must come; `O4` where a field is cut off, out of range or against a rule; `O5` where a
+/// segment or an external is numbered that is not there. `Memory` is the one other error.
 ///
 /// Source: own choice ("Object records").
 pub fn module_at(
@@ -191,9 +209,13 @@ fn front_of(alloc: Global, bytes: &[u8]) -> Result<(Module, usize), ObjError>
     Ok((module, bytes.len() - rest.len()))
 }
 
-/// The module at the front of an object file, and the length of its spelling; bytes may follow it.
+/// The module at the front of an object file, and the length of its spelling; bytes may follow it. The file must have
+/// less than 4,294,967,296 bytes.
 ///
-/// Errors: O1 to O5, the first test that fails, record by record and in a record field by field; want of memory.
+/// Errors: the first test that fails, record by record and in a record field by field. `O1` where the bytes end inside
+/// a record or before one that must come; `O2` where a checksum is wrong; `O3` where a record of another type must
+/// come; `O4` where a field is cut off, out of range or against a rule; `O5` where a segment or an external is numbered
+/// that is not there. `Memory` is the one other error.
 ///
 /// Source: own choice ("Object records").
 pub fn read_module(alloc: Global, bytes: &[u8]) -> Result<(Module, usize), ObjError>

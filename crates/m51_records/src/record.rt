@@ -65,8 +65,11 @@ fn push<T: Drop>(items: &mut Vec<T>, item: T) -> Result<(), NoMemory>
     Ok(())
 }
 
-// The items whose records of that type stand at the front of the bytes, and the bytes after them.
-fn records_of_type<R: Reader>(
+/// The items whose records of that type stand at the front of the bytes, and the bytes after them. They end with the
+/// file, at its total length; the first record has that number.
+///
+/// Errors: those of the frame of a record and of its fields; out of memory.
+pub(crate) fn read_records<R: Reader>(
     alloc: Global,
     record_type: u8,
     reader: R,
@@ -94,35 +97,6 @@ fn records_of_type<R: Reader>(
     Ok((items, rest))
 }
 
-/// The items whose records stand at the front of the bytes, and the bytes after them. They end with the file, at its
-/// total length; the first record has that number.
-///
-/// Errors: those of the frame of a record and of its fields; want of memory.
-///
-/// Source: own choice ("Object records").
-pub(crate) fn read_records<R: Reader>(
-    alloc: Global,
-    reader: R,
-    total: u32,
-    number: u32,
-    bytes: &[u8],
-) -> Result<(Vec<R::Item>, &[u8]), ObjError>
-    requires fits { number + length bytes.now < 2 ^ 32 }
-    requires knows { R.knows reader [] }
-    ensures value { Reads (λ x. (x.0.items, x.1.now)) result
-        (all_at R.Item.TYPE (R.reads reader) total number bytes.now) }
-    ensures few { IfOk result (λ x. length x.0.items + length x.1.now ≤ length bytes.now) }
-{
-    records_of_type(
-        alloc,
-        <R::Item as Record>::TYPE,
-        reader,
-        total,
-        number,
-        bytes,
-    )
-}
-
 // Appends the record of an item.
 fn write_record<T: Record>(alloc: Global, out: &mut Vec<u8>, item: &T) -> Result<(), NoMemory>
     requires { T.is_short item.now }
@@ -132,7 +106,7 @@ fn write_record<T: Record>(alloc: Global, out: &mut Vec<u8>, item: &T) -> Result
     put_record(out, T::TYPE, &contents)
 }
 
-/// Appends the record of each item. Want of memory is the one refusal.
+/// Appends the record of each item. Out of memory is the one error.
 ///
 /// Source: own choice ("Object records").
 pub(crate) fn write_records<T: Record>(

@@ -48,7 +48,7 @@ impl Seen {
         self.names.contains(name.bytes())
     }
 
-    /// Notes a name that is not among them. Want of memory is the one refusal.
+    /// Notes a name that is not among them. Out of memory is the one error.
     ///
     /// Source: own choice ("Object records").
     pub(crate) fn note(&mut self, alloc: Global, name: &Name) -> Result<(), NoMemory>

@@ -5,11 +5,13 @@ ghost use Rattle.m51_records.specs.Segments.{flags_of, marks_of, may_mark, are_m
 ghost use Rattle.m51_records.specs.Segments.{segment_kind_at, reloc_at, marks_at, base_at, limit, is_placed, is_size};
 ghost use Rattle.m51_records.specs.Segments.{size_at, names_segment, no_text, segment_name, is_new, may_have};
 ghost use Rattle.m51_records.specs.Segments.{segment_name_at, segment_in};
+ghost use Rattle.m51_records.specs.declared.types.TheConstants.{SEGMENT};
 
 use crate::codes::{kind_number, kind_of, reloc_number, reloc_of};
 use crate::fields::{broken, byte_at, pair_at, put_pair, put_text, text_at};
 use crate::names::{same, upper_name};
 use crate::record::{Reader, Record};
+use crate::types::SEGMENT;
 use m51_cells::{
     Kind, MOST_MODULE_SEGMENTS, Name, NoMemory, Reloc, allows, fits, is_absolute, largest,
     may_overlay, same_kind,
@@ -272,13 +274,13 @@ fn flags_of(overlay: bool, argument: bool) -> u8
 }
 
 impl Record for Segment {
-    ghost TYPE = { 0x0E };
+    ghost TYPE = { SEGMENT };
 
     ghost spelled = { segment_contents };
 
     ghost is_short = { λ _. Unit {0} };
 
-    const TYPE: u8 = 0x0E;
+    const TYPE: u8 = SEGMENT;
 
     fn contents(&self, alloc: Global) -> Result<Vec<u8>, NoMemory> {
         let mut contents = Vec::new(alloc);

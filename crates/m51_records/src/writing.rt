@@ -2,10 +2,11 @@
 ghost use Rattle.std.specs.Prelude.{◌≡◌, ◌++◌, IfOk, OnOk};
 ghost use Rattle.m51_records.specs.Spelling.{header_record, end_record, bytes_of};
 
-use crate::end::{END, end_contents};
+use crate::end::end_contents;
 use crate::frame::put_record;
-use crate::header::{HEADER, header_contents};
+use crate::header::header_contents;
 use crate::record::write_records;
+use crate::types::{END, HEADER};
 use m51_cells::{Name, NoMemory};
 use m51_module::Module;
 use std::alloc::Global;
@@ -26,7 +27,7 @@ fn put_end(alloc: Global, out: &mut Vec<u8>, name: &Name, banks: u8) -> Result<(
     put_record(out, END, &contents)
 }
 
-/// The bytes of the object file of the module: each module has one spelling. Want of memory is the one refusal.
+/// The bytes of the object file of the module: each module has one spelling. Out of memory is the one error.
 ///
 /// Source: own choice ("Object records").
 #[tactic(auto, unfolding(crate::specs::Spelling::bytes_of))]

@@ -2,6 +2,7 @@
 use Rattle.std.proofs.Common.{◌≡◌, Bool, true, false, cond, ◌&&◌, ◌||◌, List, [], ◌∷◌, ◌++◌, refl, sym, ap, ◌∙◌}
 use Rattle.std.specs.List.{filter, list_any}
 use Rattle.std.specs.Str.{bytes_eq}
+use Rattle.std.proofs.lemmas.Bool.{and_parts, or_right}
 use Rattle.std.proofs.lemmas.List.Folds.{list_any-append}
 use Rattle.std.proofs.lemmas.Slice.Eq.{bytes_eq-Decides}
 use Rattle.m51_module.specs.declared.segment.Segment.{Segment}
@@ -11,10 +12,6 @@ use Rattle.m51_resolve.specs.Joining.{are_parts, is_relocatable}
 pub not_true : (x : Bool) → (x ≡ true → ⊥) → x ≡ false
 not_true true h = absurd (h refl)
 not_true false h = refl
-
-pub or_true : (x : Bool) → (x || true) ≡ true
-or_true true = refl
-or_true false = refl
 
 -- neither is true
 pub none_of : (x y : Bool) → (x || y) ≡ false → (x ≡ false) × (y ≡ false)
@@ -27,16 +24,11 @@ pub record HaveOneName (a b : Segment) : Type 0 where
   pub second : is_relocatable b.reloc ≡ true
   pub name : a.name ≡ b.name
 
-all_true : (x y z : Bool) → (x && y && z) ≡ true → (x ≡ true) × (y ≡ true) × (z ≡ true)
-all_true true true true h = (refl, refl, refl)
-all_true true true false h = cc
-all_true true false z h = cc
-all_true false y z h = cc
-
 pub parts_have : (a b : Segment) → are_parts a b ≡ true → HaveOneName a b
 parts_have a b h =
-    let p = all_true (is_relocatable a.reloc) (is_relocatable b.reloc) (bytes_eq a.name b.name) h in
-    record { first = p.0; second = p.1; name = (bytes_eq-Decides a.name b.name).0 p.2 }
+    let p = and_parts (is_relocatable a.reloc && is_relocatable b.reloc) (bytes_eq a.name b.name) h in
+    let q = and_parts (is_relocatable a.reloc) (is_relocatable b.reloc) p.0 in
+    record { first = q.0; second = q.1; name = (bytes_eq-Decides a.name b.name).0 p.1 }
 
 -- a relocatable segment is a part of the same as itself
 pub part_self : (a : Segment) → is_relocatable a.reloc ≡ true → are_parts a a ≡ true
@@ -88,4 +80,4 @@ pub any_more : (p : Segment → Bool) (xs ys : List Segment) → list_any p xs �
 any_more p xs ys h = list_any-append p xs ys ∙ ap (λ b. b || list_any p ys) h
 
 pub any_last : (p : Segment → Bool) (xs : List Segment) (x : Segment) → p x ≡ true → list_any p (xs ++ x ∷ []) ≡ true
-any_last p xs x h = list_any-append p xs (x ∷ []) ∙ ap (λ b. list_any p xs || (b || false)) h ∙ or_true (list_any p xs)
+any_last p xs x h = list_any-append p xs (x ∷ []) ∙ ap (λ b. list_any p xs || (b || false)) h ∙ or_right (list_any p xs) true refl

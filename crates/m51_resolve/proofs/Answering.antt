@@ -3,8 +3,10 @@ use Rattle.std.proofs.Common.{◌≡◌, ℕ, suc, ◌≤◌, Bool, true, false,
 use Rattle.std.specs.Prelude.{All, find, IsErrAnd, nat_lt, option_map, Result, Ok, Err}
 use Rattle.std.specs.List.{filter}
 use Rattle.std.specs.Option.{option_or}
+use Rattle.std.proofs.lemmas.Bool.{ltb-false}
 use Rattle.std.proofs.lemmas.List.{length-map}
 use Rattle.std.proofs.lemmas.Option.{slice_get-get_or}
+use Rattle.m51_cells.specs.declared.limits.TheConstants.{MOST_MODULES, MOST_SEGMENTS, MOST_UNITS}
 use Rattle.m51_cells.specs.Outcome.{Gives, RefusesWith}
 use Rattle.m51_cells.specs.Kinds.{is_code}
 use Rattle.m51_module.specs.declared.linked.Quantity.{Quantity}
@@ -25,7 +27,7 @@ use Rattle.m51_resolve.specs.Publics.{all_externals, definition_of}
 use Rattle.m51_resolve.specs.Rules.{AreResolved, but_memory, contrary_external, is_mixed, is_too_large, large_segment, mixed_segment, more_than, first_refusal, shared_public, undefined_external, units_of, unless_refused}
 use Rattle.m51_resolve.proofs.DefinedNames.{definitions_are}
 use Rattle.m51_resolve.proofs.JoinSteps.{none_at}
-use Rattle.m51_resolve.proofs.Within.{find_none, no_option, not_above}
+use Rattle.m51_resolve.proofs.Within.{find_none, no_option}
 
 -- a refusal is answered; want of memory says nothing
 pub refuses : (modules : List ModuleParts) (error : Refusal) (rule : Option Refusal) → rule ≡ Some error → RefusesWith (but_memory error) (unless_refused modules rule)
@@ -99,8 +101,8 @@ count_is all fs = length-map fs (growing_of all) ∙ sym (length-map fs (joined_
 
 -- the last four rules
 last_rules : List ModuleParts → Option Refusal
-last_rules modules = option_or (option_map L4 (mixed_segment modules)) (option_or (more_than 2000 Segments (length (segments_of modules)))
-    (option_or (more_than 1000 Units (length (units_of modules))) (option_or (option_map L5 (large_segment modules)) None)))
+last_rules modules = option_or (option_map L4 (mixed_segment modules)) (option_or (more_than MOST_SEGMENTS Segments (length (segments_of modules)))
+    (option_or (more_than MOST_UNITS Units (length (units_of modules))) (option_or (option_map L5 (large_segment modules)) None)))
 
 growing_is : (modules : List ModuleParts) → rules_of_growing (all_growing (all_segments modules)) ≡ last_rules modules
 unfolding last_rules
@@ -110,28 +112,28 @@ growing_is modules =
     let gs = all_growing all in
     let mixed = option_map L4 (option_map (λ (g : Growing). g.first.name) (find (λ g. g.mixed) gs)) in
     let large = option_map L5 (option_map (λ (g : Growing). title_of g.first) (find is_large gs)) in
-    let count = more_than 2000 Segments (length gs) in
-    let units = more_than 1000 Units (length (filter is_unit gs)) in
+    let count = more_than MOST_SEGMENTS Segments (length gs) in
+    let units = more_than MOST_UNITS Units (length (filter is_unit gs)) in
     in_a_row mixed count units large
     ∙ ap (λ o. option_or (option_map L4 o) (option_or count (option_or units (option_or large None)))) (mixed_is all fs)
-    ∙ ap (λ n. option_or (option_map L4 (mixed_segment modules)) (option_or (more_than 2000 Segments n) (option_or units (option_or large None)))) (count_is all fs)
-    ∙ ap (λ n. option_or (option_map L4 (mixed_segment modules)) (option_or (more_than 2000 Segments (length (segments_of modules))) (option_or (more_than 1000 Units n) (option_or large None)))) (units_is all fs)
-    ∙ ap (λ o. option_or (option_map L4 (mixed_segment modules)) (option_or (more_than 2000 Segments (length (segments_of modules))) (option_or (more_than 1000 Units (length (units_of modules))) (option_or (option_map L5 o) None)))) (large_is all fs)
+    ∙ ap (λ n. option_or (option_map L4 (mixed_segment modules)) (option_or (more_than MOST_SEGMENTS Segments n) (option_or units (option_or large None)))) (count_is all fs)
+    ∙ ap (λ n. option_or (option_map L4 (mixed_segment modules)) (option_or (more_than MOST_SEGMENTS Segments (length (segments_of modules))) (option_or (more_than MOST_UNITS Units n) (option_or large None)))) (units_is all fs)
+    ∙ ap (λ o. option_or (option_map L4 (mixed_segment modules)) (option_or (more_than MOST_SEGMENTS Segments (length (segments_of modules))) (option_or (more_than MOST_UNITS Units (length (units_of modules))) (option_or (option_map L5 o) None)))) (large_is all fs)
 
 -- the rules after those of publics, and after those of externals
 later_rules : List ModuleParts → Option Refusal
 later_rules modules = option_or (option_map L2 (undefined_external modules)) (option_or (option_map L3 (contrary_external modules)) (last_rules modules))
 
-all_rules : (modules : List ModuleParts) → first_refusal modules ≡ option_or (more_than 255 Modules (length modules)) (option_or (option_map L1 (shared_public modules)) (later_rules modules))
+all_rules : (modules : List ModuleParts) → first_refusal modules ≡ option_or (more_than MOST_MODULES Modules (length modules)) (option_or (option_map L1 (shared_public modules)) (later_rules modules))
 unfolding later_rules last_rules
 all_rules modules = refl
 
 pub publics_refused : (modules : List ModuleParts) (error : Refusal) → rules_of_publics modules ≡ Some error → first_refusal modules ≡ Some error
 publics_refused modules error h =
-    all_rules modules ∙ two_some (more_than 255 Modules (length modules)) (option_map L1 (shared_public modules)) (later_rules modules) error h
+    all_rules modules ∙ two_some (more_than MOST_MODULES Modules (length modules)) (option_map L1 (shared_public modules)) (later_rules modules) error h
 
 after_publics : (modules : List ModuleParts) → rules_of_publics modules ≡ None → first_refusal modules ≡ later_rules modules
-after_publics modules h = all_rules modules ∙ skip (more_than 255 Modules (length modules)) (option_map L1 (shared_public modules)) (later_rules modules) h
+after_publics modules h = all_rules modules ∙ skip (more_than MOST_MODULES Modules (length modules)) (option_map L1 (shared_public modules)) (later_rules modules) h
 
 pub externals_refused : (modules : List ModuleParts) (error : Refusal) → rules_of_publics modules ≡ None → rules_of_externals (definition_of modules) (all_externals modules) ≡ Some error
     → first_refusal modules ≡ Some error
@@ -152,25 +154,25 @@ few_by true what h = cc
 few_by false what h = refl
 
 few : (most : ℕ) (what : Quantity) (count : ℕ) → more_than most what count ≡ None → count ≤ most
-few most what count h = not_above most count (few_by (nat_lt most count) what h)
+few most what count h = ltb-false most count (few_by (nat_lt most count) what h)
 
 -- no rule fails
 pub meets : (modules : List ModuleParts) → rules_of_publics modules ≡ None → rules_of_externals (definition_of modules) (all_externals modules) ≡ None
     → rules_of_growing (all_growing (all_segments modules)) ≡ None → AreResolved modules
 unfolding last_rules
 meets modules p e g =
-    let ps = two_none (more_than 255 Modules (length modules)) (option_map L1 (shared_public modules)) p in
+    let ps = two_none (more_than MOST_MODULES Modules (length modules)) (option_map L1 (shared_public modules)) p in
     let es = two_none (option_map L2 (undefined_external modules)) (option_map L3 (contrary_external modules)) e in
-    let gs = four_none (option_map L4 (mixed_segment modules)) (more_than 2000 Segments (length (segments_of modules))) (more_than 1000 Units (length (units_of modules)))
+    let gs = four_none (option_map L4 (mixed_segment modules)) (more_than MOST_SEGMENTS Segments (length (segments_of modules))) (more_than MOST_UNITS Units (length (units_of modules)))
     (option_map L5 (large_segment modules)) (sym (growing_is modules) ∙ g) in
     record {
-      few_modules = few 255 Modules (length modules) ps.0;
+      few_modules = few MOST_MODULES Modules (length modules) ps.0;
       publics = no_option L1 (shared_public modules) ps.1;
       externals = no_option L2 (undefined_external modules) es.0;
       kinds = no_option L3 (contrary_external modules) es.1;
       parts = no_option L4 (mixed_segment modules) gs.0;
-      few_segments = few 2000 Segments (length (segments_of modules)) gs.1;
-      few_units = few 1000 Units (length (units_of modules)) gs.2;
+      few_segments = few MOST_SEGMENTS Segments (length (segments_of modules)) gs.1;
+      few_units = few MOST_UNITS Units (length (units_of modules)) gs.2;
       sizes = no_option L5 (large_segment modules) gs.3;
     }
 
@@ -179,8 +181,8 @@ pub none_large : (growing : List Growing) → rules_of_growing growing ≡ None 
 none_large growing h = λ k d below.
     let mixed = option_map L4 (option_map (λ (g : Growing). g.first.name) (find (λ g. g.mixed) growing)) in
     let large = option_map L5 (option_map (λ (g : Growing). title_of g.first) (find is_large growing)) in
-    let none = (four_none mixed (more_than 2000 Segments (length growing)) (more_than 1000 Units (length (filter is_unit growing))) large
-    (sym (in_a_row mixed (more_than 2000 Segments (length growing)) (more_than 1000 Units (length (filter is_unit growing))) large) ∙ h)).3 in
+    let none = (four_none mixed (more_than MOST_SEGMENTS Segments (length growing)) (more_than MOST_UNITS Units (length (filter is_unit growing))) large
+    (sym (in_a_row mixed (more_than MOST_SEGMENTS Segments (length growing)) (more_than MOST_UNITS Units (length (filter is_unit growing))) large) ∙ h)).3 in
     let unfound = no_option (λ (g : Growing). title_of g.first) (find is_large growing) (no_option L5 (option_map (λ (g : Growing). title_of g.first) (find is_large growing)) none) in
     none_at is_large growing k (get_or growing k d) (find_none is_large growing unfound) (slice_get-get_or growing k d below)
 

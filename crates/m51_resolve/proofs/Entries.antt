@@ -5,6 +5,7 @@ use Rattle.std.specs.Option.{option_map_or, option_or}
 use Rattle.std.specs.Str.{bytes_eq}
 use Rattle.std.proofs.lemmas.List.{length-map, get_or_default}
 use Rattle.std.proofs.lemmas.Option.{get_or_from_slice_get, slice_get_within, slice_get-map}
+use Rattle.m51_cells.specs.declared.limits.TheConstants.{MOST_MODULES, MOST_SEGMENTS}
 use Rattle.m51_module.specs.declared.parts.ModuleParts.{ModuleParts}
 use Rattle.m51_module.specs.declared.segment.Segment.{Segment}
 use Rattle.m51_module.specs.declared.symbol.External.{External}
@@ -89,7 +90,7 @@ part_entry modules joined starts table external_starts defined m s kept h =
     let part = part_after (take n all) t.item in
     let whole : all ≡ take n all ++ t.item ∷ drop (suc n) all = around all n t.item is in
     let at : slice_get table n ≡ Some part = ap (λ ps. slice_get ps n) kept.parts ∙ get_part [] all n t.item is in
-    let most : length (segments_of modules) ≤ 2000 = kept.resolved.few_segments in
+    let most : length (segments_of modules) ≤ MOST_SEGMENTS = kept.resolved.few_segments in
     record {
       part = part;
       entry = entry items modules starts table part m s kept.segment_starts t at;
@@ -122,7 +123,7 @@ definition_number number name (m ∷ more) d h =
     or_else_by (definition_among number 0 name m.publics) (definition_from (number + 1) name more) d number (length more) h
     (among_number number 0 name m.publics d) (definition_number (number + 1) name more d)
 
-few_by : (modules : List ModuleParts) (name : List ℕ) (o : Option Definition) → definition_of modules name ≡ o → length modules ≤ 255 → (unwrap_or o nowhere).number < 256
+few_by : (modules : List ModuleParts) (name : List ℕ) (o : Option Definition) → definition_of modules name ≡ o → length modules ≤ MOST_MODULES → (unwrap_or o nowhere).number < 256
 few_by modules name None is few = lit< tt
 few_by modules name (Some d) is few = omega (arith, definition_number 0 name modules d is, few)
 

@@ -1,5 +1,5 @@
 -- A module of one segment, one public and one external is valid.
-use Rattle.std.proofs.Common.{◌≡◌, ◌≢◌, inr, true, List, [], ◌∷◌, refl, ℕ, arith, All, AllPairs}
+use Rattle.std.proofs.Common.{◌≡◌, ◌≢◌, inr, true, List, [], ◌∷◌, refl, ℕ, arith}
 use Rattle.m51_cells.specs.Name.{IsWritten}
 use Rattle.m51_cells.specs.declared.kind.Base.TheVariants.{None}
 use Rattle.m51_cells.specs.declared.kind.Kind.TheVariants.{Code}
@@ -9,16 +9,12 @@ use Rattle.m51_module.specs.declared.segment.Segment.{Segment}
 use Rattle.m51_module.specs.declared.symbol.External.{External}
 use Rattle.m51_module.specs.declared.symbol.Public.{Public}
 use Rattle.m51_module.specs.Validity.{IsValid, IsSegmentValid, IsPublicValid, IsPieceValid, IsFixupValid, FieldBefore, Differ, LiesBefore}
-use Rattle.m51_module.proofs.SampleModule.{all_one, pairs_one}
+use Rattle.m51_cells.proofs.Small.{all_one, pairs_none}
+use Rattle.m51_module.proofs.SampleModule.{pairs_one}
+use Rattle.m51_module.proofs.SamplePublic.{all_none}
 
 abbrev pub of_code : List ℕ → Public
 of_code name = record { name = name; kind = Code; base = None; number = 0 }
-
-all_none : {X : Type 0} (P : X → Type 0) → All P []
-all_none P k d below = absurd (omega (arith, below))
-
-pairs_none : {X : Type 0} (R : X → X → Type 0) → AllPairs R []
-pairs_none R i j d less below = absurd (omega (arith, below))
 
 one_valid : (name public : List ℕ) (segment : Segment) (external : External) → IsWritten name → IsSegmentValid segment → IsWritten public → IsWritten external.name
     → IsValid (record { name = name; version = 2; segments = segment ∷ []; publics = of_code public ∷ []; externals = external ∷ []; pieces = []; fixups = []; banks = 1 })

@@ -4,6 +4,7 @@ use Rattle.std.specs.Prelude.{find, option_map}
 use Rattle.std.specs.List.{list_any}
 use Rattle.std.specs.Option.{option_or}
 use Rattle.std.specs.Str.{bytes_eq}
+use Rattle.std.proofs.lemmas.Bool.{or_right}
 use Rattle.std.proofs.lemmas.List.{at_drop_more, take_more}
 use Rattle.std.proofs.lemmas.List.Folds.{list_any-append}
 use Rattle.std.proofs.lemmas.Option.{slice_get-get_or}
@@ -14,7 +15,6 @@ use Rattle.m51_module.specs.Library.{defines, has_public}
 use Rattle.m51_resolve.specs.declared.definitions.Defined.{Defined}
 use Rattle.m51_resolve.specs.Rules.{shared_after, shared_public}
 use Rattle.m51_resolve.specs.WorkNames.{AreDefinitions, shared_in, two_define}
-use Rattle.m51_resolve.proofs.Alike.{or_true}
 use Rattle.m51_resolve.proofs.DefinedNames.{shared_is}
 use Rattle.m51_resolve.proofs.Lookups.{around}
 
@@ -53,7 +53,7 @@ shared_passed modules number m below is none h =
 
 any_middle : (f : ModuleParts → Bool) (before after : List ModuleParts) (m : ModuleParts) → f m ≡ true → list_any f (before ++ m ∷ after) ≡ true
 any_middle f before after m h =
-    list_any-append f before (m ∷ after) ∙ ap (λ b. list_any f before || (b || list_any f after)) h ∙ or_true (list_any f before)
+    list_any-append f before (m ∷ after) ∙ ap (λ b. list_any f before || (b || list_any f after)) h ∙ or_right (list_any f before) true refl
 
 two_by : (b d d' t : Bool) → d ≡ true → t ≡ d' → cond b d t ≡ (b || d')
 two_by true d d' t h e = h
@@ -72,7 +72,7 @@ find_same : (f g : Public → Bool) (xs : List Public) → ((p : Public) → lis
 find_same f g [] h = refl
 find_same f g (x ∷ xs) h =
     ap (λ b. cond b (Some x) (find f xs)) (h x (ap (λ b. b || list_any (λ q. bytes_eq q.name x.name) xs) ((bytes_eq-Decides x.name x.name).1 refl)))
-    ∙ ap (λ o. cond (g x) (Some x) o) (find_same f g xs (λ p k. h p (ap (λ b. bytes_eq x.name p.name || b) k ∙ or_true (bytes_eq x.name p.name))))
+    ∙ ap (λ o. cond (g x) (Some x) o) (find_same f g xs (λ p k. h p (ap (λ b. bytes_eq x.name p.name || b) k ∙ or_right (bytes_eq x.name p.name) true refl)))
 
 -- the table says which of a module's publics others share
 pub table_shared : (modules : List ModuleParts) (table : List (List ℕ × Defined)) (number : ℕ) (m : ModuleParts) → AreDefinitions modules table → number < length modules

@@ -1,10 +1,12 @@
 -- The items of all modules in one list.
-use Rattle.std.proofs.Common.{◌≡◌, ◌⊎◌, inl, inr, ℕ, zero, suc, ◌+◌, ◌*◌, ◌<◌, ◌≤◌, List, [], ◌∷◌, ◌++◌, length, take, get_or, refl, sym, ap, ◌∙◌, subst, arith, length-append}
+use Rattle.std.proofs.Common.{◌≡◌, inl, inr, ℕ, ◌+◌, ◌*◌, ◌<◌, ◌≤◌, List, [], ◌∷◌, ◌++◌, length, take, get_or, refl, sym, ap, ◌∙◌, subst, arith, length-append}
 use Rattle.std.specs.Prelude.{flat_map, slice_index}
 use Rattle.std.proofs.lemmas.List.{append-nil, get_or_default, take_more}
 use Rattle.std.proofs.lemmas.List.Concat.{flat_map-append}
 use Rattle.std.proofs.Math.ListN.{get_or-append}
 use Rattle.std.proofs.Math.Seq.{get_or-append_seam}
+use Rattle.m51_cells.specs.declared.limits.TheConstants.{MOST_MODULE_SEGMENTS}
+use Rattle.m51_cells.proofs.Small.{below_or_last}
 use Rattle.m51_module.specs.declared.parts.ModuleParts.{ModuleParts}
 use Rattle.m51_module.specs.declared.segment.Segment.{Segment}
 use Rattle.m51_module.specs.Validity.{IsValid}
@@ -19,16 +21,8 @@ pub record AreFlat {A : Type 0} (items : ModuleParts → List A) (modules : List
 
 pub record AreSegmentsOf (modules : List ModuleParts) (count : ℕ) (all : List Segment) (starts : List ℕ) : Type 0 where
   pub are : AreFlat (λ m. m.segments) modules count all starts
-  pub most : length all ≤ 254 * count
+  pub most : length all ≤ MOST_MODULE_SEGMENTS * count
   pub valid : (m : ℕ) → m < count → (d : ModuleParts) → IsValid (get_or modules m d)
-
-below_or_last : (m count : ℕ) → m < count + 1 → (m < count) ⊎ (m ≡ count)
-below_or_last m zero h = inr (omega (arith, h))
-below_or_last zero (suc count) h = inl (omega arith)
-below_or_last (suc m) (suc count) h = elim (below_or_last m count (omega (arith, h))) as (λ d. (suc m < suc count) ⊎ (suc m ≡ suc count)) [
-  | inl below ↦ inl (omega (arith, below))
-  | inr last ↦ inr (ap suc last)
-]
 
 pub flat_start : {A : Type 0} (items : ModuleParts → List A) (modules : List ModuleParts) → AreFlat items modules 0 [] []
 flat_start items modules = record { few = omega arith; flat = refl; len = refl; each = λ m below. absurd (omega (arith, below)) }

@@ -4,17 +4,14 @@ use Rattle.std.specs.List.{list_any}
 use Rattle.std.specs.Str.{bytes_eq}
 use Rattle.std.proofs.lemmas.List.{take_all, take_more}
 use Rattle.std.proofs.lemmas.List.Folds.{list_any-append}
+use Rattle.std.proofs.Math.Bool.{or-false}
 use Rattle.m51_module.specs.declared.parts.ModuleParts.{ModuleParts}
 use Rattle.m51_module.specs.declared.symbol.External.{External}
 use Rattle.m51_resolve.specs.Choice.{wants}
 use Rattle.m51_resolve.specs.WorkNames.{AreWanted, wanted_in, Wants}
 
-or_none : (a : Bool) → a ≡ (a || false)
-or_none true = refl
-or_none false = refl
-
 or_last : (a b : Bool) → (a || b) ≡ (a || (b || false))
-or_last a b = ap (λ x. a || x) (or_none b)
+or_last a b = ap (λ x. a || x) (sym (or-false b))
 
 -- the set has the externals of one module more
 pub wanted_push : (ms : List ModuleParts) (m : ModuleParts) (old new : List (List ℕ)) (externals : List External) → AreWanted ms old → Wants old externals new
@@ -30,7 +27,7 @@ pub none_wanted : AreWanted [] []
 none_wanted = record { each = λ name. refl }
 
 pub want_none : (old : List (List ℕ)) (externals : List External) → Wants old (take 0 externals) old
-want_none old externals = record { each = λ name. or_none (wanted_in old name) }
+want_none old externals = record { each = λ name. sym (or-false (wanted_in old name)) }
 
 or_four : (q i a : Bool) → cond q true (i || a) ≡ (i || (a || (q || false)))
 or_four true true a = refl

@@ -1,12 +1,12 @@
 -- Parts lie inside their joined segments.
 use Rattle.std.proofs.Common.{◌≡◌, ℕ, ◌+◌, ◌<◌, ◌≤◌, Bool, true, false, cond, ◌||◌, List, [], ◌∷◌, ◌++◌, length, map, refl, sym, ap, ◌∙◌, append_assoc, length-append, arith, lit≤, Option, Some, None}
-use Rattle.std.specs.Prelude.{find, option_map, position, slice_get, unwrap_or, nat_lt}
+use Rattle.std.specs.Prelude.{find, option_map, position, slice_get, unwrap_or}
 use Rattle.std.specs.List.{filter, list_any}
+use Rattle.std.proofs.lemmas.Bool.{ltb-false, or_right}
 use Rattle.std.proofs.lemmas.List.{append-nil}
 use Rattle.std.proofs.lemmas.List.Elements.{filter-append}
 use Rattle.std.proofs.lemmas.List.Folds.{Any-from_list_any, list_any-append}
 use Rattle.std.proofs.lemmas.List.Quantifiers.{position-Some}
-use Rattle.std.proofs.lemmas.Bool.Decides.{nat_tests}
 use Rattle.std.proofs.lemmas.Option.{slice_get-get_or}
 use Rattle.m51_cells.specs.declared.kind.Kind.{Kind}
 use Rattle.m51_cells.specs.declared.kind.Kind.TheVariants.{Code, Xdata, Direct, Idata, Bits, Number}
@@ -17,7 +17,7 @@ use Rattle.m51_module.specs.declared.parts.ModuleParts.{ModuleParts}
 use Rattle.m51_module.specs.declared.segment.Segment.{Segment}
 use Rattle.m51_resolve.specs.Joining.{all_segments, are_parts, end_after, firsts, firsts_after, is_relocatable, joined_of, part_after, parts_with, segments_of, start_after}
 use Rattle.m51_resolve.specs.Rules.{is_too_large, large_segment}
-use Rattle.m51_resolve.proofs.Alike.{absolute_none, filter_none, filter_same, or_true, part_self, parts_have}
+use Rattle.m51_resolve.proofs.Alike.{absolute_none, filter_none, filter_same, part_self, parts_have}
 use Rattle.m51_resolve.proofs.FirstSight.{any_firsts, push_by}
 use Rattle.m51_resolve.proofs.JoinSteps.{none_at, start_zero}
 use Rattle.m51_resolve.proofs.Positions.{none_found}
@@ -107,9 +107,6 @@ most_fits Bits Abs = lit≤ tt
 most_fits Number Abs = lit≤ tt
 most_fits kind reloc = lit≤ tt
 
-pub not_above : (a b : ℕ) → nat_lt a b ≡ false → b ≤ a
-not_above a b h = grind (arith, nat_tests)
-
 -- a joined segment ends in 16 bits where L5 does not come
 pub end_fits : (modules : List ModuleParts) (s : Segment) → large_segment modules ≡ None → list_any (are_parts s) (all_segments modules) ≡ true
     → end_after 0 (filter (are_parts s) (all_segments modules)) ≤ 65535
@@ -123,7 +120,7 @@ end_fits modules s small seen =
     let named = (parts_have s f k.4).second in
     let none : list_any (λ x. is_too_large (joined_of all x)) fs ≡ false =
     sym (any-map is_too_large (joined_of all) fs) ∙ find_none is_too_large (segments_of modules) (no_option (λ j. j.title) (find is_too_large (segments_of modules)) small) in
-    let fits = not_above (most_of f.kind f.reloc) (end_after 0 (parts_with all f)) (none_at (λ x. is_too_large (joined_of all x)) fs k.0 f none at) in
+    let fits = ltb-false (most_of f.kind f.reloc) (end_after 0 (parts_with all f)) (none_at (λ x. is_too_large (joined_of all x)) fs k.0 f none at) in
     let is : end_after 0 (parts_with all f) ≡ end_after 0 (filter (are_parts s) all) =
     ap (λ r. end_after 0 (cond r (filter (are_parts f) all) (f ∷ []))) named ∙ ap (end_after 0) (sym (filter_same s f k.4 all)) in
     omega (arith, fits, is, most_fits f.kind f.reloc)
@@ -136,7 +133,7 @@ offset_by false modules before s after absolute is small =
     omega (arith, zero_end)
 offset_by true modules before s after named is small =
     let seen : list_any (are_parts s) (before ++ s ∷ after) ≡ true =
-    list_any-append (are_parts s) before (s ∷ after) ∙ ap (λ b. list_any (are_parts s) before || (b || list_any (are_parts s) after)) (part_self s named) ∙ or_true (list_any (are_parts s) before) in
+    list_any-append (are_parts s) before (s ∷ after) ∙ ap (λ b. list_any (are_parts s) before || (b || list_any (are_parts s) after)) (part_self s named) ∙ or_right (list_any (are_parts s) before) true refl in
     let fits = end_fits modules s small (ap (list_any (are_parts s)) is ∙ seen) in
     omega (arith, part_offset before s after named, fits, ap (λ all. end_after 0 (filter (are_parts s) all)) is)
 

@@ -1,5 +1,6 @@
 -- How segments are joined: the relocatable ones of one name, in module order; an absolute one stays by itself.
-use Rattle.std.specs.Prelude.{ℕ, ◌+◌, ◌-◌, ◌*◌, ◌/◌, Bool, not, ◌&&◌, if◌then◌else◌, List, [], ◌∷◌, ◌++◌, length, map, take, filter, flat_map, position, slice_get, Option, unwrap_or, option_and_then}
+use Rattle.std.specs.Prelude.{ℕ, ◌+◌, ◌-◌, ◌*◌, ◌/◌, Bool, not, ◌&&◌, if◌then◌else◌, List, [], ◌∷◌, ◌++◌, length, map}
+use Rattle.std.specs.Prelude.{take, filter, flat_map, position, slice_get, Option, unwrap_or, option_and_then}
 use Rattle.std.specs.List.{list_any}
 use Rattle.std.specs.Option.{option_map_or}
 use Rattle.std.specs.Str.{bytes_eq}
@@ -90,5 +91,6 @@ segments_before modules m s =
 -- The joined number and the offset of the part that a segment is; 0 and 0 where it is not there.
 abbrev pub part_of : List ModuleParts → ℕ → ℕ → ℕ × ℕ
 part_of modules m s =
-    option_map_or (λ segment. let part : Part = part_after (segments_before modules m s) segment in (part.number, part.offset))
+    option_map_or
+    (λ segment. let part : Part = part_after (segments_before modules m s) segment in (part.number, part.offset))
     (segment_at modules m s) (0, 0)

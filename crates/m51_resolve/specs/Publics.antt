@@ -1,5 +1,6 @@
 -- Which public resolves an external.
-use Rattle.std.specs.Prelude.{ℕ, ◌+◌, Bool, ◌||◌, if◌then◌else◌, List, [], ◌∷◌, flat_map, slice_get, Option, Some, None, unwrap_or, option_and_then}
+use Rattle.std.specs.Prelude.{ℕ, ◌+◌, Bool, ◌||◌, if◌then◌else◌, List, [], ◌∷◌, flat_map, slice_get, Option, Some, None}
+use Rattle.std.specs.Prelude.{unwrap_or, option_and_then}
 use Rattle.std.specs.Option.{option_or}
 use Rattle.std.specs.Str.{bytes_eq}
 use Rattle.m51_cells.specs.declared.kind.Kind.{Kind}
@@ -47,7 +48,8 @@ resolving modules e = unwrap_or (definition_of modules e.name) nowhere
 -- The public that resolves an external of a module: the number of its module, and its index there, both from 0.
 abbrev pub public_of : List ModuleParts → ℕ → ℕ → ℕ × ℕ
 public_of modules m e =
-    let known : Option Definition = option_and_then (λ (x : External). definition_of modules x.name) (external_at modules m e) in
+    let known : Option Definition =
+    option_and_then (λ (x : External). definition_of modules x.name) (external_at modules m e) in
     let found : Definition = unwrap_or known nowhere in
     (found.number, found.index)
 

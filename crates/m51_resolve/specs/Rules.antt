@@ -1,7 +1,9 @@
 -- The rules that the chosen modules must meet, and the refusal of the first that they do not.
-use Rattle.std.specs.Prelude.{◌≡◌, ℕ, ◌≤◌, Bool, true, false, not, ◌&&◌, if◌then◌else◌, nat_lt, List, [], ◌∷◌, ◌++◌, length, filter, find, is_none, Option, Some, None, option_map, Result, Ok, Err}
+use Rattle.std.specs.Prelude.{◌≡◌, ℕ, ◌≤◌, Bool, true, false, not, ◌&&◌, if◌then◌else◌, nat_lt, List, [], ◌∷◌, ◌++◌}
+use Rattle.std.specs.Prelude.{length, filter, find, is_none, Option, Some, None, option_map, Result, Ok, Err}
 use Rattle.std.specs.List.{list_all}
 use Rattle.std.specs.Option.{option_or}
+use Rattle.m51_cells.specs.declared.limits.TheConstants.{MOST_MODULES, MOST_SEGMENTS, MOST_UNITS}
 use Rattle.m51_cells.specs.declared.kind.Kind.{Kind}
 use Rattle.m51_cells.specs.Kinds.{is_code, most_of, same_kind, same_reloc}
 use Rattle.m51_module.specs.declared.linked.Quantity.{Quantity}
@@ -90,13 +92,13 @@ first_of (rule ∷ more) = option_or rule (first_of more)
 -- The rules in their order.
 abbrev pub first_refusal : List ModuleParts → Option Refusal
 first_refusal modules = first_of (
-    more_than 255 Modules (length modules)
+    more_than MOST_MODULES Modules (length modules)
     ∷ option_map L1 (shared_public modules)
     ∷ option_map L2 (undefined_external modules)
     ∷ option_map L3 (contrary_external modules)
     ∷ option_map L4 (mixed_segment modules)
-    ∷ more_than 2000 Segments (length (segments_of modules))
-    ∷ more_than 1000 Units (length (units_of modules))
+    ∷ more_than MOST_SEGMENTS Segments (length (segments_of modules))
+    ∷ more_than MOST_UNITS Units (length (units_of modules))
     ∷ option_map L5 (large_segment modules)
     ∷ [])
 
@@ -120,11 +122,11 @@ but_memory refusal = Some refusal
 
 -- the modules meet each rule
 pub record AreResolved (modules : List ModuleParts) : Type 0 where
-  pub few_modules : length modules ≤ 255
+  pub few_modules : length modules ≤ MOST_MODULES
   pub publics : shared_public modules ≡ None
   pub externals : undefined_external modules ≡ None
   pub kinds : contrary_external modules ≡ None
   pub parts : mixed_segment modules ≡ None
-  pub few_segments : length (segments_of modules) ≤ 2000
-  pub few_units : length (units_of modules) ≤ 1000
+  pub few_segments : length (segments_of modules) ≤ MOST_SEGMENTS
+  pub few_units : length (units_of modules) ≤ MOST_UNITS
   pub sizes : large_segment modules ≡ None

@@ -1,5 +1,6 @@
 -- Of the code: joined segments while their parts are joined.
-use Rattle.std.specs.Prelude.{◌≡◌, ℕ, ◌+◌, nat_lt, Bool, false, not, ◌||◌, if◌then◌else◌, List, [], ◌∷◌, ◌++◌, length, map, position, slice_get, slice_set, Option, Some, None}
+use Rattle.std.specs.Prelude.{◌≡◌, ℕ, ◌+◌, nat_lt, Bool, false, not, ◌||◌, if◌then◌else◌, List, [], ◌∷◌, ◌++◌, length}
+use Rattle.std.specs.Prelude.{map, position, slice_get, slice_set, Option, Some, None}
 use Rattle.m51_cells.specs.Kinds.{is_code, most_of}
 use Rattle.m51_module.specs.declared.segment.Segment.{Segment}
 use Rattle.m51_resolve.specs.declared.joining.Growing.{Growing}
@@ -42,7 +43,8 @@ joined_with growing s = position (λ g. are_parts s g.first) growing
 abbrev pub JoinsAt : List Growing → Segment → Option ℕ → Part → List Growing → Type 0
 JoinsAt old s None part new = (part ≡ record { number = length old; offset = 0 }) × (new ≡ old ++ begun s ∷ [])
 JoinsAt old s (Some number) part new =
-    (g : Growing) × (slice_get old number ≡ Some g) × (part ≡ record { number = number; offset = start_after s.reloc g.end })
+    (g : Growing) × (slice_get old number ≡ Some g)
+    × (part ≡ record { number = number; offset = start_after s.reloc g.end })
     × (new ≡ slice_set old number (grown g s))
 
 abbrev pub Joins : List Growing → Segment → Part → List Growing → Type 0

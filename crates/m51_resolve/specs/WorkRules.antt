@@ -1,5 +1,7 @@
 -- Of the code: the rules as its steps test them.
-use Rattle.std.specs.Prelude.{◌≡◌, ℕ, nat_lt, if◌then◌else◌, List, [], ◌∷◌, length, filter, find, Option, Some, None, option_map, Result, Ok, Err}
+use Rattle.std.specs.Prelude.{◌≡◌, ℕ, nat_lt, if◌then◌else◌, List, [], ◌∷◌, length, filter, find, Option, Some, None}
+use Rattle.std.specs.Prelude.{option_map, Result, Ok, Err}
+use Rattle.m51_cells.specs.declared.limits.TheConstants.{MOST_MODULES, MOST_SEGMENTS, MOST_UNITS}
 use Rattle.m51_module.specs.declared.linked.Quantity.TheVariants.{Modules, Segments, Units}
 use Rattle.m51_module.specs.declared.linked.Refusal.{Refusal}
 use Rattle.m51_module.specs.declared.linked.Refusal.TheVariants.{L1, L2, L3, L4, L5}
@@ -15,7 +17,7 @@ use Rattle.m51_resolve.specs.WorkNames.{contrary_by, undefined_by}
 -- the first rules, which publics must meet
 abbrev pub rules_of_publics : List ModuleParts → Option Refusal
 rules_of_publics modules =
-    first_of (more_than 255 Modules (length modules) ∷ option_map L1 (shared_public modules) ∷ [])
+    first_of (more_than MOST_MODULES Modules (length modules) ∷ option_map L1 (shared_public modules) ∷ [])
 
 -- the next, which externals must meet
 abbrev pub rules_of_externals : (List ℕ → Option Definition) → List External → Option Refusal
@@ -27,8 +29,8 @@ rules_of_externals definition externals = first_of (
 -- those of the numbers of joined segments and units
 abbrev pub rules_of_counts : List Growing → Option Refusal
 rules_of_counts growing = first_of (
-    more_than 2000 Segments (length growing)
-    ∷ more_than 1000 Units (length (filter is_unit growing))
+    more_than MOST_SEGMENTS Segments (length growing)
+    ∷ more_than MOST_UNITS Units (length (filter is_unit growing))
     ∷ [])
 
 -- the last, which joined segments must meet
@@ -46,4 +48,4 @@ Tells rule (Err refusal) = rule ≡ Some refusal
 
 -- what is chosen next, where not more modules are chosen than a link takes
 abbrev pub next_of : List ModuleParts → Option ℕ → Option ℕ
-next_of chosen needed = if nat_lt 255 (length chosen) then None else needed
+next_of chosen needed = if nat_lt MOST_MODULES (length chosen) then None else needed

@@ -6,7 +6,7 @@ ghost use Rattle.m51_resolve.specs.WorkNames.{definition_in, resolving_by};
 use crate::definitions::{Definitions, definition_of};
 use m51_cells::{Kind, NoMemory, same_kind};
 use m51_module::External;
-use std::alloc::{AllocError, Global};
+use std::alloc::Global;
 
 // Where a name is defined: a public of a chosen module.
 #[derive(Clone, Copy)]
@@ -37,21 +37,6 @@ fn resolving(definitions: &Definitions, external: &External) -> Definition
     })
 }
 
-// The publics that resolve these externals.
-fn resolving_each(
-    alloc: Global,
-    definitions: &Definitions,
-    externals: &[External],
-) -> Result<Vec<Definition>, AllocError>
-    ensures { let definition = definition_in definitions.now.entries in
-        IfOk result (λ found. found.items ≡ map (resolving_by definition) externals.now) }
-{
-    externals
-        .iter()
-        .map(|external| resolving(definitions, external))
-        .collect(alloc)
-}
-
 // The publics that resolve these externals. Out of memory is the one error.
 pub(crate) fn resolving_all(
     alloc: Global,
@@ -61,6 +46,9 @@ pub(crate) fn resolving_all(
     ensures { let definition = definition_in definitions.now.entries in
         IfOk result (λ found. found.items ≡ map (resolving_by definition) externals.now) }
 {
-    let found = resolving_each(alloc, definitions, externals)?;
+    let mut found = Vec::new(alloc);
+    for external in externals {
+        found.push(resolving(definitions, external))?;
+    }
     Ok(found)
 }

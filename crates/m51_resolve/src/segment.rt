@@ -10,7 +10,7 @@ pub struct JoinedSegment {
     pub title: Name,
     pub kind: Kind,
     pub reloc: Reloc,
-    /// OVERLAYABLE: the segment holds locals of a unit.
+    /// OVERLAYABLE: the segment holds locals or arguments of a unit.
     pub overlay: bool,
     /// ARGUMENT: the segment holds the arguments of a unit, which its callers fill.
     pub argument: bool,

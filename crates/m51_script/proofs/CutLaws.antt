@@ -1,30 +1,18 @@
 -- A text is cut at its first blanks where it was joined by them.
-use Rattle.std.proofs.Common.{◌≡◌, ℕ, suc, ◌+◌, ◌<◌, ◌≤◌, Bool, true, false, not, ◌&&◌, cond, nat_lt, List, [], ◌∷◌, ◌++◌, length, take, drop, Some, None, refl, sym, ap, ◌∙◌, subst, arith, length-append}
+use Rattle.std.proofs.Common.{◌≡◌, ℕ, suc, ◌+◌, ◌<◌, ◌≤◌, Bool, true, false, not, cond, nat_lt, List, [], ◌∷◌, ◌++◌, length, take, drop, Some, None, refl, sym, ap, ◌∙◌, subst, arith, length-append}
 use Rattle.std.specs.List.{list_all, prefix_len, position_or_len}
-use Rattle.std.proofs.lemmas.Bool.{and_from, and_parts}
+use Rattle.std.proofs.lemmas.Bool.{and_parts, le-ltb, lt-ltb, ltb-true, not-true}
 use Rattle.std.proofs.lemmas.Option.{cond_some}
 use Rattle.std.proofs.lemmas.List.{take-append-drop}
-use Rattle.std.proofs.lemmas.Bool.Decides.{nat_tests}
 use Rattle.std.proofs.Math.Seq.{take-append_seam, drop-append_seam}
 use Rattle.m51_cells.proofs.Passing.{run_len, stops_at, front_passes}
-use Rattle.m51_script.specs.Parts.{cut, is_blank}
+use Rattle.m51_cells.specs.Blanks.{is_blank}
+use Rattle.m51_script.specs.Parts.{cut}
 use Rattle.m51_script.specs.Written.{AreBlanks}
 
 -- no byte is a blank
 abbrev pub NoBlanks : List ℕ → Type 0
 NoBlanks text = list_all (λ b. not (is_blank b)) text ≡ true
-
-pub less : (a b : ℕ) → nat_lt a b ≡ true → a < b
-less a b h = grind (arith, nat_tests)
-
-pub passes_less : (a b : ℕ) → a < b → nat_lt a b ≡ true
-passes_less a b h = grind (arith, nat_tests)
-
-pub passes_not_less : (a b : ℕ) → b ≤ a → nat_lt a b ≡ false
-passes_not_less a b h = grind (arith, nat_tests)
-
-pub not_less : (a b : ℕ) → nat_lt a b ≡ false → b ≤ a
-not_less a b h = grind (arith, nat_tests)
 
 all_step : (n m : ℕ) (b : Bool) → b ≡ true → n ≡ m → cond b (1 + n) 0 ≡ suc m
 all_step n m true h e = omega (arith, e)
@@ -63,7 +51,7 @@ cut_sound text parts h =
     let found : (nat_lt n (length text) ≡ true) × ((take n text, drop m rest) ≡ parts) = cond_some (nat_lt n (length text)) (take n text, drop m rest) parts h in
     let here : IsCut text (take n text) (drop m rest) = record {
       blanks = take m rest;
-      blank = record { some = some_blank text (less n (length text) found.0); each = front_passes is_blank rest };
+      blank = record { some = some_blank text (ltb-true n (length text) found.0); each = front_passes is_blank rest };
       is = sym (take-append-drop n text) ∙ ap (λ l. take n text ++ l) (sym (take-append-drop m rest));
     } in
     subst (λ (p : List ℕ × List ℕ). IsCut text p.0 p.1) found.1 here
@@ -71,7 +59,7 @@ cut_sound text parts h =
 cut_where : (n : ℕ) (text part behind rest : List ℕ) → position_or_len is_blank text ≡ n → n < length text → take n text ≡ part → drop n text ≡ behind → drop (prefix_len is_blank behind) behind ≡ rest → cut text ≡ Some (part, rest)
 cut_where n text part behind rest place inside front back after =
     ap (λ n. cond (nat_lt n (length text)) (Some (take n text, drop (prefix_len is_blank (drop n text)) (drop n text))) None) place
-    ∙ ap (λ t. cond t (Some (take n text, drop (prefix_len is_blank (drop n text)) (drop n text))) None) (passes_less n (length text) inside)
+    ∙ ap (λ t. cond t (Some (take n text, drop (prefix_len is_blank (drop n text)) (drop n text))) None) (lt-ltb n (length text) inside)
     ∙ ap (λ l. Some (take n text, drop (prefix_len is_blank l) l)) back
     ∙ ap (λ l. Some (l, drop (prefix_len is_blank behind) behind)) front
     ∙ ap (λ l. Some (part, l)) after
@@ -94,17 +82,13 @@ pub cut_none : (text : List ℕ) → NoBlanks text → cut text ≡ None
 cut_none text lacks =
     let n = position_or_len is_blank text in
     let whole : length text ≤ n = omega (arith, all_len (λ b. not (is_blank b)) text lacks) in
-    ap (λ t. cond t (Some (take n text, drop (prefix_len is_blank (drop n text)) (drop n text))) None) (passes_not_less n (length text) whole)
-
-is_false : (b : Bool) → not b ≡ true → b ≡ false
-is_false true h = absurd (cc)
-is_false false h = refl
+    ap (λ t. cond t (Some (take n text, drop (prefix_len is_blank (drop n text)) (drop n text))) None) (le-ltb n (length text) whole)
 
 -- a text that begins with no blank
 pub starts : (text rest : List ℕ) → 0 < length text → NoBlanks text → prefix_len is_blank (text ++ rest) ≡ 0
 starts [] rest h lacks = absurd (omega (arith, h))
-starts (x ∷ text) rest h lacks = stops_at is_blank x (text ++ rest) (is_false (is_blank x) (and_parts (not (is_blank x)) (list_all (λ b. not (is_blank b)) text) lacks).0)
+starts (x ∷ text) rest h lacks = stops_at is_blank x (text ++ rest) (not-true (is_blank x) (and_parts (not (is_blank x)) (list_all (λ b. not (is_blank b)) text) lacks).0)
 
 pub starts_alone : (text : List ℕ) → NoBlanks text → prefix_len is_blank text ≡ 0
 starts_alone [] lacks = refl
-starts_alone (x ∷ text) lacks = stops_at is_blank x text (is_false (is_blank x) (and_parts (not (is_blank x)) (list_all (λ b. not (is_blank b)) text) lacks).0)
+starts_alone (x ∷ text) lacks = stops_at is_blank x text (not-true (is_blank x) (and_parts (not (is_blank x)) (list_all (λ b. not (is_blank b)) text) lacks).0)

@@ -1,11 +1,13 @@
 -- A line is read as a form exactly where it is written so.
-use Rattle.std.proofs.Common.{◌≡◌, ℕ, Bool, true, false, ◌==◌, cond, List, [], ◌∷◌, ◌++◌, Option, Some, None, refl, sym, ap, ◌∙◌, subst, arith}
+use Rattle.std.proofs.Common.{◌≡◌, ℕ, true, ◌==◌, List, [], ◌∷◌, ◌++◌, Option, Some, None, refl, sym, ap, ◌∙◌, subst, arith}
 use Rattle.std.specs.Prelude.{codes}
 use Rattle.std.specs.Option.{option_and_then}
 use Rattle.std.specs.Str.{bytes_eq}
 use Rattle.std.proofs.lemmas.Slice.Eq.{bytes_eq-Decides}
 use Rattle.std.proofs.lemmas.Bool.Decides.{nat_tests}
+use Rattle.std.proofs.lemmas.Option.{same_Some}
 use Rattle.m51_cells.proofs.Passing.{goes_on}
+use Rattle.m51_cells.proofs.Small.{either}
 use Rattle.m51_script.specs.declared.forms.Form.{Form}
 use Rattle.m51_script.specs.declared.forms.Form.TheVariants.{Fill, Pin, Receive}
 use Rattle.m51_script.specs.Parts.{cut}
@@ -16,16 +18,6 @@ use Rattle.m51_script.specs.Laws.{ReadAsWritten}
 use Rattle.m51_script.proofs.CutLaws.{IsCut, NoBlanks, cut_complete, cut_none, cut_sound, starts, starts_alone}
 use Rattle.m51_script.proofs.NumberLaws.{number_complete, number_lacks, number_sound}
 
-either : {A P : Type 0} (b : Bool) (x y : Option A) (z : A) → cond b x y ≡ Some z → (b ≡ true → x ≡ Some z → P) → (b ≡ false → y ≡ Some z → P) → P
-either true x y z h first second = first refl h
-either false x y z h first second = second refl h
-
-same_value : {A : Type 0} (x y : A) → Some x ≡ Some y → x ≡ y
-same_value x y h = cc
-
-same_word : (word other : List ℕ) → bytes_eq word other ≡ true → word ≡ other
-same_word word other h = (bytes_eq-Decides word other).0 h
-
 -- a line that is a word, blanks and a text
 cut_at_word : (line word other text : List ℕ) → IsCut line word text → word ≡ other → IsCut line other text
 cut_at_word line word other text k is = subst (λ w. IsCut line w text) is k
@@ -33,7 +25,7 @@ cut_at_word line word other text k is = subst (λ w. IsCut line w text) is k
 fill_sound : (line text : List ℕ) (form : Form) → IsCut line (codes "FILL") text → fill_of text ≡ Some form → Writes line form
 fill_sound line text form k h =
     let byte = goes_on _ (hexadecimal text) form h in
-    Fills {one = k.blanks} {hh = text} {byte = byte.value} k.blank (number_sound 16 4 text byte.value byte.found) k.is (sym (same_value (Fill byte.value) form byte.goes))
+    Fills {one = k.blanks} {hh = text} {byte = byte.value} k.blank (number_sound 16 4 text byte.value byte.found) k.is (sym (same_Some (Fill byte.value) form byte.goes))
 
 -- Pn
 record IsPort (part : List ℕ) (port : ℕ) : Type 0 where
@@ -61,14 +53,14 @@ pin_sound line text form k h =
     Pins {one = k.blanks} {two = one.blanks} {three = two.blanks} {cc = first.value.0} {n = pn.digit} {hh = second.value.1} {cycle = cycle.value} {port = port.value} {level = level.value}
     k.blank (number_sound 10 10 first.value.0 cycle.value cycle.found) one.blank pn.writes two.blank (number_sound 16 4 second.value.1 level.value level.found)
     (k.is ∙ ap (λ l. codes "PIN" ++ (k.blanks ++ l)) (one.is ∙ ap (λ l. first.value.0 ++ (one.blanks ++ l)) (two.is ∙ ap (λ l. l ++ (two.blanks ++ second.value.1)) pn.is)))
-    (sym (same_value (Pin cycle.value port.value level.value) form level.goes))
+    (sym (same_Some (Pin cycle.value port.value level.value) form level.goes))
 
 frame_sound : (line text rest cc : List ℕ) (cycle : ℕ) (form : Form) (o : Option (List ℕ × List ℕ)) → IsCut line (codes "RX") text → IsCut text cc rest → WritesCycle cc cycle → cut rest ≡ o
     → option_and_then (λ (frame : ℕ × ℕ). Some (Receive cycle frame.0 frame.1)) (received_as rest o) ≡ Some form → Writes line form
 frame_sound line text rest cc cycle form None k one w e h =
     let frame = goes_on (λ (frame : ℕ × ℕ). Some (Receive cycle frame.0 frame.1)) (received_as rest None) form h in
     let byte = goes_on (λ byte. Some (byte, 1)) (hexadecimal rest) frame.value frame.found in
-    let says : Receive cycle byte.value 1 ≡ form = ap (λ (f : ℕ × ℕ). Receive cycle f.0 f.1) (same_value (byte.value, 1) frame.value byte.goes) ∙ same_value (Receive cycle frame.value.0 frame.value.1) form frame.goes in
+    let says : Receive cycle byte.value 1 ≡ form = ap (λ (f : ℕ × ℕ). Receive cycle f.0 f.1) (same_Some (byte.value, 1) frame.value byte.goes) ∙ same_Some (Receive cycle frame.value.0 frame.value.1) form frame.goes in
     Receives {one = k.blanks} {two = one.blanks} {cc = cc} {hh = rest} {cycle = cycle} {byte = byte.value} k.blank w one.blank (number_sound 16 4 rest byte.value byte.found)
     (k.is ∙ ap (λ l. codes "RX" ++ (k.blanks ++ l)) one.is) (sym says)
 frame_sound line text rest cc cycle form (Some parts) k one w e h =
@@ -76,7 +68,7 @@ frame_sound line text rest cc cycle form (Some parts) k one w e h =
     let byte = goes_on (λ byte. option_and_then (λ bit. Some (byte, bit)) (decimal 1 parts.1)) (hexadecimal parts.0) frame.value frame.found in
     let bit = goes_on (λ bit. Some (byte.value, bit)) (decimal 1 parts.1) frame.value byte.goes in
     let two = cut_sound rest parts e in
-    let says : Receive cycle byte.value bit.value ≡ form = ap (λ (f : ℕ × ℕ). Receive cycle f.0 f.1) (same_value (byte.value, bit.value) frame.value bit.goes) ∙ same_value (Receive cycle frame.value.0 frame.value.1) form frame.goes in
+    let says : Receive cycle byte.value bit.value ≡ form = ap (λ (f : ℕ × ℕ). Receive cycle f.0 f.1) (same_Some (byte.value, bit.value) frame.value bit.goes) ∙ same_Some (Receive cycle frame.value.0 frame.value.1) form frame.goes in
     ReceivesBit {one = k.blanks} {two = one.blanks} {three = two.blanks} {cc = cc} {hh = parts.0} {b = parts.1} {cycle = cycle} {byte = byte.value} {bit = bit.value}
     k.blank w one.blank (number_sound 16 4 parts.0 byte.value byte.found) two.blank (number_sound 10 1 parts.1 bit.value bit.found)
     (k.is ∙ ap (λ l. codes "RX" ++ (k.blanks ++ l)) (one.is ∙ ap (λ l. cc ++ (one.blanks ++ l)) two.is)) (sym says)
@@ -91,9 +83,9 @@ receive_sound line text form k h =
 word_sound : (line word text : List ℕ) (form : Form) → IsCut line word text → by_word word text ≡ Some form → Writes line form
 unfolding by_word
 word_sound line word text form k h =
-    either (bytes_eq word (codes "FILL")) (fill_of text) _ form h (λ is found. fill_sound line text form (cut_at_word line word (codes "FILL") text k (same_word word (codes "FILL") is)) found)
-    λ _ h2. either (bytes_eq word (codes "PIN")) (pin_of text) _ form h2 (λ is found. pin_sound line text form (cut_at_word line word (codes "PIN") text k (same_word word (codes "PIN") is)) found)
-    λ _ h3. either (bytes_eq word (codes "RX")) (receive_of text) None form h3 (λ is found. receive_sound line text form (cut_at_word line word (codes "RX") text k (same_word word (codes "RX") is)) found)
+    either (bytes_eq word (codes "FILL")) (fill_of text) _ form h (λ is found. fill_sound line text form (cut_at_word line word (codes "FILL") text k ((bytes_eq-Decides word (codes "FILL")).0 is)) found)
+    λ _ h2. either (bytes_eq word (codes "PIN")) (pin_of text) _ form h2 (λ is found. pin_sound line text form (cut_at_word line word (codes "PIN") text k ((bytes_eq-Decides word (codes "PIN")).0 is)) found)
+    λ _ h3. either (bytes_eq word (codes "RX")) (receive_of text) None form h3 (λ is found. receive_sound line text form (cut_at_word line word (codes "RX") text k ((bytes_eq-Decides word (codes "RX")).0 is)) found)
     λ _ h4. absurd (cc)
 
 line_sound : (line : List ℕ) (form : Form) → form_of line ≡ Some form → Writes line form

@@ -1,34 +1,30 @@
 -- A number is read exactly where its digits stand.
-use Rattle.std.proofs.Common.{◌≡◌, ℕ, ◌+◌, ◌*◌, ◌<◌, ◌≤◌, Bool, true, false, not, ◌||◌, ◌==◌, cond, nat_lt, List, [], ◌∷◌, length, Option, Some, None, refl, sym, ap, ◌∙◌, arith}
+use Rattle.std.proofs.Common.{◌≡◌, ℕ, ◌+◌, ◌*◌, ◌≤◌, Bool, true, false, not, ◌||◌, ◌==◌, cond, nat_lt, List, [], ◌∷◌, length, Option, Some, None, refl, sym, ap, ◌∙◌, arith}
 use Rattle.std.specs.Char.{digit_value}
 use Rattle.std.specs.List.{list_all}
-use Rattle.std.proofs.lemmas.Bool.{and_from}
+use Rattle.std.proofs.lemmas.Bool.{and_from, le-ltb, ltb-false}
 use Rattle.std.proofs.lemmas.Bool.Decides.{nat_tests}
-use Rattle.m51_script.specs.Parts.{is_blank}
-use Rattle.m51_script.specs.Digits.{number_of, value_in}
+use Rattle.m51_cells.specs.Blanks.{is_blank}
+use Rattle.m51_lex.specs.Number.{value_in}
+use Rattle.m51_script.specs.Digits.{number_of}
 use Rattle.m51_script.specs.Written.{WritesNumber}
-use Rattle.m51_script.proofs.CutLaws.{NoBlanks, not_less, passes_not_less}
+use Rattle.m51_cells.proofs.Small.{not_zero, positive}
+use Rattle.m51_script.proofs.CutLaws.{NoBlanks}
 
 number_parts : (a b : Bool) (v : Option ℕ) (n : ℕ) → cond a None (cond b None v) ≡ Some n → (a ≡ false) × (b ≡ false) × (v ≡ Some n)
 number_parts true b v n h = absurd (cc)
 number_parts false true v n h = absurd (cc)
 number_parts false false v n h = (refl, refl, h)
 
-positive : (m : ℕ) → (m == 0) ≡ false → 0 < m
-positive m h = grind (arith, nat_tests)
-
-not_zero : (m : ℕ) → 0 < m → (m == 0) ≡ false
-not_zero m h = grind (arith, nat_tests)
-
 pub number_sound : (base most : ℕ) (text : List ℕ) (n : ℕ) → number_of base most text ≡ Some n → WritesNumber base most text n
 number_sound base most text n h =
     let p = number_parts (length text == 0) (nat_lt most (length text)) (value_in base 0 text) n h in
-    record { some = positive (length text) p.0; few = not_less most (length text) p.1; is = p.2 }
+    record { some = positive (length text) p.0; few = ltb-false most (length text) p.1; is = p.2 }
 
 pub number_complete : (base most : ℕ) (text : List ℕ) (n : ℕ) → WritesNumber base most text n → number_of base most text ≡ Some n
 number_complete base most text n w =
     ap (λ a. cond a None (cond (nat_lt most (length text)) None (value_in base 0 text))) (not_zero (length text) w.some)
-    ∙ ap (λ b. cond b None (value_in base 0 text)) (passes_not_less most (length text) w.few)
+    ∙ ap (λ b. cond b None (value_in base 0 text)) (le-ltb most (length text) w.few)
     ∙ w.is
 
 space_is_no_digit : nat_lt (digit_value 32) 16 ≡ false

@@ -1,5 +1,5 @@
 -- What is read when no line is left.
-use Rattle.std.proofs.Common.{◌≡◌, ℕ, ◌+◌, ◌≤◌, true, List, [], length, Result, Ok, refl, sym, ap, ◌∙◌, subst, arith}
+use Rattle.std.proofs.Common.{◌≡◌, ℕ, ◌≤◌, true, List, [], Result, Ok, refl, sym, ap, ◌∙◌, subst, arith}
 use Rattle.std.specs.Str.Lines.{lines as lines_of}
 use Rattle.m51_script.specs.declared.error.ScriptError.{ScriptError}
 use Rattle.m51_timers_uart.specs.declared.receiving.Frame.{Frame}
@@ -12,9 +12,6 @@ use Rattle.m51_script.proofs.TimedLaws.{ascends_up, timed_push}
 
 no_lines : lines_of [] ≡ []
 no_lines = refl
-
-pub all_counted : (count : ℕ) (rest : List ℕ) (n : ℕ) → rest ≡ [] → count + length (lines_of rest) ≡ n → count ≡ n
-all_counted count rest n is h = let none : length (lines_of rest) ≡ 0 = ap (λ l. length (lines_of l)) is ∙ ap length no_lines in omega (arith, none, h)
 
 pub all_read : (number : ℕ) (r : Reading) (rest : List ℕ) (whole : Result Script ScriptError) → rest ≡ [] → read_from number r (lines_of rest) ≡ whole → whole ≡ Ok r.script
 all_read number r rest whole is h = sym h ∙ ap (λ l. read_from number r (lines_of l)) is ∙ ap (read_from number r) no_lines

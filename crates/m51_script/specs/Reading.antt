@@ -1,13 +1,14 @@
 -- What a board script says, line by line.
 use Rattle.std.specs.Prelude.{ℕ, ◌+◌, true, false, ◌==◌, nat_lt, if◌then◌else◌, List, [], ◌∷◌, length, Option, Some, None, Result, Ok, Err}
 use Rattle.std.specs.Str.Lines.{lines as lines_of}
+use Rattle.m51_cells.specs.declared.limits.TheConstants.{MOST_SCRIPT_LINES}
 use Rattle.m51_script.specs.declared.error.ScriptError.{ScriptError}
 use Rattle.m51_script.specs.declared.error.ScriptError.TheVariants.{S1, S2, S3, Limit, Memory}
 use Rattle.m51_script.specs.declared.forms.Form.{Form}
 use Rattle.m51_script.specs.declared.forms.Form.TheVariants.{Fill, Pin, Receive}
 use Rattle.m51_script.specs.declared.reading.Reading.{Reading}
 use Rattle.m51_script.specs.declared.script.Script.{Script}
-use Rattle.m51_script.specs.Parts.{is_skipped}
+use Rattle.m51_cells.specs.Blanks.{is_skipped}
 use Rattle.m51_script.specs.Grammar.{form_of}
 use Rattle.m51_script.specs.Timing.{IsTimed, latest_cycle, with_line}
 
@@ -75,7 +76,7 @@ read_from number r (line ∷ more) = go_on (with_text number r line) (λ r. read
 
 -- the script of at most 65,536 lines
 abbrev pub script_of_lines : List (List ℕ) → Result Script ScriptError
-script_of_lines all = if nat_lt 65536 (length all) then Err Limit else read_from 1 unread all
+script_of_lines all = if nat_lt MOST_SCRIPT_LINES (length all) then Err Limit else read_from 1 unread all
 
 -- the script of a file: its lines end in LF or CR LF, which the last may lack
 abbrev pub script_of : List ℕ → Result Script ScriptError

@@ -1,6 +1,7 @@
 //! Numbers of a few digits.
 ghost use Rattle.std.specs.Prelude.{◌≡◌, ◌≤◌, length};
-ghost use Rattle.m51_script.specs.Digits.{decimal, hexadecimal, number_of, value_in};
+ghost use Rattle.m51_lex.specs.Number.{value_in};
+ghost use Rattle.m51_script.specs.Digits.{decimal, hexadecimal, number_of};
 
 // The value of at most ten digits.
 fn value_in(base: u32, digits: &[u8]) -> Option<u64>

@@ -12,19 +12,19 @@ use thiserror::Error;
 pub enum ScriptError {
     /// The first refused line, counted from 1, has no form of a script's line; or it is a FILL after another or after a
     /// timed line.
-    #[error("SCRIPT LINE {line}: S1")]
+    #[error("line {line} is not a line of a script")]
     S1 { line: u32 },
     /// The first refused line has a cycle below that of an earlier line.
-    #[error("SCRIPT LINE {line}: S2")]
+    #[error("the cycle of line {line} is less than an earlier one")]
     S2 { line: u32 },
     /// The first refused line has a number out of its range.
-    #[error("SCRIPT LINE {line}: S3")]
+    #[error("a number of line {line} is out of its range")]
     S3 { line: u32 },
     /// There are over 65,536 lines.
-    #[error("LIMIT SCRIPTLINES 65536")]
+    #[error("the script has too many lines")]
     Limit,
     /// Want of memory.
-    #[error("MEMORY")]
+    #[error("out of memory")]
     Memory,
 }
 

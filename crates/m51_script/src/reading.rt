@@ -1,5 +1,6 @@
 //! Reads a board script.
 ghost use Rattle.std.specs.Prelude.{◌≡◌, ◌≤◌, ◌<◌, IfOk, length};
+ghost use Rattle.m51_cells.specs.declared.limits.TheConstants.{MOST_SCRIPT_LINES};
 ghost use Rattle.m51_cells.specs.Outcome.{Gives};
 ghost use Rattle.std.specs.Str.Lines.{lines as lines_of};
 ghost use Rattle.m51_script.specs.Timing.{Ascends, latest_cycle, with_line};
@@ -9,15 +10,12 @@ ghost use Rattle.m51_script.specs.Reading.{unread, with_form, with_text};
 use crate::error::ScriptError;
 use crate::forms::{Form, form_of};
 use crate::frame_lines::FrameLines;
-use crate::parts::is_skipped;
 use crate::pin_lines::{Change, PinLines};
 use crate::script::Script;
-use m51_cells::{MOST_SCRIPT_LINES, NoMemory, first_line};
+use crate::timing::LATEST_CYCLE;
+use m51_cells::{MOST_SCRIPT_LINES, NoMemory, first_line, is_skipped, line_count};
 use m51_timers_uart::Frame;
 use std::alloc::Global;
-
-// The last cycle that a line may name.
-const LATEST_CYCLE: u64 = 99_999_999;
 
 // What is read of a script.
 #[derive(Drop)]
@@ -205,22 +203,9 @@ fn with_text(reading: Reading, number: u32, line: &[u8]) -> Result<Reading, Scri
     }
 }
 
-// How many lines there are.
-fn line_count(bytes: &[u8]) -> usize
-    ensures { result ≡ length (lines_of bytes.now) }
-{
-    let mut count = 0;
-    let mut rest = bytes;
-    while let Some((_line, after)) = first_line(rest) {
-        count += 1;
-        rest = after;
-    }
-    count
-}
-
 // The script of at most 65,536 lines.
 fn read_lines(alloc: Global, bytes: &[u8]) -> Result<Script, ScriptError>
-    requires { length (lines_of bytes.now) ≤ 65536 }
+    requires { length (lines_of bytes.now) ≤ MOST_SCRIPT_LINES }
     ensures { Gives (λ script. script) refusal_of result (read_from 1 unread (lines_of bytes.now)) }
 {
     let mut reading = unread(alloc)?;
@@ -236,11 +221,15 @@ fn read_lines(alloc: Global, bytes: &[u8]) -> Result<Script, ScriptError>
 }
 
 /// Reads a board script. A line ends in LF or CR LF, which the last may lack. A line that is empty, holds only blanks
-/// or begins with `;` is skipped, and counts.
+/// or begins with `;` is skipped, and counts. The others are `FILL hh`, `PIN cycle Pn hh`, `RX cycle hh` and
+/// `RX cycle hh b`: a cycle has 1 to 10 decimal digits, hh 1 to 4 hexadecimal ones, and n and b one decimal digit each.
 ///
-/// Errors: `Limit` for over 65,536 lines; or else the first refused line with the first of these: `S1` where it has no
-/// form, or is a FILL after another or after a timed line; `S3` where a number is out of its range; `S2` where its
-/// cycle is below that of an earlier line; or want of memory.
+/// Errors: `Limit` for over 65,536 lines; else, of the first refused line, counted from 1, the first of these; or want
+/// of memory:
+///
+/// - `S1`: it has no such form, or is a FILL after another or after a timed line.
+/// - `S3`: its cycle is above 99,999,999, or 0 in an RX; hh is above FFH, n above 3 or b above 1.
+/// - `S2`: its cycle is below that of an earlier line.
 ///
 /// Source: own choice ("Scripts").
 pub fn read_script(alloc: Global, bytes: &[u8]) -> Result<Script, ScriptError>

@@ -77,6 +77,24 @@ fn the_first_refused_line_is_named(rt: HostRuntime) -> Result<(), Fail> {
 }
 
 #[test]
+fn a_fill_comes_once_and_first(rt: HostRuntime) -> Result<(), Fail> {
+    assert!(rt; refused(&rt, b"FILL 00\nFILL 00") == Some(ScriptError::S1 { line: 2 }));
+    assert!(rt; refused(&rt, b"FILL 100") == Some(ScriptError::S3 { line: 1 }));
+    assert!(rt; refused(&rt, b"FILL FF\nPIN 0 P0 00") == None);
+    Ok(())
+}
+
+#[test]
+fn numbers_have_their_ranges(rt: HostRuntime) -> Result<(), Fail> {
+    assert!(rt; refused(&rt, b"PIN 0 P0 100") == Some(ScriptError::S3 { line: 1 }));
+    assert!(rt; refused(&rt, b"PIN 100000000 P0 00") == Some(ScriptError::S3 { line: 1 }));
+    assert!(rt; refused(&rt, b"RX 5 41 2") == Some(ScriptError::S3 { line: 1 }));
+    assert!(rt; refused(&rt, b"RX 5 41\nPIN 4 P0 00") == Some(ScriptError::S2 { line: 2 }));
+    assert!(rt; refused(&rt, b"PIN 99999999 P3 FF\nRX 99999999 FF 1") == None);
+    Ok(())
+}
+
+#[test]
 fn blanks_stand_between_parts_alone(rt: HostRuntime) -> Result<(), Fail> {
     assert!(rt; refused(&rt, b" FILL 00") == Some(ScriptError::S1 { line: 1 }));
     assert!(rt; refused(&rt, b"FILL 00 ") == Some(ScriptError::S1 { line: 1 }));

@@ -2,7 +2,7 @@
 use Rattle.std.proofs.Common.{◌≡◌, ℕ, zero, suc, ◌+◌, ◌%◌, ◌<◌, Bool, true, false, refl, ap, subst, ◌∙◌, arith, ⊎_elim}
 use Rattle.std.specs.Prelude.{◌&&◌, ◌||◌, List, [], ◌∷◌, Some, nat_eq, nat_le, nat_lt, slice_get}
 use Rattle.std.specs.List.{list_any}
-use Rattle.std.proofs.lemmas.Bool.{le-leb, lt-ltb}
+use Rattle.std.proofs.lemmas.Bool.{and_right, le-leb, lt-ltb, or_right}
 use Rattle.std.proofs.lemmas.Bool.Decides.{eqb_tells}
 use Rattle.m51_module.specs.declared.parts.LayoutParts.{LayoutParts}
 use Rattle.m51_module.specs.declared.placed.Placed.{Placed}
@@ -10,28 +10,16 @@ use Rattle.m51_module.specs.Plan.{IsRootAt}
 use Rattle.m51_module.specs.Sound.{IsSound}
 use Rattle.m51_sim.specs.SeparateMachine.{has_unit, in_unit_of, lie_inside, unit_covers}
 
-and_false : (b c : Bool) → c ≡ false → (b && c) ≡ false
-and_false true c e = e
-and_false false c e = refl
-
 -- one byte outside is enough
 pub one_outside : (layout : LayoutParts) (pc place count : ℕ) → place < count → in_unit_of layout pc ((pc + place) % 65536) ≡ false → lie_inside layout pc count ≡ false
 one_outside layout pc place zero h e = absurd (omega (arith, h))
 one_outside layout pc place (suc count) h e =
     ⊎_elim
-    (λ (t : (nat_eq place count ≡ true) × (place ≡ count)). and_false (lie_inside layout pc count) (in_unit_of layout pc ((pc + count) % 65536)) (subst (λ k. in_unit_of layout pc ((pc + k) % 65536) ≡ false) t.1 e))
+    (λ (t : (nat_eq place count ≡ true) × (place ≡ count)). and_right (lie_inside layout pc count) (in_unit_of layout pc ((pc + count) % 65536)) (subst (λ k. in_unit_of layout pc ((pc + k) % 65536) ≡ false) t.1 e))
     (λ (t : (nat_eq place count ≡ false) × (place ≡ count → ⊥)).
     let below : place < count = omega (arith, h, t.1) in
     ap (λ b. b && in_unit_of layout pc ((pc + count) % 65536)) (one_outside layout pc place count below e))
     (eqb_tells place count)
-
-both_first : (b c : Bool) → (b && c) ≡ true → c ≡ true
-both_first true c e = e
-both_first false c e = absurd (cc e)
-
-or_true : (b c : Bool) → c ≡ true → (b || c) ≡ true
-or_true true c e = refl
-or_true false c e = e
 
 any_second : (f g : Placed → Bool) (ps : List Placed) → list_any (λ p. f p && g p) ps ≡ true → list_any g ps ≡ true
 any_second f g [] e = absurd (cc e)
@@ -48,7 +36,7 @@ unit_of_both layout pc address e = any_second (unit_covers pc) (unit_covers addr
 pub any_at : (f : Placed → Bool) (ps : List Placed) (k : ℕ) (p : Placed) → slice_get ps k ≡ Some p → f p ≡ true → list_any f ps ≡ true
 any_at f [] k p e h = absurd (cc e)
 any_at f (q ∷ ps) zero p e h = let same : q ≡ p = cc e in ap (λ b. b || list_any f ps) (ap f same ∙ h)
-any_at f (q ∷ ps) (suc k) p e h = or_true (f q) (list_any f ps) (any_at f ps k p e h)
+any_at f (q ∷ ps) (suc k) p e h = or_right (f q) (list_any f ps) (any_at f ps k p e h)
 
 -- a root covers its vector
 pub root_has_unit : (layout : LayoutParts) → IsSound layout → (unit : ℕ) × IsRootAt layout 0 unit → has_unit layout 0 ≡ true

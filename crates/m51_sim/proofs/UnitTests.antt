@@ -3,7 +3,7 @@ use Rattle.std.proofs.Common.{◌≡◌, ℕ, suc, ◌+◌, Bool, true, false, L
 use Rattle.std.specs.Prelude.{◌&&◌, ◌||◌, nat_le, nat_lt, slice_get}
 use Rattle.std.specs.List.{list_any}
 use Rattle.std.proofs.lemmas.Option.{slice_get-get_or}
-use Rattle.std.proofs.lemmas.Bool.{le-leb, leb-true, lt-ltb, ltb-true}
+use Rattle.std.proofs.lemmas.Bool.{and_parts, le-leb, leb-true, lt-ltb, ltb-true}
 use Rattle.m51_cells.specs.declared.kind.Kind.{Kind}
 use Rattle.m51_cells.specs.declared.kind.Kind.TheVariants.{Code, Xdata, Direct, Idata, Bits, Number}
 use Rattle.m51_cells.specs.Extent.{Covers, extent_of}
@@ -36,16 +36,12 @@ some_passes : (f : Placed → Bool) (ps : List Placed) → list_any f ps ≡ tru
 some_passes f [] h = absurd (cc h)
 some_passes f (p ∷ ps) h = one_passes f p ps (f p) refl h (some_passes f ps)
 
-all_three : (b c d : Bool) → (b && c && d) ≡ true → (b ≡ true) × (c ≡ true) × (d ≡ true)
-all_three true true true h = (refl, refl, refl)
-all_three true true false h = absurd (cc h)
-all_three true false d h = absurd (cc h)
-all_three false c d h = absurd (cc h)
-
-both_hold : (b c : Bool) → (b && c) ≡ true → (b ≡ true) × (c ≡ true)
-both_hold true true h = (refl, refl)
-both_hold true false h = absurd (cc h)
-both_hold false c h = absurd (cc h)
+-- what a unit that covers the address passes
+covering : (p : Placed) (address : ℕ) → unit_covers address p ≡ true → (is_code p.kind p.mark ≡ true) × (nat_le p.base address ≡ true) × (nat_lt address (p.base + p.size) ≡ true)
+covering p address h =
+    let begins = and_parts (is_code p.kind p.mark && nat_le p.base address) (nat_lt address (p.base + p.size)) h in
+    let code = and_parts (is_code p.kind p.mark) (nat_le p.base address) begins.0 in
+    (code.0, code.1, begins.1)
 
 code_is : (kind : Kind) (mark : Mark) → is_code kind mark ≡ true → (kind ≡ Code) × IsSegment mark
 code_is Code Bank h = absurd (cc h)
@@ -68,7 +64,7 @@ segment_is Overlaid h = refl
 
 covers_of : (p : Placed) (address : ℕ) → unit_covers address p ≡ true → Covers (extent_at p) (code_cell address)
 covers_of p address h =
-    let parts = all_three (is_code p.kind p.mark) (nat_le p.base address) (nat_lt address (p.base + p.size)) h in
+    let parts = covering p address h in
     subst (λ k. Covers (extent_of k p.base p.size) (code_cell address)) (sym (code_is p.kind p.mark parts.0).0)
     (record { space = refl; from = leb-true p.base address parts.1; below = ltb-true address (p.base + p.size) parts.2 })
 
@@ -94,7 +90,7 @@ module _ (layout : LayoutParts) (sound : IsSound layout) where
 
   segment_of : (p : Placed) (address : ℕ) → unit_covers address p ≡ true → IsCodeSegment p
   segment_of p address h =
-      let code = code_is p.kind p.mark (all_three (is_code p.kind p.mark) (nat_le p.base address) (nat_lt address (p.base + p.size)) h).0 in
+      let code = code_is p.kind p.mark (covering p address h).0 in
       record { kind = code.0; segment = code.1 }
 
   covered : (address : ℕ) → has_unit layout address ≡ true → (u : ℕ) × IsUnitAt layout address u
@@ -110,7 +106,7 @@ module _ (layout : LayoutParts) (sound : IsSound layout) where
   inside : (pc address : ℕ) → in_unit_of layout pc address ≡ true → (u : ℕ) × IsUnitAt layout pc u × IsUnitAt layout address u
   inside pc address h =
       let w = some_passes (λ p. unit_covers pc p && unit_covers address p) layout.placed h in
-      let both = both_hold (unit_covers pc w.is) (unit_covers address w.is) w.passes in
+      let both = and_parts (unit_covers pc w.is) (unit_covers address w.is) w.passes in
       let u = unit_of w.at w.is w.placed (segment_of w.is pc both.0) in
       (u.0, record { is = w.is; unit_is = u.1; covers = covers_of w.is pc both.0 }, record { is = w.is; unit_is = u.1; covers = covers_of w.is address both.1 })
 

@@ -1,5 +1,6 @@
 //! A board whose program keeps to its units, and whose segments have stores of their own.
 ghost use Rattle.std.specs.Prelude.{◌≡◌, ◌≤◌, ℕ, true, IfErr, IfOk, length};
+ghost use Rattle.m51_cells.specs.declared.limits.TheConstants.{MOST_STEPS};
 ghost use Rattle.m51_cells.specs.Outside.{Rose};
 ghost use Rattle.m51_module.specs.Plan.{IsRootAt};
 ghost use Rattle.m51_print.specs.Lines.{HasText, titles_of};
@@ -78,7 +79,7 @@ impl Board {
     ///
     /// Source: own choice ("Runs").
     pub fn run<S: Sink>(&mut self, n: u32, out: &mut S) -> RunEnd
-        requires { (1 ≤ n) × (n ≤ 10000000) }
+        requires { (1 ≤ n) × (n ≤ MOST_STEPS) }
         ensures ended { Ended (S.state out.old).text (S.state out.new).text (titles_of self.old.layout.placed)
             (separate_machine self.old.layout self.old.chip.image) n
             (separate_of self.old) (separate_of self.new) result }

@@ -1,5 +1,6 @@
 //! A board with one memory for all.
 ghost use Rattle.std.specs.Prelude.{◌≡◌, ◌≤◌, [], IfErr, IfOk};
+ghost use Rattle.m51_cells.specs.declared.limits.TheConstants.{MOST_STEPS};
 ghost use Rattle.m51_cells.specs.Outside.{Rose};
 ghost use Rattle.m51_print.specs.Lines.{HasText};
 ghost use Rattle.m51_sim.specs.Boards.{flat_of, map_of};
@@ -51,7 +52,7 @@ impl FlatBoard {
     ///
     /// Source: own choice ("Runs").
     pub fn run<S: Sink>(&mut self, n: u32, out: &mut S) -> RunEnd
-        requires { (1 ≤ n) × (n ≤ 10000000) }
+        requires { (1 ≤ n) × (n ≤ MOST_STEPS) }
         ensures ended { Ended (S.state out.old).text (S.state out.new).text []
             (flat_machine self.old.image) n (flat_of self.old) (flat_of self.new) result }
         ensures image { self.new.image ≡ self.old.image }

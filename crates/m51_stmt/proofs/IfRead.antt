@@ -1,6 +1,7 @@
 -- What holds of each answer of a reader, by the parts of the reader.
 use Rattle.std.proofs.Common.{◌≡◌, ℕ, Bool, true, false, cond, Option, Some, None, Result, Ok, Err, refl, subst}
 use Rattle.std.specs.Prelude.{option_and_then, option_map}
+use Rattle.std.proofs.lemmas.Option.{same_Some}
 use Rattle.m51_stmt.specs.Answer.{and_then, or_fault}
 
 -- P holds of what there is, if there is something
@@ -11,14 +12,11 @@ pub record IfSome {A : Type 0} (o : Option A) (P : A → Type 0) : Type 0 where
 pub record IfRead {A : Type 0} (r : Result A ℕ) (P : A → Type 0) : Type 0 where
   pub holds : (a : A) → r ≡ Ok a → P a
 
-pub some_same : {A : Type 0} (a b : A) → Some a ≡ Some b → a ≡ b
-some_same a b h = cc h
-
 pub ok_same : {A : Type 0} (a b : A) → ◌≡◌ {A = Result A ℕ} (Ok a) (Ok b) → a ≡ b
 ok_same a b h = cc h
 
 pub some_is : {A : Type 0} {a : A} {P : A → Type 0} → P a → IfSome (Some a) P
-some_is {A} {a} {P} h = record { holds = λ b is. subst P (some_same a b is) h }
+some_is {A} {a} {P} h = record { holds = λ b is. subst P (same_Some a b is) h }
 
 pub none_is : {A : Type 0} {P : A → Type 0} → IfSome {A = A} None P
 none_is = record { holds = λ b is. absurd (cc is) }

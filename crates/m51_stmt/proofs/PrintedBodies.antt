@@ -1,37 +1,44 @@
 -- What a line says after its label reads back.
-use Rattle.std.proofs.Common.{◌≡◌, ℕ, Bool, true, false, List, [], ◌∷◌, ◌++◌, Option, Some, None, refl, sym, ap, ◌∙◌, append_assoc, append-nil}
+use Rattle.std.proofs.Common.{◌≡◌, ℕ, Bool, true, false, map, List, [], ◌∷◌, ◌++◌, Option, Some, None, refl, sym, ap, ◌∙◌, subst, append_assoc, append-nil}
 use Rattle.std.specs.Prelude.{codes}
 use Rattle.m51_cells.specs.Name.{name_of}
 use Rattle.m51_cells.specs.declared.kind.Kind.{Kind}
 use Rattle.m51_cells.specs.declared.kind.Kind.TheVariants as kind
 use Rattle.m51_cells.specs.declared.kind.Reloc.{Reloc}
 use Rattle.m51_cells.specs.declared.kind.Reloc.TheVariants as reloc
+use Rattle.m51_isa.specs.Mnemonics.{is_mnemonic}
+use Rattle.m51_isa.proofs.FoundMnemonics.{has_mnemonic}
+use Rattle.m51_expr.specs.declared.symbol.Symbol.{Symbol}
+use Rattle.m51_expr.specs.declared.symbol.Symbol.TheVariants as symbols
+use Rattle.m51_expr.specs.Symbol.{operator_of, word_symbol, word_or_other}
+use Rattle.m51_expr.specs.Words.{is_language_word}
 use Rattle.m51_expr.specs.Tree.{Tree}
-use Rattle.m51_stmt.specs.declared.lack.Want.TheVariants as want
+use Rattle.m51_stmt.specs.declared.definitions.Definition.{Definition}
+use Rattle.m51_stmt.specs.declared.definitions.Definition.TheVariants as definition
+use Rattle.m51_stmt.specs.declared.directives.Directive.{Directive}
 use Rattle.m51_stmt.specs.declared.directives.Directive.TheVariants as directive
 use Rattle.m51_stmt.specs.Statement as body
 use Rattle.m51_stmt.specs.Statement.{BodyTree, OperandTree, ItemTree}
 use Rattle.m51_stmt.specs.Kinds.{kind_of, reloc_of}
-use Rattle.m51_stmt.specs.Looks.{has_form}
-use Rattle.m51_stmt.specs.Definitions.{is_allowed}
+use Rattle.m51_expr.specs.Looks.{has_form}
+use Rattle.m51_stmt.specs.Definitions.{is_allowed, definition_of}
 use Rattle.m51_stmt.specs.Directives.{directive_of}
+use Rattle.m51_stmt.specs.Grammar as grammar
+use Rattle.m51_stmt.specs.Grammar.{IsSaid}
 use Rattle.m51_stmt.specs.Printing.{word_text, kind_word, reloc_word, select_word, separated, expr_text, overlayable_text, segment_text, at_text, operand_text, item_text, extern_text, body_text}
-use Rattle.m51_stmt.proofs.LineCuts.{Word, laid, AreCut}
+use Rattle.m51_stmt.proofs.LineCuts.{Word, laid, AreCut, symbol}
 use Rattle.m51_stmt.proofs.WordCuts.{name_word, name_cut}
-use Rattle.m51_stmt.proofs.PrintedTrees.{IsLeafName, IsTree, expr_words, expr_cut, expr_laid, one_laid}
-use Rattle.m51_stmt.proofs.AllMet.{Each, list_words, list_laid, list_cut}
-use Rattle.m51_stmt.proofs.PrintedOperands.{IsOperand, operand_words, operand_laid, operand_cut}
-use Rattle.m51_stmt.proofs.PrintedLists.{name_words, names_cut, item_words, IsItem, item_laid, item_cut}
-use Rattle.m51_stmt.proofs.PrintedExterns.{IsFree, IsExtern, kind_written, extern_words, extern_laid, extern_cut}
-
--- a list that has a part, each of which is so
-abbrev pub OneOrMore : {A : Type 0} → (A → Type 0) → List A → Type 0
-OneOrMore P [] = ⊥
-OneOrMore P (a ∷ more) = P a × Each P more
+use Rattle.m51_stmt.proofs.PrintedTrees.{IsLeafName, IsTree, expr_words, expr_said, expr_cut, expr_laid, one_laid, five_joined}
+use Rattle.m51_stmt.proofs.ListWords.{Each, OneOrMore, some_each, list_words, list_laid, list_cut, list_said}
+use Rattle.m51_stmt.proofs.PrintedParts.{name_symbol}
+use Rattle.m51_stmt.proofs.PrintedOperands.{IsOperand, operand_words, operand_laid, operand_cut, operand_part, operand_said}
+use Rattle.m51_stmt.proofs.PrintedLists.{name_words, names_cut, name_said, names_said, item_words, IsItem, item_laid, item_cut, items_said, values_said}
+use Rattle.m51_stmt.proofs.PrintedExterns.{IsFree, IsExtern, kind_written, kind_symbol, extern_words, extern_laid, extern_cut, externs_said}
 
 -- an instruction that can be read
 pub record IsCode (mnemonic : List ℕ) (operands : List OperandTree) : Type 0 where
   pub written : name_of mnemonic ≡ Some mnemonic
+  pub word : word_symbol mnemonic ≡ symbols.Word mnemonic
   pub form : has_form mnemonic operands ≡ true
   pub each : Each IsOperand operands
 
@@ -59,8 +66,8 @@ IsBody at (body.Include name) = ⊥
 IsBody at (body.Mod51 on) = ⊥
 IsBody at body.End = Unit {0}
 IsBody at (body.Code mnemonic operands) = IsCode mnemonic operands
-IsBody at (body.Db items) = OneOrMore (IsItem want.Item) items
-IsBody at (body.Dw items) = OneOrMore (IsItem want.Expression) items
+IsBody at (body.Db items) = OneOrMore (IsItem true) items
+IsBody at (body.Dw items) = OneOrMore (IsItem false) items
 IsBody at (body.Ds e) = IsTree e
 IsBody at (body.Dbit e) = IsTree e
 IsBody at (body.Org e) = IsTree e
@@ -121,16 +128,13 @@ overlayable_laid : (b : Bool) → laid (overlayable_words b) ≡ overlayable_tex
 overlayable_laid true = refl
 overlayable_laid false = refl
 
-five : (a b c d e : List ℕ) → a ++ (b ++ (c ++ (d ++ e))) ≡ (((a ++ b) ++ c) ++ d) ++ e
-five a b c d e = sym (simp append_assoc)
-
 segment_laid : (name : List ℕ) (k : Kind) (r : Reloc) (b : Bool) → name ++ 32 ∷ (codes "SEGMENT" ++ 32 ∷ (kind_word k ++ 32 ∷ (reloc_word r ++ 32 ∷ laid (overlayable_words b)))) ≡ segment_text name k r b
 segment_laid name k r b =
     ap (λ l. name ++ 32 ∷ (codes "SEGMENT" ++ 32 ∷ (kind_word k ++ 32 ∷ (reloc_word r ++ 32 ∷ l)))) (overlayable_laid b)
     ∙ ap (λ l. name ++ 32 ∷ (codes "SEGMENT" ++ 32 ∷ (kind_word k ++ 32 ∷ l))) (one_laid (reloc_word r) (overlayable_text b))
     ∙ ap (λ l. name ++ 32 ∷ (codes "SEGMENT" ++ 32 ∷ l)) (one_laid (kind_word k) (word_text (reloc_word r) ++ overlayable_text b))
     ∙ one_laid name (codes "SEGMENT" ++ 32 ∷ (word_text (kind_word k) ++ (word_text (reloc_word r) ++ overlayable_text b)))
-    ∙ five (word_text name) (word_text (codes "SEGMENT")) (word_text (kind_word k)) (word_text (reloc_word r)) (overlayable_text b)
+    ∙ five_joined (word_text name) (word_text (codes "SEGMENT")) (word_text (kind_word k)) (word_text (reloc_word r)) (overlayable_text b)
 
 select_laid : (k : Kind) (e : Option Tree) → select_word k ++ 32 ∷ laid (at_words e) ≡ word_text (select_word k) ++ at_text e
 select_laid k None = one_laid (select_word k) []
@@ -180,10 +184,6 @@ at_cut : (e : Option Tree) → IsAt e → AreCut (at_words e)
 at_cut None is = tt
 at_cut (Some e) is = (name_cut (codes "AT") refl, expr_cut e [] is tt)
 
-pub some_each : {A : Type 0} (P : A → Type 0) (xs : List A) → OneOrMore P xs → Each P xs
-some_each P [] is = absurd is
-some_each P (a ∷ more) is = is
-
 pub body_cut : (at : ℕ) (b : BodyTree) → IsBody at b → AreCut (body_words b)
 body_cut at body.Empty is = tt
 body_cut at body.Ignored is = tt
@@ -191,8 +191,8 @@ body_cut at (body.Include name) is = tt
 body_cut at (body.Mod51 on) is = tt
 body_cut at body.End is = (name_cut (codes "END") refl, tt)
 body_cut at (body.Code mnemonic operands) is = (name_cut mnemonic is.written, list_cut IsOperand operand_words operand_cut operands is.each)
-body_cut at (body.Db items) is = (name_cut (codes "DB") refl, list_cut (IsItem want.Item) item_words (item_cut want.Item) items (some_each (IsItem want.Item) items is))
-body_cut at (body.Dw items) is = (name_cut (codes "DW") refl, list_cut (IsItem want.Expression) item_words (item_cut want.Expression) items (some_each (IsItem want.Expression) items is))
+body_cut at (body.Db items) is = (name_cut (codes "DB") refl, list_cut (IsItem true) item_words (item_cut true) items (some_each (IsItem true) items is))
+body_cut at (body.Dw items) is = (name_cut (codes "DW") refl, list_cut (IsItem false) item_words (item_cut false) items (some_each (IsItem false) items is))
 body_cut at (body.Ds e) is = (name_cut (codes "DS") refl, expr_cut e [] is tt)
 body_cut at (body.Dbit e) is = (name_cut (codes "DBIT") refl, expr_cut e [] is tt)
 body_cut at (body.Org e) is = (name_cut (codes "ORG") refl, expr_cut e [] is tt)
@@ -206,3 +206,97 @@ body_cut at (body.Address name k e) is = (name_cut name is.1.leaf.written, (name
 body_cut at (body.Public names) is = (name_cut (codes "PUBLIC") refl, list_cut IsLeafName name_words names_cut names (some_each IsLeafName names is))
 body_cut at (body.Extrn externs) is = (name_cut (codes "EXTRN") refl, list_cut IsExtern extern_words extern_cut externs (some_each IsExtern externs is))
 body_cut at (body.ModuleName name) is = (name_cut (codes "NAME") refl, (name_cut name is.written, tt))
+
+-- they are of the grammar
+operands_said : (os : List OperandTree) → Each IsOperand os → grammar.AreOperands (map symbol (list_words operand_words os)) os
+operands_said [] is = grammar.Without
+operands_said (a ∷ more) is = grammar.With (list_said grammar.IsOperand IsOperand operand_words operand_part operand_said (a ∷ more) is)
+
+mnemonic_is : (m : List ℕ) (os : List OperandTree) → has_form m os ≡ true → is_mnemonic m ≡ true
+mnemonic_is m [] h = has_mnemonic m _ _ _ h
+mnemonic_is m (a ∷ []) h = has_mnemonic m _ _ _ h
+mnemonic_is m (a ∷ b ∷ []) h = has_mnemonic m _ _ _ h
+mnemonic_is m (a ∷ b ∷ c ∷ []) h = has_mnemonic m _ _ _ h
+mnemonic_is m (a ∷ b ∷ c ∷ d ∷ more) h = absurd (cc h)
+
+-- an instruction
+pub mnemonic_symbol : (m : List ℕ) (os : List OperandTree) → IsCode m os → symbol (name_word m) ≡ symbols.Word m
+mnemonic_symbol m os is = ap word_or_other is.written ∙ is.word
+
+-- a word of the language before symbols
+abbrev SaysFirst : Bool → List Symbol → BodyTree → Symbol → Type 0
+SaysFirst labelled rest b s = IsSaid labelled (s ∷ rest) b
+
+code_said : (labelled : Bool) (m : List ℕ) (os : List OperandTree) → IsCode m os → IsSaid labelled (map symbol (body_words (body.Code m os))) (body.Code m os)
+code_said labelled m os is =
+    subst (SaysFirst labelled (map symbol (list_words operand_words os)) (body.Code m os)) (sym (mnemonic_symbol m os is))
+    (grammar.Instruction (mnemonic_is m os is.form) (operands_said os is.each) is.form)
+
+directive_said : (labelled : Bool) (w : List ℕ) (d : Directive) (rest : List Word) (b : BodyTree) → directive_of w ≡ Some d → symbol (name_word w) ≡ symbols.Word w → grammar.IsDirective d (map symbol rest) b → IsSaid labelled (map symbol (name_word w ∷ rest)) b
+directive_said labelled w d rest b found word is = subst (SaysFirst labelled (map symbol rest) b) (sym word) (grammar.Directed found is)
+
+-- a definition, where no label stands before it
+define_said : (labelled : Bool) (name w : List ℕ) (d : Definition) (rest : List Word) (b : BodyTree) → labelled ≡ false → IsFree name → definition_of w ≡ Some d → symbol (name_word w) ≡ symbols.Word w → grammar.IsDefinition name d (map symbol rest) b → IsSaid labelled (map symbol (name_word name ∷ name_word w ∷ rest)) b
+define_said labelled name w d rest b bare free found word is =
+    subst (λ l. IsSaid l (map symbol (name_word name ∷ name_word w ∷ rest)) b) (sym bare)
+    (subst (SaysFirst false (symbol (name_word w) ∷ map symbol rest) b) (sym (name_symbol name free.leaf))
+    (subst (λ s. IsSaid false (symbols.Name name ∷ s ∷ map symbol rest) b) (sym word) (grammar.Defined free.free found is)))
+
+reloc_symbol : (r : Reloc) → symbol (name_word (reloc_word r)) ≡ symbols.Word (reloc_word r)
+unfolding operator_of is_language_word
+reloc_symbol reloc.Abs = refl
+reloc_symbol r = refl
+
+overlayable_symbol : symbol (name_word (codes "OVERLAYABLE")) ≡ symbols.Word (codes "OVERLAYABLE")
+unfolding operator_of is_language_word
+overlayable_symbol = refl
+
+overlay_said : (b : Bool) → grammar.HasOverlay (map symbol (overlayable_words b)) b
+overlay_said true = subst (λ s. grammar.HasOverlay (s ∷ []) true) (sym overlayable_symbol) grammar.Overlay
+overlay_said false = grammar.Nothing
+
+segment_said : (name : List ℕ) (k : Kind) (r : Reloc) (b : Bool) → IsSegment name k r b → grammar.IsDefinition name definition.Segment (map symbol (name_word (kind_word k) ∷ name_word (reloc_word r) ∷ overlayable_words b)) (body.Segment name k r b)
+segment_said name k r b is =
+    let last = map symbol (overlayable_words b) in
+    subst (λ s. grammar.IsDefinition name definition.Segment (s ∷ symbol (name_word (reloc_word r)) ∷ last) (body.Segment name k r b)) (sym (kind_symbol k))
+    (subst (λ s. grammar.IsDefinition name definition.Segment (symbols.Word (kind_word k) ∷ s ∷ last) (body.Segment name k r b)) (sym (reloc_symbol r))
+    (grammar.Segment {type = symbols.Word (reloc_word r) ∷ []} {last = last} is.kind_is (grammar.Typed is.reloc_is) (overlay_said b) is.allowed))
+
+pub select_symbol : (k : Kind) → symbol (name_word (select_word k)) ≡ symbols.Word (select_word k)
+unfolding operator_of is_language_word
+select_symbol kind.Code = refl
+select_symbol k = refl
+
+select_said : (k : Kind) (e : Option Tree) → IsAt e → grammar.IsDirective (directive.Select k) (map symbol (at_words e)) (body.Select k e)
+unfolding operator_of is_language_word
+select_said k None is = grammar.Select
+select_said k (Some e) is = grammar.SelectAt (expr_said e is)
+
+kind_defines : (k : Kind) → IsKind k → definition_of (kind_word k) ≡ Some (definition.Address k)
+unfolding definition_of kind_of
+kind_defines kind.Number is = absurd (cc is)
+kind_defines k is = refl
+
+pub body_said : (labelled : Bool) (at : ℕ) → (at ≡ 0 → labelled ≡ false) → (b : BodyTree) → IsBody at b → IsSaid labelled (map symbol (body_words b)) b
+unfolding directive_of definition_of operator_of is_language_word
+body_said labelled at first body.Empty is = grammar.Nothing
+body_said labelled at first body.Ignored is = absurd is
+body_said labelled at first (body.Include name) is = absurd is
+body_said labelled at first (body.Mod51 on) is = absurd is
+body_said labelled at first body.End is = directive_said labelled (codes "END") directive.End [] body.End refl refl grammar.End
+body_said labelled at first (body.Code m os) is = code_said labelled m os is
+body_said labelled at first (body.Db items) is = directive_said labelled (codes "DB") directive.Db (list_words item_words items) (body.Db items) refl refl (grammar.Db (items_said items is))
+body_said labelled at first (body.Dw items) is = directive_said labelled (codes "DW") directive.Dw (list_words item_words items) (body.Dw items) refl refl (grammar.Dw (values_said items is))
+body_said labelled at first (body.Ds e) is = directive_said labelled (codes "DS") directive.Ds (expr_words e []) (body.Ds e) refl refl (grammar.Ds (expr_said e is))
+body_said labelled at first (body.Dbit e) is = directive_said labelled (codes "DBIT") directive.Dbit (expr_words e []) (body.Dbit e) refl refl (grammar.Dbit (expr_said e is))
+body_said labelled at first (body.Org e) is = directive_said labelled (codes "ORG") directive.Org (expr_words e []) (body.Org e) refl refl (grammar.Org (expr_said e is))
+body_said labelled at first (body.Using e) is = directive_said labelled (codes "USING") directive.Using (expr_words e []) (body.Using e) refl refl (grammar.Using (expr_said e is))
+body_said labelled at first (body.Segment name k r b) is = define_said labelled name (codes "SEGMENT") definition.Segment (name_word (kind_word k) ∷ name_word (reloc_word r) ∷ overlayable_words b) (body.Segment name k r b) (first is.0) is.1.name_is refl refl (segment_said name k r b is.1)
+body_said labelled at first (body.Rseg name) is = directive_said labelled (codes "RSEG") directive.Rseg (name_words name []) (body.Rseg name) refl refl (grammar.Rseg (name_said name is))
+body_said labelled at first (body.Select k e) is = directive_said labelled (select_word k) (directive.Select k) (at_words e) (body.Select k e) is.0 (select_symbol k) (select_said k e is.1)
+body_said labelled at first (body.Equ name e) is = define_said labelled name (codes "EQU") definition.Equ (expr_words e []) (body.Equ name e) (first is.0) is.1 refl refl (grammar.Equ (expr_said e is.2))
+body_said labelled at first (body.Set name e) is = define_said labelled name (codes "SET") definition.Set (expr_words e []) (body.Set name e) (first is.0) is.1 refl refl (grammar.Set (expr_said e is.2))
+body_said labelled at first (body.Address name k e) is = define_said labelled name (kind_word k) (definition.Address k) (expr_words e []) (body.Address name k e) (first is.0) is.1 (kind_defines k is.2) (kind_symbol k) (grammar.Address (expr_said e is.3))
+body_said labelled at first (body.Public names) is = directive_said labelled (codes "PUBLIC") directive.Public (list_words name_words names) (body.Public names) refl refl (grammar.Public (names_said names is))
+body_said labelled at first (body.Extrn externs) is = directive_said labelled (codes "EXTRN") directive.Extrn (list_words extern_words externs) (body.Extrn externs) refl refl (grammar.Extrn (externs_said externs is))
+body_said labelled at first (body.ModuleName name) is = directive_said labelled (codes "NAME") directive.Name (name_words name []) (body.ModuleName name) refl refl (grammar.ModuleName (name_said name is))

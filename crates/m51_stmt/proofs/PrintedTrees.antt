@@ -1,8 +1,7 @@
 -- A printed expression reads back.
-use Rattle.std.proofs.Common.{◌≡◌, ℕ, zero, suc, ◌+◌, ◌-◌, ◌<◌, ◌≤◌, List, [], ◌∷◌, ◌++◌, length, Option, Some, None, refl, sym, ap, ◌∙◌, arith, subst, append_assoc}
+use Rattle.std.proofs.Common.{◌≡◌, ℕ, zero, suc, ◌+◌, ◌-◌, ◌<◌, ◌≤◌, map, List, [], ◌∷◌, ◌++◌, length, drop, drop-drop, Some, None, refl, sym, ap, ◌∙◌, arith, subst, append_assoc, slice_get}
 use Rattle.std.specs.Prelude.{codes}
 use Rattle.m51_cells.specs.Name.{name_of}
-use Rattle.m51_lex.specs.declared.token.Token.{Token}
 use Rattle.m51_lex.specs.declared.token.What.{What}
 use Rattle.m51_lex.specs.declared.token.What.TheVariants as what
 use Rattle.m51_lex.specs.Characters.{space}
@@ -12,16 +11,16 @@ use Rattle.m51_expr.specs.declared.tree.Binary.{Binary}
 use Rattle.m51_expr.specs.declared.tree.Binary.TheVariants as op2
 use Rattle.m51_expr.specs.declared.symbol.Symbol.{Symbol}
 use Rattle.m51_expr.specs.declared.symbol.Symbol.TheVariants as symbols
-use Rattle.m51_expr.specs.Symbol.{symbol_at, operator_of, word_or_other, word_symbol}
+use Rattle.m51_expr.specs.Symbol.{operator_of, word_or_other, word_symbol}
 use Rattle.m51_expr.specs.Tree as tree
 use Rattle.m51_expr.specs.Tree.{Tree}
-use Rattle.m51_expr.specs.Ranks.{prefix_rank, infix_rank, prefix_of, infix_of, infix_operator, of_rank, is_open, is_close, leaf_of}
-use Rattle.m51_expr.specs.Reading.{Line, expression_at}
+use Rattle.m51_expr.specs.Ranks.{prefix_rank, infix_rank, prefix_of, infix_of, is_open, is_close, leaf_of}
+use Rattle.m51_expr.specs.Reading.{Line, line_of}
 use Rattle.m51_expr.specs.Grammar.{Writes, Leaf, Parens, Before, Between, Tighter}
-use Rattle.m51_expr.proofs.Complete.{expression_is}
+use Rattle.m51_expr.proofs.Complete.{ends_within}
+use Rattle.m51_stmt.specs.Grammar.{IsExpr}
 use Rattle.m51_stmt.specs.Printing.{word_text, number_text, unary_word, binary_word, expr_text}
-use Rattle.m51_stmt.proofs.LineCuts.{Word, laid, IsCut, AreCut}
-use Rattle.m51_stmt.proofs.Standing.{symbol, first, Stands, symbol_here, behind}
+use Rattle.m51_stmt.proofs.LineCuts.{Word, laid, IsCut, AreCut, symbol}
 use Rattle.m51_stmt.proofs.WordCuts.{name_word, number_word, sign_word, name_cut, number_cut, open_cut, close_cut, plus_cut, minus_cut, times_cut, over_cut, dot_cut, here_cut}
 
 -- a name that an expression may have
@@ -152,66 +151,64 @@ loosen (suc d) tight rank h le w = Tighter (omega (arith, h, le)) (loosen d tigh
 looser : {line : Line} {at : ℕ} {e : Tree} {to : ℕ} (tight rank : ℕ) → rank ≤ tight → tight ≤ 8 → Writes line tight at e to → Writes line rank at e to
 looser tight rank le high w = loosen (tight - rank) tight rank (omega (arith, le)) high w
 
-record Written (line : List ℕ) (tokens : List Token) (at : ℕ) (e : Tree) (rest : List Word) : Type 0 where
-  next : ℕ
-  writes : Writes (symbol_at line tokens) 8 at e next
-  then : Stands line tokens next rest
+-- from a place to the end of the line these words stand
+abbrev Stands : Line → ℕ → List Word → Type 0
+Stands line at [] = line at ≡ None
+Stands line at (w ∷ ws) = (line at ≡ Some (symbol w)) × Stands line (at + 1) ws
 
-leaf_written : (line : List ℕ) (tokens : List Token) (at : ℕ) (e : Tree) (w : Word) (rest : List Word) → leaf_of (Some (symbol w)) ≡ Some e → Stands line tokens at (w ∷ rest) → Written line tokens at e rest
-leaf_written line tokens at e w rest leaf h = record { next = at + 1; writes = Leaf refl (ap leaf_of (symbol_here h) ∙ leaf) refl; then = behind h }
+record Written (line : Line) (at : ℕ) (e : Tree) (rest : List Word) : Type 0 where
+  next : ℕ
+  writes : Writes line 8 at e next
+  then : Stands line next rest
+
+leaf_written : (line : Line) (at : ℕ) (e : Tree) (w : Word) (rest : List Word) → leaf_of (Some (symbol w)) ≡ Some e → Stands line at (w ∷ rest) → Written line at e rest
+leaf_written line at e w rest leaf h = record { next = at + 1; writes = Leaf refl (ap leaf_of h.0 ∙ leaf) refl; then = h.1 }
 
 -- what is printed of a tree is an operand of the grammar
-written : (line : List ℕ) (tokens : List Token) (at : ℕ) (e : Tree) (rest : List Word) → IsTree e → Stands line tokens at (expr_words e rest) → Written line tokens at e rest
-written line tokens at (tree.Number n) rest is h = leaf_written line tokens at (tree.Number n) (number_word n) rest refl h
-written line tokens at (tree.Name name) rest is h = leaf_written line tokens at (tree.Name name) (name_word name) rest (ap (λ o. leaf_of (Some (word_or_other o))) is.written ∙ ap (λ s. leaf_of (Some s)) is.leaf) h
-written line tokens at tree.Here rest is h = leaf_written line tokens at tree.Here (sign_word 0x24) rest refl h
-written line tokens at (tree.One op e) rest is h =
-    let inner = written line tokens (at + 1 + 1) e (close_word ∷ rest) is (behind (behind h)) in
-    let s = symbol_at line tokens in
+written : (line : Line) (at : ℕ) (e : Tree) (rest : List Word) → IsTree e → Stands line at (expr_words e rest) → Written line at e rest
+written line at (tree.Number n) rest is h = leaf_written line at (tree.Number n) (number_word n) rest refl h
+written line at (tree.Name name) rest is h = leaf_written line at (tree.Name name) (name_word name) rest (ap (λ o. leaf_of (Some (word_or_other o))) is.written ∙ ap (λ s. leaf_of (Some s)) is.leaf) h
+written line at tree.Here rest is h = leaf_written line at tree.Here (sign_word 0x24) rest refl h
+written line at (tree.One op e) rest is h =
+    let inner = written line (at + 1 + 1) e (close_word ∷ rest) is h.1.1 in
     let r = prefix_rank op in
     let low : r ≤ 8 = prefix_low op in
-    let sign : prefix_of (s (at + 1)) r ≡ Some op = ap (λ o. prefix_of o r) (symbol_here (behind h)) ∙ before_is op in
-    let ranked : Writes s r (at + 1) (tree.One op e) inner.next = Before sign (looser 8 r low (omega arith) inner.writes) in
-    record { next = inner.next + 1; writes = Parens refl (ap is_open (symbol_here h)) (looser r 0 (omega arith) low ranked) (ap is_close (symbol_here inner.then)) refl; then = behind inner.then }
-written line tokens at (tree.Two op left right) rest is h =
-    let l = written line tokens (at + 1) left (between_word op ∷ expr_words right (close_word ∷ rest)) is.0 (behind h) in
-    let m = written line tokens (l.next + 1) right (close_word ∷ rest) is.1 (behind l.then) in
-    let s = symbol_at line tokens in
+    let sign : prefix_of (line (at + 1)) r ≡ Some op = ap (λ o. prefix_of o r) h.1.0 ∙ before_is op in
+    let ranked : Writes line r (at + 1) (tree.One op e) inner.next = Before sign (looser 8 r low (omega arith) inner.writes) in
+    record { next = inner.next + 1; writes = Parens refl (ap is_open h.0) (looser r 0 (omega arith) low ranked) (ap is_close inner.then.0) refl; then = inner.then.1 }
+written line at (tree.Two op left right) rest is h =
+    let l = written line (at + 1) left (between_word op ∷ expr_words right (close_word ∷ rest)) is.0 h.1 in
+    let m = written line (l.next + 1) right (close_word ∷ rest) is.1 l.then.1 in
     let r = infix_rank op in
     let low : r + 1 ≤ 8 = infix_low op in
-    let sign : infix_of (s l.next) r ≡ Some op = ap (λ o. infix_of o r) (symbol_here l.then) ∙ between_is op in
-    let ranked : Writes s r (at + 1) (tree.Two op left right) m.next = Between (looser 8 r (omega (arith, low)) (omega arith) l.writes) sign (looser 8 (r + 1) low (omega arith) m.writes) in
-    record { next = m.next + 1; writes = Parens refl (ap is_open (symbol_here h)) (looser r 0 (omega arith) (omega (arith, low)) ranked) (ap is_close (symbol_here m.then)) refl; then = behind m.then }
+    let sign : infix_of (line l.next) r ≡ Some op = ap (λ o. infix_of o r) l.then.0 ∙ between_is op in
+    let ranked : Writes line r (at + 1) (tree.Two op left right) m.next = Between (looser 8 r (omega (arith, low)) (omega arith) l.writes) sign (looser 8 (r + 1) low (omega arith) m.writes) in
+    record { next = m.next + 1; writes = Parens refl (ap is_open h.0) (looser r 0 (omega arith) (omega (arith, low)) ranked) (ap is_close m.then.0) refl; then = m.then.1 }
 
--- an expression that stands at a place, with the place after it
-pub record IsRead (line : List ℕ) (tokens : List Token) (at : ℕ) (e : Tree) (rest : List Word) : Type 0 where
-  pub next : ℕ
-  pub reads : expression_at line tokens at ≡ Some (e, next)
-  pub then : Stands line tokens next rest
+-- the words of a list of symbols stand at its places
+get : (l : List Symbol) (at : ℕ) → slice_get l at ≡ slice_get (drop at l) 0
+get [] zero = refl
+get [] (suc at) = refl
+get (s ∷ l) zero = refl
+get (s ∷ l) (suc at) = get l at
 
-no_operator : (s : Option Symbol) (r : ℕ) → infix_operator s ≡ None → infix_of s r ≡ None
-no_operator s r h = ap (of_rank infix_rank r) h
+stand : (l : List Symbol) (ws : List Word) (at : ℕ) → drop at l ≡ map symbol ws → Stands (line_of l) at ws
+stand l [] at h = get l at ∙ ap (λ r. slice_get r 0) h
+stand l (w ∷ ws) at h = (get l at ∙ ap (λ r. slice_get r 0) h, stand l ws (at + 1) (sym (drop-drop 1 at l) ∙ ap (drop 1) h))
 
--- a printed expression is read, where no operator stands after it
-pub expr_read : (line : List ℕ) (tokens : List Token) (at : ℕ) (e : Tree) (rest : List Word) → IsTree e → infix_operator (first rest) ≡ None → Stands line tokens at (expr_words e rest) → IsRead line tokens at e rest
-expr_read line tokens at e rest is end h =
-    let w = written line tokens at e rest is h in
-    record {
-      next = w.next;
-      reads = expression_is line tokens at e w.next (record { writes = looser 8 0 (omega arith) (omega arith) w.writes; ends = λ r le. ap (λ o. infix_of o r) (symbol_here w.then) ∙ no_operator (first rest) r end });
-      then = w.then;
-    }
+past_end : (l : List Symbol) (at : ℕ) → slice_get l at ≡ None → length l ≤ at
+past_end [] at h = omega arith
+past_end (s ∷ l) zero h = absurd (cc h)
+past_end (s ∷ l) (suc at) h = omega (arith, past_end l at h)
 
--- a word that is a tree alone is read, where no operator stands after it
-pub leaf_read : (line : List ℕ) (tokens : List Token) (at : ℕ) (e : Tree) (w : Word) (rest : List Word) → leaf_of (Some (symbol w)) ≡ Some e → infix_operator (first rest) ≡ None → Stands line tokens at (w ∷ rest) → expression_at line tokens at ≡ Some (e, at + 1)
-leaf_read line tokens at e w rest leaf end h =
-    let s = symbol_at line tokens in
-    let writes : Writes s 8 at e (at + 1) = Leaf refl (ap leaf_of (symbol_here h) ∙ leaf) refl in
-    expression_is line tokens at e (at + 1) (record { writes = looser 8 0 (omega arith) (omega arith) writes; ends = λ r le. ap (λ o. infix_of o r) (symbol_here (behind h)) ∙ no_operator (first rest) r end })
+-- a printed expression is one of the grammar
+pub expr_said : (e : Tree) → IsTree e → IsExpr (map symbol (expr_words e [])) e
+expr_said e is =
+    let l = map symbol (expr_words e []) in
+    let w = written (line_of l) 0 e [] is (stand l (expr_words e []) 0 refl) in
+    let all : w.next ≡ length l = omega (arith, ends_within l w.writes, past_end l w.next w.then) in
+    record { writes = subst (Writes (line_of l) 0 0 e) all (looser 8 0 (omega arith) (omega arith) w.writes) }
 
-pub expr_long : (e : Tree) (rest : List Word) → suc (length rest) ≤ length (expr_words e rest)
-expr_long (tree.Number n) rest = omega arith
-expr_long (tree.Name name) rest = omega arith
-expr_long tree.Here rest = omega arith
-expr_long (tree.One op e) rest = omega (arith, expr_long e (close_word ∷ rest))
-expr_long (tree.Two op left right) rest = omega (arith, expr_long left (between_word op ∷ expr_words right (close_word ∷ rest)), expr_long right (close_word ∷ rest))
+-- five texts in a row, however they are joined
+pub five_joined : (a b c d e : List ℕ) → a ++ (b ++ (c ++ (d ++ e))) ≡ (((a ++ b) ++ c) ++ d) ++ e
+five_joined a b c d e = sym (simp append_assoc)

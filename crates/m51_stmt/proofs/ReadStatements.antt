@@ -1,55 +1,83 @@
 -- What a line of bytes can say: the statements that can be read.
-use Rattle.std.proofs.Common.{◌≡◌, ℕ, ◌+◌, ◌-◌, ◌<◌, ◌≤◌, ◌==◌, ◌&&◌, Bool, true, false, cond, nat_le, nat_lt, List, [], ◌∷◌, length, take, drop, Option, Some, None, Result, Ok, Err, refl, sym, ap, ◌∙◌, arith, inl, inr, slice_index}
+use Rattle.std.proofs.Common.{◌≡◌, ℕ, ◌<◌, ◌≤◌, ◌==◌, ◌++◌, Bool, true, false, cond, nat_lt, List, [], ◌∷◌, length, take, drop, Option, Some, None, Err, refl, sym, ap, ◌∙◌, arith, inl, inr}
 use Rattle.std.specs.Prelude.{codes, option_and_then}
+use Rattle.std.specs.Char.{is_ascii_alphanumeric}
 use Rattle.std.specs.Str.{bytes_eq}
 use Rattle.std.specs.List.{list_all, prefix_len, AllByRecursion}
 use Rattle.std.proofs.lemmas.Grind.{common_steps}
 use Rattle.std.proofs.lemmas.List.Elements.{recursion_from_All}
 use Rattle.std.proofs.lemmas.List.Folds.{length-prefix_len}
+use Rattle.m51_cells.proofs.Small.{positive}
 use Rattle.m51_cells.specs.Name.{name_of}
+use Rattle.m51_cells.specs.declared.fault.TheConstants.{BAD_FORM}
 use Rattle.m51_cells.specs.declared.kind.Kind.{Kind}
 use Rattle.m51_cells.specs.declared.kind.Reloc.{Reloc}
 use Rattle.m51_cells.specs.declared.kind.Reloc.TheVariants as reloc
 use Rattle.m51_cells.proofs.Passing.{front_passes}
-use Rattle.m51_lex.specs.declared.token.Token.{Token}
-use Rattle.m51_lex.specs.Tokens.{tokens_at}
-use Rattle.m51_expr.specs.Symbol.{symbol_at}
-use Rattle.m51_expr.specs.Words.{is_reserved}
+use Rattle.m51_lex.specs.declared.fault.TheConstants.{LONG_LINE}
+use Rattle.m51_expr.specs.declared.symbol.Symbol.{Symbol}
 use Rattle.m51_expr.specs.Tree.{Tree}
-use Rattle.m51_expr.specs.Reading.{expression_at}
-use Rattle.std.specs.Char.{is_ascii_alphanumeric}
-use Rattle.m51_stmt.specs.declared.lack.Want.TheVariants as want
 use Rattle.m51_stmt.specs.declared.definitions.Definition.{Definition}
 use Rattle.m51_stmt.specs.declared.definitions.Definition.TheVariants as definition
 use Rattle.m51_stmt.specs.declared.directives.Directive.{Directive}
 use Rattle.m51_stmt.specs.declared.directives.Directive.TheVariants as directive
-use Rattle.m51_stmt.specs.Answer.{or_fault}
-use Rattle.m51_stmt.specs.Words.{is_colon, word_at}
+use Rattle.m51_stmt.specs.Statement.{BodyTree, OperandTree, ItemTree, StmtTree, R}
+use Rattle.m51_stmt.specs.Words.{register_number}
 use Rattle.m51_stmt.specs.Kinds.{kind_of, reloc_of}
-use Rattle.m51_isa.specs.Mnemonics.{is_mnemonic}
-use Rattle.m51_stmt.specs.Looks.{has_form}
-use Rattle.m51_stmt.specs.Lack.{met, all_closed}
-use Rattle.m51_stmt.specs.Operands.{operands_at, instruction}
-use Rattle.m51_stmt.specs.Lists.{name_at, name_or_12, names_at, items_at}
-use Rattle.m51_stmt.specs.Externs.{externs_at, outside, defines_reserved}
-use Rattle.m51_stmt.specs.Definitions.{definition_of, beside_extrn, definition_at, expression_line, reloc_at, reloc_or_unit, overlayable_at, is_allowed, segment, is_segment, valued, definition_met, definition_form, defined}
-use Rattle.m51_stmt.specs.Directives.{select_of, directive_of, is_at, name_line, select, directive_met, directive_form}
+use Rattle.m51_stmt.specs.Operands.{register, pointer, sum}
+use Rattle.m51_stmt.specs.Definitions.{definition_of}
+use Rattle.m51_stmt.specs.Directives.{select_of, directive_of}
 use Rattle.m51_stmt.specs.Control as control
-use Rattle.m51_stmt.specs.Control.{is_inside, is_blank, ends, behind_sign, if_ended, closed_at, parenthesized, alone, include, include_of, title, ignored_if, is_ignored_word, by_name}
-use Rattle.m51_stmt.specs.Lines.{spoken, or_no_directive, by_definition, by_word, said, label_at, by_label, statement, any_line}
+use Rattle.m51_stmt.specs.Control.{opening, closing, is_inside, ends, behind_sign, if_ended, closed_at, parenthesized, alone, include, include_of, title, ignored_if, is_ignored_word, by_name}
+use Rattle.m51_stmt.specs.Lines.{symbols_of, any_line}
+use Rattle.m51_stmt.specs.Grammar as grammar
 use Rattle.m51_stmt.specs.Printing.{reloc_word, stmt_text}
-use Rattle.m51_stmt.specs.Statement.{StmtTree}
 use Rattle.m51_stmt.specs.Laws.{IsByte, WritesStatement, PrintedReadsBack}
-use Rattle.m51_stmt.proofs.WordCuts.{right}
 use Rattle.m51_stmt.proofs.PrintedTrees.{IsLeafName, IsTree}
-use Rattle.m51_stmt.proofs.AllMet.{Each}
-use Rattle.m51_stmt.proofs.PrintedExterns.{IsFree}
+use Rattle.m51_stmt.proofs.ListWords.{Each, OneOrMore, some_each}
+use Rattle.m51_stmt.proofs.PrintedOperands.{IsOperand}
+use Rattle.m51_stmt.proofs.PrintedLists.{IsItem}
+use Rattle.m51_stmt.proofs.PrintedExterns.{IsFree, IsExtern}
 use Rattle.m51_stmt.proofs.PrintedBodies.{IsKind, IsSelected, IsBody}
 use Rattle.m51_stmt.proofs.PrintedStatements.{IsControl, IsStatement, printed}
-use Rattle.m51_stmt.proofs.IfRead.{some_same, ok_same, IfSome, some_is, none_is, some_cond, some_map, some_then, IfRead, ok_is, err_is, ok_cond, ok_if, ok_then, ok_or}
-use Rattle.m51_stmt.proofs.ReadWords.{IsTokenLine, word_written, tokens_good}
-use Rattle.m51_stmt.proofs.ReadParts.{tree_or, operands_good, name_good, names_good, items_good}
-use Rattle.m51_stmt.proofs.ReadExterns.{name_is_word, externs_good}
+use Rattle.m51_stmt.proofs.IfRead.{IfSome, some_is, none_is, some_cond, some_map, some_then, IfRead, ok_is, err_is, ok_cond, ok_if}
+use Rattle.m51_stmt.proofs.ReadSymbols.{IsGood, symbols_good, tree_good, tokens_good}
+use Rattle.m51_stmt.proofs.LinesRead.{line_derived}
+
+-- the words for registers
+number_good : (word : List ℕ) → IfSome (register_number word) (λ n. n < 8)
+unfolding register_number
+number_good word =
+    some_cond (bytes_eq word (codes "R0")) (some_is (omega arith)) (
+    some_cond (bytes_eq word (codes "R1")) (some_is (omega arith)) (
+    some_cond (bytes_eq word (codes "R2")) (some_is (omega arith)) (
+    some_cond (bytes_eq word (codes "R3")) (some_is (omega arith)) (
+    some_cond (bytes_eq word (codes "R4")) (some_is (omega arith)) (
+    some_cond (bytes_eq word (codes "R5")) (some_is (omega arith)) (
+    some_cond (bytes_eq word (codes "R6")) (some_is (omega arith)) (
+    some_cond (bytes_eq word (codes "R7")) (some_is (omega arith)) (
+    none_is))))))))
+
+register_good : (word : List ℕ) → IfSome (register word) IsOperand
+unfolding register
+register_good word =
+    some_cond (bytes_eq word (codes "A")) (some_is tt) (
+    some_cond (bytes_eq word (codes "AB")) (some_is tt) (
+    some_cond (bytes_eq word (codes "C")) (some_is tt) (
+    some_cond (bytes_eq word (codes "DPTR")) (some_is tt) (
+    some_map R IsOperand (register_number word) (number_good word)))))
+
+pointer_good : (word : List ℕ) → IfSome (pointer word) IsOperand
+unfolding pointer
+pointer_good word =
+    some_cond (bytes_eq word (codes "DPTR")) (some_is tt) (
+    some_cond (bytes_eq word (codes "R0")) (some_is (omega arith)) (
+    some_cond (bytes_eq word (codes "R1")) (some_is (omega arith)) (
+    none_is)))
+
+sum_good : (word : List ℕ) → IfSome (sum word) IsOperand
+unfolding sum
+sum_good word = some_cond (bytes_eq word (codes "PC")) (some_is tt) (some_cond (bytes_eq word (codes "DPTR")) (some_is tt) none_is)
 
 -- the words for kinds and types
 kind_good : (word : List ℕ) → IfSome (kind_of word) IsKind
@@ -121,153 +149,106 @@ directive_good word =
     some_cond (bytes_eq word (codes "END")) (some_is tt) (
     select_good word)))))))))))
 
-module _ (line : List ℕ) (tokens : List Token) (good : IsTokenLine line tokens) where
-  line_good : (at : ℕ) → IfRead (expression_line line tokens at) IsTree
-  line_good at = ok_then _ IsTree (or_fault 12 (expression_at line tokens at)) (λ r read. ok_if 12 (nat_le (length tokens) r.1) (λ _. ok_is ((tree_or line tokens good 12 at).holds r read)))
+-- the symbols of a part are good where those of the whole are
+each_front : {A : Type 0} (P : A → Type 0) (xs ys : List A) → Each P (xs ++ ys) → Each P xs
+each_front P [] ys h = tt
+each_front P (x ∷ xs) ys h = (h.0, each_front P xs ys h.1)
 
-  -- instructions
-  code_good : (at place : ℕ) (m : List ℕ) → name_of m ≡ Some m → IfRead (instruction line tokens m at) (IsBody place)
-  code_good at place m written = ok_then _ (IsBody place) (operands_at line tokens at) (λ os read.
-      ok_if 11 (has_form m os) (λ form. ok_is (record { written = written; form = form; each = (operands_good line tokens good at).holds os read })))
+each_back : {A : Type 0} (P : A → Type 0) (xs ys : List A) → Each P (xs ++ ys) → Each P ys
+each_back P [] ys h = h
+each_back P (x ∷ xs) ys h = each_back P xs ys h.1
 
-  -- definitions
-  some_reloc : (at : ℕ) (o : Option Reloc) → IfSome o IsReloc → IsReloc (reloc_or_unit at o).0
-  some_reloc at (Some r) h = h.holds r refl
-  some_reloc at None h = unit_good
+expr_good : (l : List Symbol) (e : Tree) → grammar.IsExpr l e → Each IsGood l → IsTree e
+expr_good l e is h = tree_good l h is.writes
 
-  word_reloc : (at : ℕ) → IsReloc (reloc_at line tokens at).0
-  word_reloc at = some_reloc at (option_and_then reloc_of (word_at line tokens at)) (some_then reloc_of IsReloc (word_at line tokens at) (λ w is. reloc_good w))
+operand_good : (l : List Symbol) (o : OperandTree) → grammar.IsOperand l o → Each IsGood l → IsOperand o
+operand_good l o (grammar.Register {word = word} is) h = (register_good word).holds o is
+operand_good l o (grammar.Pointer {word = word} is) h = (pointer_good word).holds o is
+operand_good l o (grammar.Sum {word = word} is) h = (sum_good word).holds o is
+operand_good l o (grammar.Immediate {symbols = rest} {e = e} is) h = expr_good rest e is h.1
+operand_good l o (grammar.Inverted {symbols = rest} {e = e} is) h = expr_good rest e is h.1
+operand_good l o (grammar.Address {e = e} is) h = expr_good l e is h
 
-  segment_good : (at place : ℕ) (name : List ℕ) → place ≡ 0 → IsFree name → IfRead (segment line tokens name at) (IsBody place)
-  segment_good at place name begin free =
-      ok_then _ (IsBody place) (or_fault 12 (option_and_then kind_of (word_at line tokens at))) (λ k read.
-      let kinds = (ok_or 12 IsKind (option_and_then kind_of (word_at line tokens at)) (some_then kind_of IsKind (word_at line tokens at) (λ w is. kind_good w))).holds k read in
-      let r = reloc_at line tokens (at + 1) in
-      let o = overlayable_at line tokens r.1 in
-      ok_if 12 (nat_le (length tokens) o.1 && is_allowed k r.0 o.0) (λ h.
-      ok_is (begin, record { name_is = free; kind_is = kinds; reloc_is = word_reloc (at + 1); allowed = right (nat_le (length tokens) o.1) (is_allowed k r.0 o.0) h })))
+-- lists
+list_good : {A : Type 0} (P : List Symbol → A → Type 0) (Q : A → Type 0) → ((l : List Symbol) (a : A) → P l a → Each IsGood l → Q a) → (l : List Symbol) (xs : List A) → grammar.IsList P l xs → Each IsGood l → OneOrMore Q xs
+list_good P Q good l xs (grammar.Last {a = a} is) h = (good l a is h, tt)
+list_good P Q good l xs (grammar.Comma {part = part} {rest = rest} {a = a} {more = more} is others) h =
+    (good part a is (each_front IsGood part _ h), some_each Q more (list_good P Q good rest more others (each_back IsGood part _ h).1))
 
-  valued_good : (place : ℕ) (d : Definition) (name : List ℕ) (e : Tree) → place ≡ 0 → IsDefinition d → IsFree name → IsTree e → is_segment d ≡ false → IsBody place (valued d name e)
-  valued_good place definition.Segment name e begin is free tree' no_segment = absurd (cc no_segment)
-  valued_good place definition.Equ name e begin is free tree' no_segment = (begin, free, tree')
-  valued_good place definition.Set name e begin is free tree' no_segment = (begin, free, tree')
-  valued_good place (definition.Address k) name e begin is free tree' no_segment = (begin, free, is, tree')
+operands_good : (l : List Symbol) (os : List OperandTree) → grammar.AreOperands l os → Each IsGood l → Each IsOperand os
+operands_good l os grammar.Without h = tt
+operands_good l os (grammar.With is) h = some_each IsOperand os (list_good grammar.IsOperand IsOperand operand_good l os is h)
 
-  form_good : (at place : ℕ) (d : Definition) (name : List ℕ) → place ≡ 0 → IsDefinition d → IsFree name → IfRead (definition_form line tokens d name at) (IsBody place)
-  form_good at place d name begin is free =
-      ok_cond (is_segment d) (λ _. segment_good at place name begin free) (λ no_segment.
-      ok_then _ (IsBody place) (expression_line line tokens at) (λ e read. ok_is (valued_good place d name e begin is free ((line_good at).holds e read) no_segment)))
+name_good : (l : List Symbol) (name : List ℕ) → grammar.IsName l name → Each IsGood l → IsLeafName name
+name_good l name grammar.Name h = h.0
 
-  fault_name : (o : Option (List ℕ)) (name : List ℕ) → or_fault 12 o ≡ Ok name → o ≡ Some name
-  fault_name None name h = absurd (cc h)
-  fault_name (Some n) name h = ap Some (ok_same n name h)
+value_good : (l : List Symbol) (i : ItemTree) → grammar.IsValue l i → Each IsGood l → IsItem false i
+value_good l i (grammar.Data {e = e} is) h = expr_good l e is h
 
-  first_place : (n : ℕ) → nat_lt 0 n ≡ false → n ≡ 0
-  first_place n h = grind (arith, common_steps, h)
+item_good : (l : List Symbol) (i : ItemTree) → grammar.IsItem l i → Each IsGood l → IsItem true i
+item_good l i grammar.Text h = refl
+item_good l i (grammar.Value {e = e} other is) h = expr_good l e is h
 
-  defined_good : (at : ℕ) (d : Definition) (word : List ℕ) → IsDefinition d → word_at line tokens at ≡ Some word → IfRead (defined line tokens d word at) (IsBody at)
-  defined_good at d word is here =
-      ok_cond (is_reserved word) (λ _. err_is) (λ free.
-      ok_then _ (IsBody at) (definition_met line tokens d (at + 2)) (λ u all.
-      ok_cond (nat_lt 0 at) (λ _. err_is) (λ begin.
-      ok_then _ (IsBody at) (name_or_12 line tokens at) (λ name read.
-      let named = name_is_word line tokens at name (fault_name (name_at line tokens at) name read) in
-      let same : word ≡ name = some_same word name (sym here ∙ named) in
-      form_good (at + 2) at d name (first_place at begin) is (record { leaf = (name_good line tokens good at).holds name read; free = ap is_reserved (sym same) ∙ free })))))
+externs_good : (place : Option Kind) (l : List Symbol) (xs : List (List ℕ × Kind)) → grammar.AreExterns place l xs → Each IsGood l → OneOrMore IsExtern xs
+externs_good place l xs (grammar.Group {k = k} {rest = rest} is d) h = externs_good (Some k) rest xs d h.1.1
+externs_good place l xs (grammar.More {k = k} {rest = rest} {xs = more} free d) h = (record { leaf = h.0; free = free }, some_each IsExtern more (externs_good (Some k) rest more d h.1.1))
+externs_good place l xs (grammar.Last free) h = (record { leaf = h.0; free = free }, tt)
+externs_good place l xs (grammar.Next {rest = rest} {xs = more} free d) h = (record { leaf = h.0; free = free }, some_each IsExtern more (externs_good None rest more d h.1.1.1))
 
-  -- directives
-  name_line_good : (at : ℕ) → IfRead (name_line line tokens at) IsLeafName
-  name_line_good at = ok_then _ IsLeafName (name_or_12 line tokens at) (λ name read. ok_if 12 (nat_le (length tokens) (at + 1)) (λ _. ok_is ((name_good line tokens good at).holds name read)))
+-- definitions
+type_good : (l : List Symbol) (r : Reloc) → grammar.HasType l r → IsReloc r
+type_good l r grammar.Unit = unit_good
+type_good l r (grammar.Typed {word = word} is) = (reloc_good word).holds r is
 
-  select_at_good : (at place : ℕ) (k : Kind) → IsSelected k → IfRead (select line tokens k at) (IsBody place)
-  select_at_good at place k is =
-      ok_cond (nat_le (length tokens) at) (λ _. ok_is (is, tt)) (λ _.
-      ok_if 12 (is_at (word_at line tokens at)) (λ _.
-      ok_then _ (IsBody place) (expression_line line tokens (at + 1)) (λ e read. ok_is (is, (line_good (at + 1)).holds e read))))
+definition_body : (place : ℕ) (d : Definition) (name : List ℕ) (l : List Symbol) (b : BodyTree) → place ≡ 0 → IsDefinition d → IsFree name → grammar.IsDefinition name d l b → Each IsGood l → IsBody place b
+definition_body place d name l b first good free (grammar.Segment {word = word} {k = k} {r = r} {type = type} kinds types overlaid allowed) h =
+    (first, record { name_is = free; kind_is = (kind_good word).holds k kinds; reloc_is = type_good type r types; allowed = allowed })
+definition_body place d name l b first good free (grammar.Equ {e = e} is) h = (first, free, expr_good l e is h)
+definition_body place d name l b first good free (grammar.Set {e = e} is) h = (first, free, expr_good l e is h)
+definition_body place d name l b first good free (grammar.Address {e = e} is) h = (first, free, good, expr_good l e is h)
 
-  not_defined : (b : Bool) (r : Result (Unit {0}) ℕ) (u : Unit {0}) → cond b (Err 12) r ≡ Ok u → b ≡ false
-  not_defined true r u h = absurd (cc h)
-  not_defined false r u h = refl
+-- directives
+directive_body : (place : ℕ) (d : Directive) (l : List Symbol) (b : BodyTree) → IsDirective d → grammar.IsDirective d l b → Each IsGood l → IsBody place b
+directive_body place d l b good (grammar.Using {e = e} is) h = expr_good l e is h
+directive_body place d l b good (grammar.Ds {e = e} is) h = expr_good l e is h
+directive_body place d l b good (grammar.Dbit {e = e} is) h = expr_good l e is h
+directive_body place d l b good (grammar.Org {e = e} is) h = expr_good l e is h
+directive_body place d l b good (grammar.Db {items = xs} is) h = list_good grammar.IsItem (IsItem true) item_good l xs is h
+directive_body place d l b good (grammar.Dw {items = xs} is) h = list_good grammar.IsValue (IsItem false) value_good l xs is h
+directive_body place d l b good grammar.Select h = (good, tt)
+directive_body place d l b good (grammar.SelectAt {symbols = rest} {e = e} is) h = (good, expr_good rest e is h.1)
+directive_body place d l b good (grammar.Rseg {name = name} is) h = name_good l name is h
+directive_body place d l b good (grammar.ModuleName {name = name} is) h = name_good l name is h
+directive_body place d l b good (grammar.Public {names = xs} is) h = list_good grammar.IsName IsLeafName name_good l xs is h
+directive_body place d l b good (grammar.Extrn {externs = xs} is) h = externs_good None l xs is h
+directive_body place d l b good grammar.End h = tt
 
-  directive_form_good : (at place : ℕ) (d : Directive) → IsDirective d → (u : Unit {0}) → directive_met line tokens d at ≡ Ok u → IfRead (directive_form line tokens d at) (IsBody place)
-  directive_form_good at place directive.Using is u all = ok_then _ (IsBody place) (expression_line line tokens at) (λ e read. ok_is ((line_good at).holds e read))
-  directive_form_good at place directive.Ds is u all = ok_then _ (IsBody place) (expression_line line tokens at) (λ e read. ok_is ((line_good at).holds e read))
-  directive_form_good at place directive.Dbit is u all = ok_then _ (IsBody place) (expression_line line tokens at) (λ e read. ok_is ((line_good at).holds e read))
-  directive_form_good at place directive.Org is u all = ok_then _ (IsBody place) (expression_line line tokens at) (λ e read. ok_is ((line_good at).holds e read))
-  directive_form_good at place directive.Db is u all = ok_then _ (IsBody place) (items_at line tokens want.Item at) (λ items read. ok_is ((items_good line tokens good want.Item at).holds items read))
-  directive_form_good at place directive.Dw is u all = ok_then _ (IsBody place) (items_at line tokens want.Expression at) (λ items read. ok_is ((items_good line tokens good want.Expression at).holds items read))
-  directive_form_good at place (directive.Select k) is u all = select_at_good at place k is
-  directive_form_good at place directive.Rseg is u all = ok_then _ (IsBody place) (name_line line tokens at) (λ name read. ok_is ((name_line_good at).holds name read))
-  directive_form_good at place directive.Name is u all = ok_then _ (IsBody place) (name_line line tokens at) (λ name read. ok_is ((name_line_good at).holds name read))
-  directive_form_good at place directive.Public is u all = ok_then _ (IsBody place) (names_at line tokens at) (λ names read. ok_is ((names_good line tokens good at).holds names read))
-  directive_form_good at place directive.Extrn is u all = ok_then _ (IsBody place) (externs_at line tokens at) (λ externs read. ok_is ((externs_good line tokens good at (not_defined (defines_reserved line (drop at tokens) outside) (all_closed (length tokens - at) line tokens at) u all)).holds externs read))
-  directive_form_good at place directive.End is u all = ok_if 12 (nat_le (length tokens) at) (λ _. ok_is tt)
+-- what stands after the label; definitions stand first in their line
+said_good : (place : ℕ) (labelled : Bool) (l : List Symbol) (b : BodyTree) → (labelled ≡ false → place ≡ 0) → grammar.IsSaid labelled l b → Each IsGood l → IsBody place b
+said_good place labelled l b first grammar.Nothing h = tt
+said_good place labelled l b first (grammar.Instruction {symbols = rest} {os = os} is given form) h =
+    record { written = h.0.written; word = h.0.symbol; form = form; each = operands_good rest os given h.1 }
+said_good place labelled l b first (grammar.Directed {word = word} {d = d} {symbols = rest} found is) h = directive_body place d rest b ((directive_good word).holds d found) is h.1
+said_good place labelled l b first (grammar.Defined {name = name} {word = word} {d = d} {symbols = rest} free found is) h =
+    definition_body place d name rest b (first refl) ((definition_good word).holds d found) (record { leaf = h.0; free = free }) is h.1.1
 
-  no_directive_good : (at place : ℕ) (o : Option Directive) → IfSome o IsDirective → IfRead (or_no_directive line tokens at o) (IsBody place)
-  no_directive_good at place None h = err_is
-  no_directive_good at place (Some d) h = ok_then _ (IsBody place) (directive_met line tokens d at) (λ u all. directive_form_good at place d (h.holds d refl) u all)
-
-  spoken_good : (at place : ℕ) (w : List ℕ) → name_of w ≡ Some w → IfRead (spoken line tokens w at) (IsBody place)
-  spoken_good at place w written =
-      ok_cond (is_mnemonic w)
-      (λ _. ok_then _ (IsBody place) (met line tokens want.First want.Operand at) (λ u all. code_good at place w written))
-      (λ _. no_directive_good at place (directive_of w) (directive_good w))
-
-  beside_good : (o : Option Definition) → IfSome o IsDefinition → IfSome (beside_extrn o) IsDefinition
-  beside_good None h = none_is
-  beside_good (Some definition.Segment) h = some_is tt
-  beside_good (Some definition.Equ) h = some_is tt
-  beside_good (Some definition.Set) h = some_is tt
-  beside_good (Some (definition.Address k)) h = none_is
-
-  definition_at_good : (w : List ℕ) (at : ℕ) → IfSome (definition_at line tokens w at) IsDefinition
-  definition_at_good w at =
-      let d = option_and_then definition_of (word_at line tokens at) in
-      let is : IfSome d IsDefinition = some_then definition_of IsDefinition (word_at line tokens at) (λ w is. definition_good w) in
-      some_cond (bytes_eq w (codes "EXTRN")) (beside_good d is) is
-
-  by_definition_good : (at : ℕ) (w : List ℕ) (o : Option Definition) → word_at line tokens at ≡ Some w → name_of w ≡ Some w → IfSome o IsDefinition → IfRead (by_definition line tokens w at o) (IsBody at)
-  by_definition_good at w (Some d) here written h = defined_good at d w (h.holds d refl) here
-  by_definition_good at w None here written h = spoken_good (at + 1) at w written
-
-  by_word_good : (at : ℕ) (o : Option (List ℕ)) → word_at line tokens at ≡ o → IfRead (by_word line tokens at o) (IsBody at)
-  by_word_good at None is = err_is
-  by_word_good at (Some w) is = by_definition_good at w (definition_at line tokens w (at + 1)) is ((word_written line tokens at).holds w is) (definition_at_good w (at + 1))
-
-  said_good : (at : ℕ) → IfRead (said line tokens at) (IsBody at)
-  said_good at = ok_cond (nat_le (length tokens) at) (λ _. ok_is tt) (λ _. by_word_good at (word_at line tokens at) refl)
-
-  -- labels
-  label_good : (b : Bool) (name : List ℕ) → cond b (word_at line tokens 0) None ≡ Some name → name_of name ≡ Some name
-  label_good true name h = (word_written line tokens 0).holds name h
-  label_good false name h = absurd (cc h)
-
-  by_label_good : (o : Option (List ℕ)) → label_at line tokens ≡ o → IfRead (by_label line tokens o) IsStatement
-  by_label_good None is = ok_then _ IsStatement (said line tokens 0) (λ b read. ok_is (inr ((said_good 0).holds b read)))
-  by_label_good (Some name) is =
-      ok_cond (is_reserved name) (λ _. err_is) (λ free.
-      ok_then _ IsStatement (said line tokens 2) (λ b read.
-      ok_is (record { written = label_good (is_colon (symbol_at line tokens 1)) name is; free = free }, (said_good 2).holds b read)))
-
-  statement_good : IfRead (statement line tokens) IsStatement
-  statement_good = by_label_good (label_at line tokens) refl
+statement_good : (l : List Symbol) (s : StmtTree) → grammar.IsStatement l s → Each IsGood l → IsStatement s
+statement_good l s (grammar.Labelled {symbols = rest} {b = b} free is) h = (record { leaf = h.0; free = free }, said_good 2 true rest b (λ other. absurd (cc other)) is h.1.1)
+statement_good l s (grammar.Bare {b = b} is) h = inr (said_good 0 false l b (λ _. refl) is h)
 
 -- controls
 abbrev IsIncluded : List ℕ → Type 0
 IsIncluded name = (0 < length name) × (list_all is_inside name ≡ true)
 
-some_front : (n : ℕ) → (n == 0) ≡ false → 0 < n
-some_front n h = grind (arith, common_steps, h)
-
 if_ended_good : (inner rest : List ℕ) → IsIncluded inner → IfSome (if_ended inner rest) IsIncluded
 if_ended_good inner rest is = some_cond (ends rest) (some_is is) none_is
 
-closed_by : (inner : List ℕ) (len : ℕ) (b : Bool) → (len == 0) ≡ b → len ≡ prefix_len is_inside inner → IfSome (cond b None (option_and_then (if_ended (take len inner)) (behind_sign 0x29 (drop len inner)))) IsIncluded
+closed_by : (inner : List ℕ) (len : ℕ) (b : Bool) → (len == 0) ≡ b → len ≡ prefix_len is_inside inner → IfSome (cond b None (option_and_then (if_ended (take len inner)) (behind_sign closing (drop len inner)))) IsIncluded
 closed_by inner len true is same = none_is
 closed_by inner len false is same =
     let inside : list_all is_inside (take len inner) ≡ true = ap (λ n. list_all is_inside (take n inner)) same ∙ front_passes is_inside inner in
     let long : length (take len inner) ≡ len = ap (λ n. length (take n inner)) same ∙ length-prefix_len is_inside inner ∙ sym same in
-    some_then (if_ended (take len inner)) IsIncluded (behind_sign 0x29 (drop len inner)) (λ rest is'. if_ended_good (take len inner) rest (omega (arith, long, some_front len is), inside))
+    some_then (if_ended (take len inner)) IsIncluded (behind_sign closing (drop len inner)) (λ rest is'. if_ended_good (take len inner) rest (omega (arith, long, positive len is), inside))
 
 closed_good : (inner : List ℕ) → IfSome (closed_at inner (prefix_len is_inside inner)) IsIncluded
 closed_good inner = closed_by inner (prefix_len is_inside inner) (prefix_len is_inside inner == 0) refl refl
@@ -277,7 +258,7 @@ include_by None h = err_is
 include_by (Some name) h = ok_is (h.holds name refl)
 
 include_good : (rest : List ℕ) → IfRead (include rest) IsControl
-include_good rest = include_by (parenthesized rest) (some_then _ IsIncluded (behind_sign 0x28 (control.behind_blanks rest)) (λ inner is. closed_good inner))
+include_good rest = include_by (parenthesized rest) (some_then _ IsIncluded (behind_sign opening (control.behind_blanks rest)) (λ inner is. closed_good inner))
 
 ignored_good : (o : Option (List ℕ)) → IfRead (ignored_if o) IsControl
 ignored_good None = err_is
@@ -288,9 +269,9 @@ unfolding control.by_word
 control_word word rest =
     ok_cond (bytes_eq word (codes "INCLUDE")) (λ _. include_good rest) (λ _.
     ok_cond (bytes_eq word (codes "TITLE")) (λ _. ok_cond (ends rest) (λ _. ok_is tt) (λ _. ignored_good (parenthesized rest))) (λ _.
-    ok_cond (bytes_eq word (codes "MOD51")) (λ _. ok_if 12 (ends rest) (λ _. ok_is tt)) (λ _.
-    ok_cond (bytes_eq word (codes "NOMOD51")) (λ _. ok_if 12 (ends rest) (λ _. ok_is tt)) (λ _.
-    ok_if 12 (is_ignored_word word) (λ _. ok_if 12 (ends rest) (λ _. ok_is tt))))))
+    ok_cond (bytes_eq word (codes "MOD51")) (λ _. ok_if BAD_FORM (ends rest) (λ _. ok_is tt)) (λ _.
+    ok_cond (bytes_eq word (codes "NOMOD51")) (λ _. ok_if BAD_FORM (ends rest) (λ _. ok_is tt)) (λ _.
+    ok_if BAD_FORM (is_ignored_word word) (λ _. ok_if BAD_FORM (ends rest) (λ _. ok_is tt))))))
 
 control_name : (o : Option (List ℕ)) (rest : List ℕ) → IfRead (by_name o rest) IsControl
 control_name None rest = err_is
@@ -300,29 +281,26 @@ control_good : (rest : List ℕ) → IfRead (control.control rest) IsControl
 control_good rest = let len = prefix_len is_ascii_alphanumeric rest in control_name (name_of (take len rest)) (drop len rest)
 
 -- each statement that a line of bytes writes can be read
-any_good : (line : List ℕ) → Each IsByte line → IfRead (any_line line) IsStatement
-unfolding any_line
-any_good line bytes =
-    ok_cond (slice_index line 0 == 0x24)
-    (λ _. ok_then _ IsStatement (control.control (drop 1 line)) (λ b read. ok_is (inl ((control_good (drop 1 line)).holds b read))))
-    (λ _. ok_cond (slice_index line 0 == 0x25) (λ _. err_is)
-    (λ _. ok_then _ IsStatement (tokens_at 0 0 line) (λ tokens read. statement_good line tokens (record { bytes = bytes; numbers = (tokens_good line 0 0).holds tokens read }))))
+line_good : (line : List ℕ) (s : StmtTree) → grammar.IsLine line s → Each IsByte line → IsStatement s
+line_good line s (grammar.Control {b = b} dollar read') bytes = inl ((control_good (drop 1 line)).holds b read')
+line_good line s (grammar.Statement {tokens = tokens} no_dollar no_percent cut is) bytes =
+    statement_good (symbols_of line tokens) s is (symbols_good line tokens bytes ((tokens_good line 0 0).holds tokens cut))
 
-each_of : (xs : List ℕ) → AllByRecursion IsByte xs → Each IsByte xs
-each_of [] h = tt
-each_of (x ∷ xs) h = (h.0, each_of xs h.1)
+each_byte : (xs : List ℕ) → AllByRecursion IsByte xs → Each IsByte xs
+each_byte [] h = tt
+each_byte (x ∷ xs) h = (h.0, each_byte xs h.1)
 
 long_enough : (n : ℕ) → n ≤ 255 → nat_lt 255 n ≡ false
 long_enough n h = grind (arith, common_steps)
 
 -- a statement that a line of bytes writes can be read
 pub written_is_good : (line : List ℕ) (s : StmtTree) → WritesStatement line s → IsStatement s
-written_is_good line s writes = (any_good line (each_of line (recursion_from_All IsByte line writes.bytes))).holds s writes.reads
+written_is_good line s writes = line_good line s ((line_derived line).holds s writes.reads) (each_byte line (recursion_from_All IsByte line writes.bytes))
 
 pub printed_reads_back : PrintedReadsBack
 printed_reads_back line s writes =
     let again = printed s (written_is_good line s writes) in
     record {
       printed = again;
-      short = λ few. ap (λ b. cond b (Err 5) (any_line (stmt_text s))) (long_enough (length (stmt_text s)) few) ∙ again;
+      short = λ few. ap (λ b. cond b (Err LONG_LINE) (any_line (stmt_text s))) (long_enough (length (stmt_text s)) few) ∙ again;
     }

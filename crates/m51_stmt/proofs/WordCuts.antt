@@ -4,6 +4,9 @@ use Rattle.std.specs.Char.{is_ascii_digit, is_ascii_alphanumeric, to_ascii_upper
 use Rattle.std.specs.Fmt.{digit_glyph}
 use Rattle.std.specs.List.{list_all, prefix_len}
 use Rattle.std.proofs.lemmas.Grind.{common_steps}
+use Rattle.std.proofs.Math.Seq.{take-append_seam}
+use Rattle.std.proofs.lemmas.Bool.{not-true}
+use Rattle.m51_cells.proofs.NameLaws.{named_is_name}
 use Rattle.m51_cells.specs.Hex.{hex4}
 use Rattle.m51_cells.specs.Name as cells
 use Rattle.m51_cells.specs.Name.{name_of, is_name}
@@ -22,10 +25,6 @@ left false b h = absurd (cc h)
 pub right : (a b : Bool) → (a && b) ≡ true → b ≡ true
 right true b h = h
 right false b h = absurd (cc h)
-
-not_true : (b : Bool) → not b ≡ true → b ≡ false
-not_true true h = absurd (cc h)
-not_true false h = refl
 
 -- a test that let something through holds
 pub passed : {X : Type 0} (b : Bool) (x y : X) → cond b (Some x) None ≡ Some y → b ≡ true
@@ -79,7 +78,7 @@ named : (text : List ℕ) → is_name text ≡ true → IsCut (name_word text)
 named [] h = absurd (cc h)
 named (c ∷ more) h =
     let front = left (not (is_ascii_digit c) && nat_le (length (c ∷ more)) 31) (list_all cells.is_name_byte (c ∷ more)) h in
-    let digit : is_ascii_digit c ≡ false = not_true (is_ascii_digit c) (left (not (is_ascii_digit c)) (nat_le (length (c ∷ more)) 31) front) in
+    let digit : is_ascii_digit c ≡ false = not-true (is_ascii_digit c) (left (not (is_ascii_digit c)) (nat_le (length (c ∷ more)) 31) front) in
     let few = right (not (is_ascii_digit c)) (nat_le (length (c ∷ more)) 31) front in
     let all : list_all is_name_byte (c ∷ more) ≡ true = sym (all_same cells.is_name_byte is_name_byte same_byte (c ∷ more)) ∙ right (not (is_ascii_digit c) && nat_le (length (c ∷ more)) 31) (list_all cells.is_name_byte (c ∷ more)) h in
     record {
@@ -87,12 +86,9 @@ named (c ∷ more) h =
       front = λ at rest go. ap (λ l. after_lexeme at l go) (name_front c more rest digit all) ∙ name_ends at (c ∷ more) rest go all few;
     }
 
-pub written_is_name : (text word : List ℕ) → name_of text ≡ Some word → is_name text ≡ true
-written_is_name text word h = passed (is_name text) (map to_ascii_uppercase text) word h
-
 -- a written name is cut
 pub name_cut : (text : List ℕ) → name_of text ≡ Some text → IsCut (name_word text)
-name_cut text h = named text (written_is_name text text h)
+name_cut text h = named text (named_is_name text text h)
 
 -- numbers
 glyph_value : (d : ℕ) → d < 16 → digit_value (digit_glyph true d) ≡ d
@@ -145,10 +141,6 @@ number_run n h =
     let rd = glyph_run (b % 16) (omega arith) in
     rw ra (rw rb (rw rc (rw rd refl)))
 
-pub take_front : (text rest : List ℕ) → take (length text) (text ++ rest) ≡ text
-take_front [] rest = refl
-take_front (b ∷ text) rest = ap (λ l. b ∷ l) (take_front text rest)
-
 number_front : (n : ℕ) (rest : List ℕ) → lexeme_of (number_text n ++ space ∷ rest) ≡ number_lexeme (number_text n ++ space ∷ rest)
 unfolding lexeme_of
 number_front n rest = refl
@@ -160,7 +152,7 @@ number_cut n h = record {
       let l = number_text n ++ space ∷ rest in
       ap (λ x. after_lexeme at x go) (number_front n rest)
       ∙ ap (λ k. after_lexeme at (number_or_fault k (number_of (take k l))) go) (run_stops is_ascii_alphanumeric (number_text n) space rest (number_run n h) refl)
-      ∙ ap (λ t. after_lexeme at (number_or_fault (length (number_text n)) (number_of t)) go) (take_front (number_text n) (space ∷ rest))
+      ∙ ap (λ t. after_lexeme at (number_or_fault (length (number_text n)) (number_of t)) go) (take-append_seam (number_text n) (space ∷ rest))
       ∙ ap (λ o. after_lexeme at (number_or_fault (length (number_text n)) o) go) (printed_number n h);
 }
 

@@ -4,21 +4,31 @@ use Rattle.std.specs.Prelude.{codes, Option, Some, None, Result, Ok, Err, option
 use Rattle.std.specs.Char.{is_ascii_alphanumeric}
 use Rattle.std.specs.List.{prefix_len}
 use Rattle.std.specs.Str.{bytes_eq}
+use Rattle.m51_cells.specs.Blanks.{is_blank}
 use Rattle.m51_cells.specs.Name.{name_of}
-use Rattle.m51_lex.specs.Characters.{space, tab, semicolon}
+use Rattle.m51_cells.specs.declared.fault.TheConstants.{BAD_FORM}
+use Rattle.m51_lex.specs.Characters.{semicolon}
 use Rattle.m51_expr.specs.Words.{is_among}
 use Rattle.m51_stmt.specs.Statement.{BodyTree, Ignored, Include, Mod51}
 
-abbrev pub is_blank : ℕ → Bool
-is_blank b = b == space || b == tab
+-- (
+abbrev pub opening : ℕ
+opening = 40
 
+-- )
+abbrev pub closing : ℕ
+closing = 41
+
+-- a blank or a tab
 -- a byte that may stand between the parentheses of a control: none of ) and ;
 abbrev pub is_inside : ℕ → Bool
-is_inside b = not (b == 0x29) && not (b == semicolon)
+is_inside b = not (b == closing) && not (b == semicolon)
 
+-- what stands after the blanks that come first
 abbrev pub behind_blanks : List ℕ → List ℕ
 behind_blanks rest = drop (prefix_len is_blank rest) rest
 
+-- nothing, or a comment
 abbrev pub is_comment : List ℕ → Bool
 is_comment [] = true
 is_comment (c ∷ rest) = c == semicolon
@@ -32,37 +42,43 @@ abbrev pub behind_sign : ℕ → List ℕ → Option (List ℕ)
 behind_sign sign [] = None
 behind_sign sign (c ∷ rest) = if c == sign then Some rest else None
 
+-- these bytes, where nothing but blanks and a comment follows
 abbrev pub if_ended : List ℕ → List ℕ → Option (List ℕ)
 if_ended inner behind = if ends behind then Some inner else None
 
+-- the bytes of this number, if there are some, where ) follows them and ends the line
 abbrev pub closed_at : List ℕ → ℕ → Option (List ℕ)
 closed_at inner len =
-    if len == 0 then None else option_and_then (if_ended (take len inner)) (behind_sign 0x29 (drop len inner))
+    if len == 0 then None else option_and_then (if_ended (take len inner)) (behind_sign closing (drop len inner))
 
 -- one or more bytes between parentheses, after which blanks and a comment alone stand
 abbrev pub parenthesized : List ℕ → Option (List ℕ)
 parenthesized rest =
-    option_and_then (λ inner. closed_at inner (prefix_len is_inside inner)) (behind_sign 0x28 (behind_blanks rest))
+    option_and_then (λ inner. closed_at inner (prefix_len is_inside inner)) (behind_sign opening (behind_blanks rest))
 
 -- a control that stands alone
 abbrev pub alone : List ℕ → BodyTree → Result BodyTree ℕ
-alone rest body = if ends rest then Ok body else Err 12
+alone rest body = if ends rest then Ok body else Err BAD_FORM
 
+-- the file that INCLUDE names
 abbrev pub include_of : Option (List ℕ) → Result BodyTree ℕ
 include_of (Some name) = Ok (Include name)
-include_of None = Err 12
+include_of None = Err BAD_FORM
 
+-- INCLUDE and what follows it
 abbrev pub include : List ℕ → Result BodyTree ℕ
 include rest = include_of (parenthesized rest)
 
+-- a text between parentheses, which changes nothing
 abbrev pub ignored_if : Option (List ℕ) → Result BodyTree ℕ
 ignored_if (Some text) = Ok Ignored
-ignored_if None = Err 12
+ignored_if None = Err BAD_FORM
 
 -- a title stands alone, or with a text
 abbrev pub title : List ℕ → Result BodyTree ℕ
 title rest = if ends rest then Ok Ignored else ignored_if (parenthesized rest)
 
+-- a control that changes nothing and stands alone
 unfoldable pub is_ignored_word : List ℕ → Bool
 is_ignored_word word =
     is_among word (codes "LIST" ∷ codes "NOLIST" ∷ codes "DEBUG" ∷ codes "NODEBUG" ∷ codes "EJECT" ∷ [])
@@ -75,11 +91,12 @@ by_word word rest =
     else if bytes_eq word (codes "MOD51") then alone rest (Mod51 true)
     else if bytes_eq word (codes "NOMOD51") then alone rest (Mod51 false)
     else if is_ignored_word word then alone rest Ignored
-    else Err 12
+    else Err BAD_FORM
 
+-- what a control says by its word, if it has one
 abbrev pub by_name : Option (List ℕ) → List ℕ → Result BodyTree ℕ
 by_name (Some word) rest = by_word word rest
-by_name None rest = Err 12
+by_name None rest = Err BAD_FORM
 
 -- what a control line says, whose $ stands before these bytes
 abbrev pub control : List ℕ → Result BodyTree ℕ

@@ -1,23 +1,19 @@
 -- Directives, and what each wants after its word.
-use Rattle.std.specs.Prelude.{ℕ, ◌+◌, ◌-◌, Bool, false, nat_le, if◌then◌else◌, List, length, drop, codes, Option}
-use Rattle.std.specs.Prelude.{Some, None, Result, Ok, Err}
+use Rattle.std.specs.Prelude.{ℕ, Bool, true, false, if◌then◌else◌, List, [], ◌∷◌, codes, Option, Some, None, option_map}
 use Rattle.std.specs.Str.{bytes_eq}
 use Rattle.m51_cells.specs.declared.kind.Kind.{Kind}
 use Rattle.m51_cells.specs.declared.kind.Kind.TheVariants as kind
-use Rattle.m51_lex.specs.declared.token.Token.{Token}
-use Rattle.m51_expr.specs.Tree.{Tree}
-use Rattle.m51_stmt.specs.declared.lack.Want.{Want}
+use Rattle.m51_cells.specs.declared.fault.TheConstants.{NO_EXPRESSION, BAD_FORM}
+use Rattle.m51_expr.specs.declared.symbol.Symbol.{Symbol}
+use Rattle.m51_expr.specs.declared.symbol.Symbol.TheVariants as symbol
 use Rattle.m51_stmt.specs.declared.lack.Want.TheVariants as want
 use Rattle.m51_stmt.specs.declared.directives.Directive.{Directive}
 use Rattle.m51_stmt.specs.declared.directives.Directive.TheVariants as word
-use Rattle.m51_stmt.specs.Statement.{ItemTree, BodyTree, End, Db, Dw, Ds, Dbit, Org, Using, Rseg, Select, Public}
-use Rattle.m51_stmt.specs.Statement.{Extrn, ModuleName}
-use Rattle.m51_stmt.specs.Answer.{and_then}
-use Rattle.m51_stmt.specs.Words.{word_at}
-use Rattle.m51_stmt.specs.Lack.{is_item, met, all_closed}
-use Rattle.m51_stmt.specs.Lists.{name_or_12, names_at, items_at}
-use Rattle.m51_stmt.specs.Externs.{externs_at, outside, defines_reserved}
-use Rattle.m51_stmt.specs.Definitions.{expression_line}
+use Rattle.m51_stmt.specs.Statement.{BodyTree, End, Db, Dw, Ds, Dbit, Org, Using, Rseg, Select, Public, Extrn}
+use Rattle.m51_stmt.specs.Statement.{ModuleName}
+use Rattle.m51_stmt.specs.Lack.{lacks, is_unclosed}
+use Rattle.m51_stmt.specs.Lists.{list_of, item, value, expression, name_alone}
+use Rattle.m51_stmt.specs.Externs.{externs, outside, defines_reserved}
 
 -- CSEG and its kin
 unfoldable pub select_of : List ℕ → Option Directive
@@ -45,94 +41,63 @@ directive_of w =
     else if bytes_eq w (codes "END") then Some word.End
     else select_of w
 
-abbrev pub is_at : Option (List ℕ) → Bool
-is_at (Some w) = bytes_eq w (codes "AT")
-is_at None = false
+-- the word AT
+abbrev pub is_at : Symbol → Bool
+is_at (symbol.Word w) = bytes_eq w (codes "AT")
+is_at s = false
+
+-- CSEG and its kin stand alone, or with AT and an expression
+abbrev pub select : Kind → List Symbol → Option BodyTree
+select k [] = Some (Select k None)
+select k (s ∷ rest) = if is_at s then option_map (λ e. Select k (Some e)) (expression rest) else None
+
+-- END stands alone
+abbrev pub end_form : List Symbol → Option BodyTree
+end_form [] = Some End
+end_form more = None
+
+-- what a directive says with what stands after its word
+abbrev pub directive_form : Directive → List Symbol → Option BodyTree
+directive_form word.Using symbols = option_map Using (expression symbols)
+directive_form word.Ds symbols = option_map Ds (expression symbols)
+directive_form word.Dbit symbols = option_map Dbit (expression symbols)
+directive_form word.Org symbols = option_map Org (expression symbols)
+directive_form word.Db symbols = option_map Db (list_of item symbols)
+directive_form word.Dw symbols = option_map Dw (list_of value symbols)
+directive_form (word.Select k) symbols = select k symbols
+directive_form word.Rseg symbols = option_map Rseg (name_alone symbols)
+directive_form word.Name symbols = option_map ModuleName (name_alone symbols)
+directive_form word.Public symbols = option_map Public (list_of name_alone symbols)
+directive_form word.Extrn symbols = option_map Extrn (externs symbols)
+directive_form word.End symbols = end_form symbols
 
 -- after CSEG and its kin an expression is wanted where AT stands
-abbrev pub select_met : List ℕ → List Token → ℕ → Result (Unit {0}) ℕ
-select_met line tokens at =
-    if is_at (word_at line tokens at) then met line tokens want.Expression want.Nothing (at + 1)
-    else all_closed (length tokens - at) line tokens at
+abbrev pub select_lacks : List Symbol → Bool
+select_lacks [] = false
+select_lacks (s ∷ rest) = if is_at s then lacks want.Expression want.Nothing rest else is_unclosed (s ∷ rest)
 
--- EXTRN defines no reserved word, or fault 12
-abbrev pub extern_met : List ℕ → List Token → ℕ → Result (Unit {0}) ℕ
-extern_met line tokens at =
-    if defines_reserved line (drop at tokens) outside then Err 12 else all_closed (length tokens - at) line tokens at
+-- something that a directive wants after its word does not stand
+abbrev pub directive_lacks : Directive → List Symbol → Bool
+directive_lacks word.Using symbols = lacks want.Expression want.Nothing symbols
+directive_lacks word.Ds symbols = lacks want.Expression want.Nothing symbols
+directive_lacks word.Dbit symbols = lacks want.Expression want.Nothing symbols
+directive_lacks word.Org symbols = lacks want.Expression want.Nothing symbols
+directive_lacks word.Db symbols = lacks want.Item want.Item symbols
+directive_lacks word.Dw symbols = lacks want.Expression want.Expression symbols
+directive_lacks (word.Select k) symbols = select_lacks symbols
+directive_lacks other symbols = is_unclosed symbols
 
--- all stands that a directive wants after its word
-abbrev pub directive_met : List ℕ → List Token → Directive → ℕ → Result (Unit {0}) ℕ
-directive_met line tokens word.Using at = met line tokens want.Expression want.Nothing at
-directive_met line tokens word.Ds at = met line tokens want.Expression want.Nothing at
-directive_met line tokens word.Dbit at = met line tokens want.Expression want.Nothing at
-directive_met line tokens word.Org at = met line tokens want.Expression want.Nothing at
-directive_met line tokens word.Db at = met line tokens want.Item want.Item at
-directive_met line tokens word.Dw at = met line tokens want.Expression want.Expression at
-directive_met line tokens (word.Select k) at = select_met line tokens at
-directive_met line tokens word.Extrn at = extern_met line tokens at
-directive_met line tokens other at = all_closed (length tokens - at) line tokens at
+-- fault 6 where something lacks, or else this one
+abbrev pub lacking : Bool → ℕ → ℕ
+lacking true k = NO_EXPRESSION
+lacking false k = k
 
--- a name that ends the line
-abbrev pub name_line : List ℕ → List Token → ℕ → Result (List ℕ) ℕ
-name_line line tokens at =
-    and_then (name_or_12 line tokens at) (λ name. if nat_le (length tokens) (at + 1) then Ok name else Err 12)
+-- EXTRN defines a reserved word
+abbrev pub reserves : Directive → List Symbol → Bool
+reserves word.Extrn symbols = defines_reserved outside symbols
+reserves other symbols = false
 
-abbrev pub end_line : List Token → ℕ → Result BodyTree ℕ
-end_line tokens at = if nat_le (length tokens) at then Ok End else Err 12
-
-abbrev pub select : List ℕ → List Token → Kind → ℕ → Result BodyTree ℕ
-select line tokens k at =
-    if nat_le (length tokens) at then Ok (Select k None)
-    else if is_at (word_at line tokens at) then and_then (expression_line line tokens (at + 1))
-    (λ e. Ok (Select k (Some e)))
-    else Err 12
-
-abbrev pub with_value : Directive → Tree → BodyTree
-with_value word.Using e = Using e
-with_value word.Ds e = Ds e
-with_value word.Dbit e = Dbit e
-with_value other e = Org e
-
--- a directive with one expression
-abbrev pub value_form : List ℕ → List Token → Directive → ℕ → Result BodyTree ℕ
-value_form line tokens d at = and_then (expression_line line tokens at) (λ e. Ok (with_value d e))
-
-abbrev pub list_of_items : Want → List ItemTree → BodyTree
-list_of_items w items = if is_item w then Db items else Dw items
-
--- DB, whose items may be texts, or DW
-abbrev pub items_form : List ℕ → List Token → Want → ℕ → Result BodyTree ℕ
-items_form line tokens w at = and_then (items_at line tokens w at) (λ items. Ok (list_of_items w items))
-
-abbrev pub with_name : Directive → List ℕ → BodyTree
-with_name word.Rseg name = Rseg name
-with_name other name = ModuleName name
-
--- RSEG or NAME
-abbrev pub name_form : List ℕ → List Token → Directive → ℕ → Result BodyTree ℕ
-name_form line tokens d at = and_then (name_line line tokens at) (λ name. Ok (with_name d name))
-
-abbrev pub public_form : List ℕ → List Token → ℕ → Result BodyTree ℕ
-public_form line tokens at = and_then (names_at line tokens at) (λ names. Ok (Public names))
-
-abbrev pub extern_form : List ℕ → List Token → ℕ → Result BodyTree ℕ
-extern_form line tokens at = and_then (externs_at line tokens at) (λ externs. Ok (Extrn externs))
-
--- what a directive says, by its form
-abbrev pub directive_form : List ℕ → List Token → Directive → ℕ → Result BodyTree ℕ
-directive_form line tokens word.Using at = value_form line tokens word.Using at
-directive_form line tokens word.Ds at = value_form line tokens word.Ds at
-directive_form line tokens word.Dbit at = value_form line tokens word.Dbit at
-directive_form line tokens word.Org at = value_form line tokens word.Org at
-directive_form line tokens word.Db at = items_form line tokens want.Item at
-directive_form line tokens word.Dw at = items_form line tokens want.Expression at
-directive_form line tokens (word.Select k) at = select line tokens k at
-directive_form line tokens word.Rseg at = name_form line tokens word.Rseg at
-directive_form line tokens word.Name at = name_form line tokens word.Name at
-directive_form line tokens word.Public at = public_form line tokens at
-directive_form line tokens word.Extrn at = extern_form line tokens at
-directive_form line tokens word.End at = end_line tokens at
-
--- what a directive says whose word stands before a place
-abbrev pub directed : List ℕ → List Token → Directive → ℕ → Result BodyTree ℕ
-directed line tokens d at = and_then (directive_met line tokens d at) (λ _. directive_form line tokens d at)
+-- the fault of a directive out of its form
+abbrev pub directive_fault : Directive → List Symbol → ℕ
+directive_fault d symbols =
+    if reserves d symbols then BAD_FORM else lacking (directive_lacks d symbols) BAD_FORM

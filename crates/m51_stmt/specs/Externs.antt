@@ -1,100 +1,67 @@
--- The names of EXTRN with their kinds: one or more groups `kind (name, ..)` with commas between them.
-use Rattle.std.specs.Prelude.{ℕ, zero, suc, ◌+◌, ◌-◌, ◌==◌, ◌&&◌, Bool, true, false, nat_le, nat_lt, if◌then◌else◌}
-use Rattle.std.specs.Prelude.{List, [], ◌∷◌, ◌++◌, length, Option, Some, None, Result, Ok, Err, option_and_then}
+-- The groups of EXTRN: kinds, each with the names in its parentheses (the assembler's rules of EXTRN).
+use Rattle.std.specs.Prelude.{ℕ, ◌+◌, ◌-◌, ◌&&◌, Bool, true, false, nat_lt, if◌then◌else◌, List, [], ◌∷◌, ◌++◌}
+use Rattle.std.specs.Prelude.{Option, Some, None, option_map, option_and_then}
 use Rattle.m51_cells.specs.declared.kind.Kind.{Kind}
-use Rattle.m51_lex.specs.declared.token.What.{What}
-use Rattle.m51_lex.specs.declared.token.What.TheVariants as what
-use Rattle.m51_lex.specs.declared.token.Token.{Token}
+use Rattle.m51_expr.specs.declared.symbol.Symbol.{Symbol}
+use Rattle.m51_expr.specs.declared.symbol.Symbol.TheVariants as symbol
 use Rattle.m51_expr.specs.Words.{is_reserved}
-use Rattle.m51_expr.specs.Symbol.{symbol_at}
-use Rattle.m51_expr.specs.Ranks.{is_open, is_close}
-use Rattle.m51_stmt.specs.declared.externs.AfterName.{AfterName}
-use Rattle.m51_stmt.specs.declared.externs.AfterName.TheVariants as after
+use Rattle.m51_stmt.specs.declared.externs.Awaited.{Awaited}
+use Rattle.m51_stmt.specs.declared.externs.Awaited.TheVariants as awaited
 use Rattle.m51_stmt.specs.declared.externs.Region.{Region}
-use Rattle.m51_stmt.specs.Answer.{and_then}
-use Rattle.m51_stmt.specs.Words.{word_of, word_at, is_comma}
 use Rattle.m51_stmt.specs.Kinds.{extern_kind_of}
-use Rattle.m51_stmt.specs.Lists.{name_or_12}
+use Rattle.m51_stmt.specs.Words.{is_reserved_word}
 
--- the kind at a place, if an opening parenthesis follows it
-abbrev pub group_at : List ℕ → List Token → ℕ → Option Kind
-group_at line tokens at =
-    if is_open (symbol_at line tokens (at + 1)) then option_and_then extern_kind_of (word_at line tokens at) else None
+-- after a name of a kind, which nothing reserves
+abbrev pub after_name : List ℕ → Kind → Option Awaited
+after_name name kind = if is_reserved name then None else Some (awaited.Sign kind)
 
-abbrev pub group_or_nothing : Option Kind → AfterName
-group_or_nothing (Some kind) = after.Group kind
-group_or_nothing None = after.Nothing
+-- What is awaited after a symbol: KIND ( name , name ) , KIND ( name )
+abbrev pub next : Awaited → Symbol → Option Awaited
+next awaited.Kind (symbol.Word word) = option_map awaited.Open (extern_kind_of word)
+next (awaited.Open kind) symbol.Open = Some (awaited.Name kind)
+next (awaited.Name kind) (symbol.Name name) = after_name name kind
+next (awaited.Sign kind) symbol.Comma = Some (awaited.Name kind)
+next (awaited.Sign kind) symbol.Close = Some awaited.End
+next awaited.End symbol.Comma = Some awaited.Kind
+next here s = None
 
--- after a closing parenthesis: the line's end, or a comma and another group
-abbrev pub after_group : List ℕ → List Token → ℕ → AfterName
-after_group line tokens at =
-    if nat_le (length tokens) at then after.End
-    else if is_comma (symbol_at line tokens at) then group_or_nothing (group_at line tokens (at + 1))
-    else after.Nothing
+-- the name with its kind that a symbol adds
+abbrev pub named : Awaited → Symbol → List (List ℕ × Kind)
+named (awaited.Name kind) (symbol.Name name) = (name, kind) ∷ []
+named here s = []
 
--- after a name: a comma and another name, or a closing parenthesis
-abbrev pub after_name : List ℕ → List Token → ℕ → AfterName
-after_name line tokens at =
-    if is_comma (symbol_at line tokens at) then after.Name
-    else if is_close (symbol_at line tokens at) then after_group line tokens (at + 1)
-    else after.Nothing
+-- the line may end only where no kind, name or sign is awaited
+abbrev pub ended : Awaited → Option (List (List ℕ × Kind))
+ended awaited.End = Some []
+ended here = None
 
-abbrev pub go_on : List (List ℕ × Kind) → Kind → ℕ → (Kind → ℕ → Result (List (List ℕ × Kind)) ℕ) → AfterName →
-    Result (List (List ℕ × Kind)) ℕ
-go_on done kind at more after.Name = more kind (at + 2)
-go_on done kind at more (after.Group other) = more other (at + 5)
-go_on done kind at more after.End = Ok done
-go_on done kind at more after.Nothing = Err 12
+-- the names that the symbols add, where this is awaited
+abbrev pub externs_from : Awaited → List Symbol → Option (List (List ℕ × Kind))
+externs_from here [] = ended here
+externs_from here (s ∷ rest) =
+    option_and_then (λ later. option_map (λ more. named here s ++ more) (externs_from later rest)) (next here s)
 
--- The names of which some are read, up to this place, where one of this kind is to stand. The first argument bounds the
--- steps: more than there are tokens are enough.
-unfoldable pub more_externs : ℕ → List ℕ → List Token → List (List ℕ × Kind) → Kind → ℕ →
-    Result (List (List ℕ × Kind)) ℕ
-more_externs zero line tokens done kind at = Err 12
-more_externs (suc n) line tokens done kind at =
-    and_then (name_or_12 line tokens at)
-    (λ name. let all = done ++ (name, kind) ∷ [] in
-    go_on all kind at (more_externs n line tokens all) (after_name line tokens (at + 1)))
-
-abbrev pub first_group : List ℕ → List Token → ℕ → Option Kind → Result (List (List ℕ × Kind)) ℕ
-first_group line tokens at (Some kind) = more_externs (length tokens - at + 1) line tokens [] kind (at + 2)
-first_group line tokens at None = Err 12
-
--- the groups from a place to the end of the line
-abbrev pub externs_at : List ℕ → List Token → ℕ → Result (List (List ℕ × Kind)) ℕ
-externs_at line tokens at = first_group line tokens at (group_at line tokens at)
+-- the groups of EXTRN
+abbrev pub externs : List Symbol → Option (List (List ℕ × Kind))
+externs symbols = externs_from awaited.Kind symbols
 
 -- so many parentheses are open, and a name is to stand or not
 abbrev pub region : ℕ → Bool → Region
 region depth at_name = record { depth = depth; at_name = at_name }
 
--- outside parentheses; in one pair of them; and there where a name is to stand
+-- outside parentheses
 abbrev pub outside : Region
 outside = region 0 false
 
-abbrev pub inside : Region
-inside = region 1 false
-
-abbrev pub naming : Region
-naming = region 1 true
-
--- the region after a token: a name is to stand after an opening parenthesis, and after a comma inside parentheses
-abbrev pub region_after : Region → What → Region
-region_after r (what.Sign sign) =
-    if sign == 0x28 then region (r.depth + 1) true
-    else if sign == 0x29 then region (r.depth - 1) false
-    else region r.depth (sign == 0x2C && nat_lt 0 r.depth)
-region_after r other = region r.depth false
-
-abbrev pub is_reserved_word : Option (List ℕ) → Bool
-is_reserved_word (Some word) = is_reserved word
-is_reserved_word None = false
-
-abbrev pub is_reserved_token : List ℕ → Token → Bool
-is_reserved_token line t = is_reserved_word (word_of line t)
+-- the region after a symbol: a name is to stand after an opening parenthesis, and after a comma inside parentheses
+abbrev pub region_after : Region → Symbol → Region
+region_after r symbol.Open = region (r.depth + 1) true
+region_after r symbol.Close = region (r.depth - 1) false
+region_after r symbol.Comma = region r.depth (nat_lt 0 r.depth)
+region_after r s = region r.depth false
 
 -- a reserved word stands where a name is to stand: after an opening parenthesis, or after a comma inside parentheses
-abbrev pub defines_reserved : List ℕ → List Token → Region → Bool
-defines_reserved line [] r = false
-defines_reserved line (t ∷ more) r =
-    if r.at_name && is_reserved_token line t then true else defines_reserved line more (region_after r t.what)
+abbrev pub defines_reserved : Region → List Symbol → Bool
+defines_reserved r [] = false
+defines_reserved r (s ∷ more) =
+    if r.at_name && is_reserved_word s then true else defines_reserved (region_after r s) more

@@ -1,174 +1,131 @@
--- Where an expression or an operand is wanted and none stands: fault 6 by form.
-use Rattle.std.specs.Prelude.{ℕ, zero, suc, ◌+◌, ◌-◌, ◌==◌, ◌||◌, not, Bool, true, false, nat_le, if◌then◌else◌}
-use Rattle.std.specs.Prelude.{List, [], ◌∷◌, length, drop, Option, Some, None, is_some, Result, Ok, Err}
-use Rattle.m51_lex.specs.declared.token.What.{What}
-use Rattle.m51_lex.specs.declared.token.What.TheVariants as what
-use Rattle.m51_lex.specs.declared.token.Token.{Token}
+-- Where an expression or an operand is wanted and none stands: fault 6 of a line that is out of form.
+use Rattle.std.specs.Prelude.{ℕ, ◌+◌, ◌-◌, ◌==◌, ◌||◌, ◌&&◌, not, Bool, true, false, if◌then◌else◌}
+use Rattle.std.specs.Prelude.{List, [], ◌∷◌, codes, Option, Some, None, is_some, option_map, slice_get}
+use Rattle.std.specs.Str.{bytes_eq}
 use Rattle.m51_expr.specs.declared.symbol.Symbol.{Symbol}
 use Rattle.m51_expr.specs.declared.symbol.Symbol.TheVariants as symbol
-use Rattle.m51_expr.specs.Symbol.{symbol_at}
 use Rattle.m51_expr.specs.declared.tree.Unary.TheVariants as unary
 use Rattle.m51_expr.specs.Ranks.{is_open, is_close, leaf_of}
-use Rattle.m51_expr.specs.Reading.{Reads, expression_at}
-use Rattle.m51_stmt.specs.declared.indirect.Behind.{Behind}
-use Rattle.m51_stmt.specs.declared.indirect.Behind.TheVariants as behind
+use Rattle.m51_expr.specs.Reading.{Reads, expression_in}
 use Rattle.m51_stmt.specs.declared.lack.Want.{Want}
 use Rattle.m51_stmt.specs.declared.lack.Want.TheVariants as want
 use Rattle.m51_stmt.specs.declared.lack.Prefix.{Prefix}
 use Rattle.m51_stmt.specs.declared.lack.Prefix.TheVariants as prefix
-use Rattle.m51_stmt.specs.declared.lack.Step.{Step}
-use Rattle.m51_stmt.specs.declared.lack.Step.TheVariants as step_is
-use Rattle.m51_stmt.specs.Answer.{and_then}
-use Rattle.m51_stmt.specs.Words.{begins_expression, begins_operand, is_text, is_operator}
-use Rattle.m51_stmt.specs.Indirect.{behind_at}
+use Rattle.m51_stmt.specs.Words.{begins_expression, begins_operand, is_text, is_operator, first_is}
 
 -- a value as it is
 abbrev pub same : {A : Type 0} → A → A
 same a = a
 
 -- what is wanted begins with this symbol
-abbrev pub is_met : Want → Option Symbol → Bool
-is_met want.Operand s = begins_operand s
-is_met want.Expression s = begins_expression s
-is_met want.Item s = begins_expression s || is_text s
-is_met want.First s = not (is_text s)
-is_met want.Nothing s = true
+abbrev pub begins : Want → Symbol → Bool
+begins want.Operand s = begins_operand s
+begins want.Expression s = begins_expression s
+begins want.Item s = begins_expression s || is_text s
+begins want.First s = not (is_text s)
+begins want.Nothing s = true
 
-abbrev pub is_item : Want → Bool
-is_item want.Item = true
-is_item w = false
+-- what is wanted begins the symbols
+abbrev pub is_met : Want → List Symbol → Bool
+is_met want.First [] = true
+is_met want.Nothing [] = true
+is_met w [] = false
+is_met w (s ∷ rest) = begins w s
 
--- what a symbol wants that no expression before it has taken
-abbrev pub step_of : Option Symbol → Step
-step_of (Some (symbol.Number n)) = step_is.Expression
-step_of (Some (symbol.Name name)) = step_is.Expression
-step_of (Some symbol.Here) = step_is.Expression
-step_of (Some symbol.Open) = step_is.Expression
-step_of (Some symbol.Plus) = step_is.Expression
-step_of (Some symbol.Minus) = step_is.Expression
-step_of (Some (symbol.Prefix op)) = step_is.Expression
-step_of (Some symbol.Hash) = step_is.Behind
-step_of (Some (symbol.Infix op)) = step_is.Behind
-step_of (Some symbol.Text) = step_is.Text
-step_of (Some symbol.Comma) = step_is.Comma
-step_of (Some symbol.At) = step_is.At
-step_of s = step_is.Nothing
-
-abbrev pub place_behind : Reads → Result ℕ ℕ
-place_behind None = Err 6
-place_behind (Some r) = Ok r.1
-
--- the place after the expression that begins at a place
-abbrev pub past : List ℕ → List Token → ℕ → Result ℕ ℕ
-past line tokens at = place_behind (expression_at line tokens at)
-
--- a text stands before no operator; where nothing is wanted it is passed over
-abbrev pub text_step : List ℕ → List Token → ℕ → Result ℕ ℕ
-text_step line tokens at = if is_operator (symbol_at line tokens (at + 1)) then Err 6 else Ok (at + 1)
-
--- what is wanted stands after a comma
-abbrev pub comma_step : List ℕ → List Token → Want → ℕ → Result ℕ ℕ
-comma_step line tokens w at = if is_met w (symbol_at line tokens (at + 1)) then Ok (at + 1) else Err 6
+-- how many symbols an expression has
+abbrev pub many : Reads → Option ℕ
+many None = None
+many (Some r) = Some r.1
 
 -- the + of @A+ is no operator
-abbrev pub after_at : Behind → Behind → ℕ
-after_at behind.A behind.Plus = 3
-after_at a b = 1
+abbrev pub after_at : List Symbol → ℕ
+after_at (symbol.Word word ∷ symbol.Plus ∷ rest) = if bytes_eq word (codes "A") then 2 else 0
+after_at other = 0
 
-abbrev pub at_step : List ℕ → List Token → ℕ → ℕ
-at_step line tokens at = at + after_at (behind_at line tokens (at + 1)) (behind_at line tokens (at + 2))
+-- nothing more is passed over where this holds, or else something lacks
+abbrev pub none_if : Bool → Option ℕ
+none_if true = Some 0
+none_if false = None
 
-abbrev pub step_by : List ℕ → List Token → Want → ℕ → Step → Result ℕ ℕ
-step_by line tokens w at step_is.Expression = past line tokens at
-step_by line tokens w at step_is.Behind = past line tokens (at + 1)
-step_by line tokens w at step_is.Text = text_step line tokens at
-step_by line tokens w at step_is.Comma = comma_step line tokens w at
-step_by line tokens w at step_is.At = Ok (at_step line tokens at)
-step_by line tokens w at step_is.Nothing = Ok (at + 1)
+-- how many symbols after one belong to it, with which no expression begins: an expression after # and an operator, no
+-- operator after a text, what each comma wants
+abbrev pub passed_behind : Want → Symbol → List Symbol → Option ℕ
+passed_behind w symbol.Hash rest = many (expression_in rest)
+passed_behind w (symbol.Infix op) rest = many (expression_in rest)
+passed_behind w (symbol.Text characters) rest = none_if (not (first_is is_operator rest))
+passed_behind w symbol.Comma rest = none_if (is_met w rest)
+passed_behind w symbol.At rest = Some (after_at rest)
+passed_behind w s rest = Some 0
 
--- the place after what stands at a place, or fault 6 where something is wanted there and does not stand
-unfoldable pub step_at : List ℕ → List Token → Want → ℕ → Result ℕ ℕ
-step_at line tokens w at = step_by line tokens w at (step_of (symbol_at line tokens at))
+-- how many symbols after the first belong to what it begins, or none where something is wanted and does not stand
+unfoldable pub passed : Want → Symbol → List Symbol → Option ℕ
+passed w s rest =
+    if begins_expression s then option_map (λ n. n - 1) (many (expression_in (s ∷ rest))) else passed_behind w s rest
 
--- From a place to the end of the line all stands that is wanted. The first argument bounds the steps: as many as there
--- are tokens are enough.
-unfoldable pub all_met : ℕ → List ℕ → List Token → Want → ℕ → Result (Unit {0}) ℕ
-all_met zero line tokens w at = Ok tt
-all_met (suc n) line tokens w at =
-    if nat_le (length tokens) at then Ok tt
-    else and_then (step_at line tokens w at) (λ next. all_met n line tokens w next)
+-- something lacks, or else this goes on after so many symbols
+abbrev pub or_lacks : Option ℕ → (ℕ → Bool) → Bool
+or_lacks None go = true
+or_lacks (Some n) go = go n
 
--- what is wanted first begins at a place, and all stands that is wanted from there on
-abbrev pub met : List ℕ → List Token → Want → Want → ℕ → Result (Unit {0}) ℕ
-met line tokens first w at =
-    if is_met first (symbol_at line tokens at) then all_met (length tokens - at) line tokens w at else Err 6
+-- Something is wanted among the symbols and does not stand. The first ones are passed over, as many as belong to what
+-- stands before.
+abbrev pub lacks_after : ℕ → Want → List Symbol → Bool
+lacks_after n w [] = false
+lacks_after n w (s ∷ rest) =
+    if n == 0 then or_lacks (passed w s rest) (λ more. lacks_after more w rest) else lacks_after (n - 1) w rest
 
-abbrev pub is_closed_by : What → ℕ → Bool → Bool → Bool → Bool
-is_closed_by (what.Sign sign) depth opened closed passed =
-    if sign == 0x28 then opened
-    else if sign == 0x29 then (if depth == 0 then true else closed)
-    else passed
-is_closed_by other depth opened closed passed = passed
+-- what is wanted first does not begin the symbols, or something is wanted further on and does not stand
+abbrev pub lacks : Want → Want → List Symbol → Bool
+lacks first w symbols = if is_met first symbols then lacks_after 0 w symbols else true
 
 -- a parenthesis is closed, of which so many more are open
-abbrev pub is_closed : List Token → ℕ → Bool
+abbrev pub is_closed : List Symbol → ℕ → Bool
 is_closed [] depth = false
-is_closed (t ∷ more) depth =
-    is_closed_by t.what depth (is_closed more (depth + 1)) (is_closed more (depth - 1)) (is_closed more depth)
+is_closed (s ∷ more) depth =
+    if is_open (Some s) then is_closed more (depth + 1)
+    else if is_close (Some s) then (if depth == 0 then true else is_closed more (depth - 1))
+    else is_closed more depth
 
 -- an operator before an operand: NOT, a tighter one, or none
-abbrev pub prefix_of : Option Symbol → Prefix
-prefix_of (Some symbol.Plus) = prefix.Tight
-prefix_of (Some symbol.Minus) = prefix.Tight
-prefix_of (Some (symbol.Prefix unary.Not)) = prefix.Not
-prefix_of (Some (symbol.Prefix op)) = prefix.Tight
+abbrev pub prefix_of : Symbol → Prefix
+prefix_of symbol.Plus = prefix.Tight
+prefix_of symbol.Minus = prefix.Tight
+prefix_of (symbol.Prefix unary.Not) = prefix.Not
+prefix_of (symbol.Prefix op) = prefix.Tight
 prefix_of s = prefix.Nothing
 
 -- what follows an operator: NOT follows no tighter one
-abbrev pub after_prefix : Prefix → (Prefix → Option (List Token)) → Option (List Token) → Prefix → Option (List Token)
+abbrev pub after_prefix : Prefix → (Prefix → Option (List Symbol)) → List Symbol → Prefix → Option (List Symbol)
 after_prefix prefix.Tight go here prefix.Not = None
 after_prefix before go here prefix.Not = go prefix.Not
 after_prefix before go here prefix.Tight = go prefix.Tight
-after_prefix before go here prefix.Nothing = here
+after_prefix before go here prefix.Nothing = Some here
 
--- the tokens from an operand on, of which operators stand before it
-abbrev pub operand_in : List ℕ → Prefix → List Token → Option (List Token)
-operand_in line before [] = None
-operand_in line before (t ∷ more) =
-    after_prefix before (λ next. operand_in line next more) (Some (t ∷ more)) (prefix_of (symbol_at line (t ∷ more) 0))
+-- the symbols from an operand on, of which operators stand before it
+abbrev pub operand_in : Prefix → List Symbol → Option (List Symbol)
+operand_in before [] = None
+operand_in before (s ∷ more) = after_prefix before (λ next. operand_in next more) (s ∷ more) (prefix_of s)
 
 -- an expression is read, and a closing parenthesis follows it
-abbrev pub closes : List ℕ → List Token → Reads → Result (Unit {0}) ℕ
-closes line rest (Some r) = if is_close (symbol_at line rest r.1) then Ok tt else Err 6
-closes line rest None = Err 6
+abbrev pub closes : List Symbol → Reads → Bool
+closes symbols (Some r) = is_close (slice_get symbols r.1)
+closes symbols None = false
 
--- a whole operand begins the tokens: a number, a name, the place of the statement, or an expression in parentheses
-abbrev pub operand_begins : List ℕ → List Token → Result (Unit {0}) ℕ
-operand_begins line rest =
-    if is_open (symbol_at line rest 0) then closes line rest (expression_at line rest 1)
-    else if is_some (leaf_of (symbol_at line rest 0)) then Ok tt
-    else Err 6
+-- a whole operand begins the symbols: a number, a name, the place of the statement, or an expression in parentheses
+abbrev pub operand_begins : List Symbol → Bool
+operand_begins [] = false
+operand_begins (s ∷ rest) = if is_open (Some s) then closes rest (expression_in rest) else is_some (leaf_of (Some s))
 
-abbrev pub operand_or_6 : List ℕ → Option (List Token) → Result (Unit {0}) ℕ
-operand_or_6 line (Some rest) = operand_begins line rest
-operand_or_6 line None = Err 6
-
--- a whole expression begins the tokens
-abbrev pub expression_begins : List ℕ → List Token → Result (Unit {0}) ℕ
-expression_begins line rest = operand_or_6 line (operand_in line prefix.Nothing rest)
+-- the symbols are there, and a whole operand begins them
+abbrev pub begins_if : Option (List Symbol) → Bool
+begins_if (Some symbols) = operand_begins symbols
+begins_if None = false
 
 -- after an opening parenthesis a whole expression begins, and further on stands the parenthesis that closes it
-abbrev pub parenthesis : List ℕ → List Token → ℕ → Result (Unit {0}) ℕ
-parenthesis line tokens at =
-    and_then (expression_begins line (drop (at + 1) tokens))
-    (λ _. if is_closed (drop (at + 1) tokens) 0 then Ok tt else Err 6)
+abbrev pub is_parenthesis : List Symbol → Bool
+is_parenthesis symbols = begins_if (operand_in prefix.Nothing symbols) && is_closed symbols 0
 
-abbrev pub parenthesis_at : List ℕ → List Token → ℕ → Result (Unit {0}) ℕ
-parenthesis_at line tokens at = if is_open (symbol_at line tokens at) then parenthesis line tokens at else Ok tt
-
--- each parenthesis from a place to the end of the line is right, in a line that has no expression
-unfoldable pub all_closed : ℕ → List ℕ → List Token → ℕ → Result (Unit {0}) ℕ
-all_closed zero line tokens at = Ok tt
-all_closed (suc n) line tokens at =
-    if nat_le (length tokens) at then Ok tt
-    else and_then (parenthesis_at line tokens at) (λ _. all_closed n line tokens (at + 1))
+-- a parenthesis is not right, in a line that has no expression
+abbrev pub is_unclosed : List Symbol → Bool
+is_unclosed [] = false
+is_unclosed (s ∷ rest) = if is_open (Some s) && not (is_parenthesis rest) then true else is_unclosed rest

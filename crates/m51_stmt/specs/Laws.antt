@@ -4,6 +4,7 @@ use Rattle.m51_stmt.specs.Statement.{StmtTree}
 use Rattle.m51_stmt.specs.Printing.{stmt_text}
 use Rattle.m51_stmt.specs.Lines.{any_line, statement_of}
 
+-- a byte
 abbrev pub IsByte : ℕ → Type 0
 IsByte b = b < 256
 

@@ -25,6 +25,7 @@ word_text word = word ++ space ∷ []
 abbrev pub number_text : ℕ → List ℕ
 number_text n = 0x30 ∷ hex4 n ++ codes "H"
 
+-- an operator before an operand
 abbrev pub unary_word : Unary → List ℕ
 unary_word op1.Plus = codes "+"
 unary_word op1.Minus = codes "-"
@@ -32,6 +33,7 @@ unary_word op1.High = codes "HIGH"
 unary_word op1.Low = codes "LOW"
 unary_word op1.Not = codes "NOT"
 
+-- an operator between two operands
 abbrev pub binary_word : Binary → List ℕ
 binary_word op2.Mul = codes "*"
 binary_word op2.Div = codes "/"
@@ -76,9 +78,11 @@ register_word n =
 abbrev pub marked_text : List ℕ → Tree → List ℕ
 marked_text sign e = word_text sign ++ expr_text e
 
+-- an @ and a register
 abbrev pub indirect_text : List ℕ → List ℕ
 indirect_text word = word_text (codes "@") ++ word_text word
 
+-- an @, A, + and a register
 abbrev pub sum_text : List ℕ → List ℕ
 sum_text word = word_text (codes "@") ++ word_text (codes "A") ++ word_text (codes "+") ++ word_text word
 
@@ -108,6 +112,7 @@ abbrev pub doubled : List ℕ → List ℕ
 doubled [] = []
 doubled (c ∷ more) = if c == quote then quote ∷ quote ∷ doubled more else c ∷ doubled more
 
+-- a text between its quotes
 abbrev pub text_text : List ℕ → List ℕ
 text_text characters = quote ∷ doubled characters ++ word_text (codes "'")
 
@@ -116,6 +121,7 @@ abbrev pub item_text : ItemTree → List ℕ
 item_text (Value e) = expr_text e
 item_text (Text characters) = text_text characters
 
+-- the word for a kind
 abbrev pub kind_word : Kind → List ℕ
 kind_word kind.Code = codes "CODE"
 kind_word kind.Xdata = codes "XDATA"
@@ -128,6 +134,7 @@ kind_word kind.Number = codes "NUMBER"
 abbrev pub extern_text : List ℕ × Kind → List ℕ
 extern_text e = word_text (kind_word e.1) ++ word_text (codes "(") ++ word_text e.0 ++ word_text (codes ")")
 
+-- the word that selects a kind of segment; NUMBER is none
 abbrev pub select_word : Kind → List ℕ
 select_word kind.Code = codes "CSEG"
 select_word kind.Xdata = codes "XSEG"
@@ -135,6 +142,7 @@ select_word kind.Direct = codes "DSEG"
 select_word kind.Idata = codes "ISEG"
 select_word other = codes "BSEG"
 
+-- the word for a type; an absolute segment has none
 abbrev pub reloc_word : Reloc → List ℕ
 reloc_word reloc.Bitaddressable = codes "BITADDRESSABLE"
 reloc_word reloc.Inpage = codes "INPAGE"
@@ -146,19 +154,24 @@ reloc_word other = codes "UNIT"
 abbrev pub directive_text : List ℕ → Tree → List ℕ
 directive_text word e = word_text word ++ expr_text e
 
+-- a word and a name
 abbrev pub named_text : List ℕ → List ℕ → List ℕ
 named_text word name = word_text word ++ word_text name
 
+-- a name, a word and an expression
 abbrev pub definition_text : List ℕ → List ℕ → Tree → List ℕ
 definition_text name word e = word_text name ++ directive_text word e
 
+-- INCLUDE and its file
 abbrev pub include_text : List ℕ → List ℕ
 include_text name = word_text (codes "$INCLUDE") ++ codes "(" ++ name ++ word_text (codes ")")
 
+-- MOD51 and NOMOD51
 abbrev pub mod51_text : Bool → List ℕ
 mod51_text true = word_text (codes "$MOD51")
 mod51_text false = word_text (codes "$NOMOD51")
 
+-- OVERLAYABLE where it stands
 abbrev pub overlayable_text : Bool → List ℕ
 overlayable_text true = word_text (codes "OVERLAYABLE")
 overlayable_text false = []
@@ -169,10 +182,12 @@ segment_text name k r overlayable =
     word_text name ++ word_text (codes "SEGMENT") ++ word_text (kind_word k) ++ word_text
     (reloc_word r) ++ overlayable_text overlayable
 
+-- AT and an expression, where it stands
 abbrev pub at_text : Option Tree → List ℕ
 at_text (Some e) = directive_text (codes "AT") e
 at_text None = []
 
+-- CSEG and its kin
 abbrev pub select_text : Kind → Option Tree → List ℕ
 select_text k at = word_text (select_word k) ++ at_text at
 

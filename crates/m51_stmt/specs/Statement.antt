@@ -3,50 +3,13 @@ use Rattle.std.specs.Prelude.{ℕ, Bool, List, Option, option_map, map}
 use Rattle.m51_cells.specs.declared.kind.Kind.{Kind}
 use Rattle.m51_cells.specs.declared.kind.Reloc.{Reloc}
 use Rattle.m51_expr.specs.Tree.{Tree, tree_of}
-use Rattle.m51_stmt.specs.declared.statement.Operand.{Operand}
-use Rattle.m51_stmt.specs.declared.statement.Operand.TheVariants as operand
-use Rattle.m51_stmt.specs.declared.statement.Item.{Item}
-use Rattle.m51_stmt.specs.declared.statement.Item.TheVariants as item
+pub use Rattle.m51_expr.specs.Operand.{OperandTree, A, Ab, C, Dptr, APc, ADptr, AtDptr, R, AtR, Imm, Plain, NotBit}
+pub use Rattle.m51_expr.specs.Operand.{operand_tree, ItemTree, Value, Text, item_tree}
 use Rattle.m51_stmt.specs.declared.statement.Body.{Body}
 use Rattle.m51_stmt.specs.declared.statement.Body.TheVariants as body
 use Rattle.m51_stmt.specs.declared.statement.Stmt.{Stmt}
 
-pub data OperandTree : Type 0 where
-  A : OperandTree
-  Ab : OperandTree
-  C : OperandTree
-  Dptr : OperandTree
-  APc : OperandTree
-  ADptr : OperandTree
-  AtDptr : OperandTree
-  R : ℕ → OperandTree
-  AtR : ℕ → OperandTree
-  Imm : Tree → OperandTree
-  Plain : Tree → OperandTree
-  NotBit : Tree → OperandTree
-
-abbrev pub operand_tree : Operand → OperandTree
-operand_tree operand.A = A
-operand_tree operand.Ab = Ab
-operand_tree operand.C = C
-operand_tree operand.Dptr = Dptr
-operand_tree operand.APc = APc
-operand_tree operand.ADptr = ADptr
-operand_tree operand.AtDptr = AtDptr
-operand_tree (operand.R n) = R n
-operand_tree (operand.AtR n) = AtR n
-operand_tree (operand.Imm e) = Imm (tree_of e)
-operand_tree (operand.Plain e) = Plain (tree_of e)
-operand_tree (operand.NotBit e) = NotBit (tree_of e)
-
-pub data ItemTree : Type 0 where
-  Value : Tree → ItemTree
-  Text : List ℕ → ItemTree
-
-abbrev pub item_tree : Item → ItemTree
-item_tree (item.Value e) = Value (tree_of e)
-item_tree (item.Text characters) = Text characters
-
+-- what a line says, without its label
 pub data BodyTree : Type 0 where
   Empty : BodyTree
   Ignored : BodyTree
@@ -70,6 +33,7 @@ pub data BodyTree : Type 0 where
   Extrn : List (List ℕ × Kind) → BodyTree
   ModuleName : List ℕ → BodyTree
 
+-- the tree of what a line says
 abbrev pub body_tree : Body → BodyTree
 body_tree body.Empty = Empty
 body_tree body.Ignored = Ignored
@@ -98,5 +62,6 @@ pub record StmtTree : Type 0 where
   pub label : Option (List ℕ)
   pub body : BodyTree
 
+-- the tree of a statement
 abbrev pub stmt_tree : Stmt → StmtTree
 stmt_tree s = record { label = s.label; body = body_tree s.body }

@@ -1,47 +1,58 @@
 -- The words of a line, and what begins an operand or an expression (the assembler's rules of statements).
-use Rattle.std.specs.Prelude.{ℕ, Bool, true, false, if◌then◌else◌, List, [], ◌∷◌, codes, Option, Some, None}
-use Rattle.std.specs.Prelude.{slice_get, slice_range, option_and_then}
+use Rattle.std.specs.Prelude.{ℕ, Bool, true, false, not, if◌then◌else◌, List, [], ◌∷◌, codes, Option, Some, None}
+use Rattle.std.specs.Prelude.{is_some}
 use Rattle.std.specs.Str.{bytes_eq}
-use Rattle.m51_cells.specs.Name.{name_of}
-use Rattle.m51_lex.specs.declared.token.What.{What}
-use Rattle.m51_lex.specs.declared.token.What.TheVariants as what
-use Rattle.m51_lex.specs.declared.token.Token.{Token}
+use Rattle.m51_expr.specs.declared.tree.Binary.{Binary}
 use Rattle.m51_expr.specs.declared.tree.Binary.TheVariants as binary
 use Rattle.m51_expr.specs.declared.symbol.Symbol.{Symbol}
 use Rattle.m51_expr.specs.declared.symbol.Symbol.TheVariants as symbol
-use Rattle.m51_expr.specs.Words.{is_among}
+use Rattle.m51_expr.specs.Words.{is_among, is_reserved}
+use Rattle.m51_expr.specs.Ranks.{text_value}
 
-abbrev pub word_by : What → List ℕ → Option (List ℕ)
-word_by what.Name text = name_of text
-word_by other text = None
+-- the name, or the word of the language, that a symbol is
+abbrev pub word_of : Symbol → Option (List ℕ)
+word_of (symbol.Word word) = Some word
+word_of (symbol.Name name) = Some name
+word_of s = None
 
--- the word that a token is, in upper case
-unfoldable pub word_of : List ℕ → Token → Option (List ℕ)
-word_of line t = word_by t.what (slice_range line t.from t.to)
+-- an operator between two operands that is a word
+abbrev pub is_word_operator : Binary → Bool
+is_word_operator binary.Mul = false
+is_word_operator binary.Div = false
+is_word_operator binary.Add = false
+is_word_operator binary.Sub = false
+is_word_operator binary.Dot = false
+is_word_operator op = true
 
--- the word at a place, if a word stands there
-abbrev pub word_at : List ℕ → List Token → ℕ → Option (List ℕ)
-word_at line tokens at = option_and_then (word_of line) (slice_get tokens at)
+-- a word: a name, a word of the language, or an operator that is one
+abbrev pub is_word : Symbol → Bool
+is_word (symbol.Word word) = true
+is_word (symbol.Name name) = true
+is_word (symbol.Prefix op) = true
+is_word (symbol.Infix op) = is_word_operator op
+is_word s = false
 
-abbrev pub is_comma : Option Symbol → Bool
-is_comma (Some symbol.Comma) = true
-is_comma _ = false
+-- a word that nothing can define
+abbrev pub is_reserved_word : Symbol → Bool
+is_reserved_word (symbol.Name name) = is_reserved name
+is_reserved_word s = is_word s
 
-abbrev pub is_colon : Option Symbol → Bool
-is_colon (Some symbol.Colon) = true
-is_colon _ = false
+-- a comma
+abbrev pub is_comma : Symbol → Bool
+is_comma symbol.Comma = true
+is_comma s = false
 
--- a text of no character, or of more than two
-abbrev pub is_text : Option Symbol → Bool
-is_text (Some symbol.Text) = true
-is_text _ = false
+-- a text of no character, or of more than two, which is no number
+abbrev pub is_text : Symbol → Bool
+is_text (symbol.Text characters) = not (is_some (text_value characters))
+is_text s = false
 
 -- an operator between two operands
-abbrev pub is_operator : Option Symbol → Bool
-is_operator (Some symbol.Plus) = true
-is_operator (Some symbol.Minus) = true
-is_operator (Some (symbol.Infix op)) = true
-is_operator _ = false
+abbrev pub is_operator : Symbol → Bool
+is_operator symbol.Plus = true
+is_operator symbol.Minus = true
+is_operator (symbol.Infix op) = true
+is_operator s = false
 
 -- the number of a register R0 to R7
 unfoldable pub register_number : List ℕ → Option ℕ
@@ -63,20 +74,26 @@ is_register word =
     codes "R3" ∷ codes "R4" ∷ codes "R5" ∷ codes "R6" ∷ codes "R7" ∷ [])
 
 -- an expression may begin with it
-abbrev pub begins_expression : Option Symbol → Bool
-begins_expression (Some (symbol.Number n)) = true
-begins_expression (Some (symbol.Name name)) = true
-begins_expression (Some symbol.Here) = true
-begins_expression (Some symbol.Open) = true
-begins_expression (Some symbol.Plus) = true
-begins_expression (Some symbol.Minus) = true
-begins_expression (Some (symbol.Prefix op)) = true
-begins_expression _ = false
+abbrev pub begins_expression : Symbol → Bool
+begins_expression (symbol.Number n) = true
+begins_expression (symbol.Text characters) = is_some (text_value characters)
+begins_expression (symbol.Name name) = true
+begins_expression symbol.Here = true
+begins_expression symbol.Open = true
+begins_expression symbol.Plus = true
+begins_expression symbol.Minus = true
+begins_expression (symbol.Prefix op) = true
+begins_expression s = false
 
 -- an operand may begin with it
-abbrev pub begins_operand : Option Symbol → Bool
-begins_operand (Some symbol.Hash) = true
-begins_operand (Some symbol.At) = true
-begins_operand (Some (symbol.Infix binary.Div)) = true
-begins_operand (Some (symbol.Word word)) = is_register word
+abbrev pub begins_operand : Symbol → Bool
+begins_operand symbol.Hash = true
+begins_operand symbol.At = true
+begins_operand (symbol.Infix binary.Div) = true
+begins_operand (symbol.Word word) = is_register word
 begins_operand s = begins_expression s
+
+-- there is a first symbol, and it is such a one
+abbrev pub first_is : (Symbol → Bool) → List Symbol → Bool
+first_is test [] = false
+first_is test (s ∷ rest) = test s

@@ -1,46 +1,24 @@
 //! Reads control lines.
 ghost use Rattle.std.specs.Prelude.{◌≡◌, ◌≤◌, drop, length, option_map};
-ghost use Rattle.std.specs.Char.{is_ascii_alphanumeric};
 ghost use Rattle.std.specs.List.{prefix_len};
 ghost use Rattle.m51_cells.specs.Outcome.{Gives};
 ghost use Rattle.m51_stmt.specs.Statement.{body_tree};
 ghost use Rattle.m51_stmt.specs.Answer.{fault_of};
-ghost use Rattle.m51_stmt.specs.Control.{is_blank, is_inside, behind_blanks, ends, behind_sign, parenthesized, alone};
+ghost use Rattle.m51_stmt.specs.Control.{is_inside, behind_blanks, ends, behind_sign, parenthesized, alone};
 ghost use Rattle.m51_stmt.specs.Control.{include, title, is_ignored_word, by_word, control};
 
 use crate::fault::{OUT_OF_FORM, StmtError};
 use crate::statement::Body;
 use crate::words::is_among;
-use m51_cells::{Bytes, Name};
+use m51_cells::{Bytes, Name, blank_len};
+use m51_lex::alphanumeric_len;
 use std::alloc::Global;
-
-fn is_blank(byte: u8) -> bool
-    ensures { result ≡ is_blank byte }
-{
-    byte == b' ' || byte == b'\t'
-}
 
 // Whether a byte may stand between the parentheses of a control.
 fn is_inside(byte: u8) -> bool
     ensures { result ≡ is_inside byte }
 {
     byte != b')' && byte != b';'
-}
-
-fn word_len(rest: &[u8]) -> usize
-    ensures len { result ≡ prefix_len is_ascii_alphanumeric rest.now }
-    ensures within { result ≤ length rest.now }
-{
-    rest.iter()
-        .take_while(|byte| byte.is_ascii_alphanumeric())
-        .count()
-}
-
-fn blank_len(rest: &[u8]) -> usize
-    ensures len { result ≡ prefix_len is_blank rest.now }
-    ensures within { result ≤ length rest.now }
-{
-    rest.iter().take_while(|byte| is_blank(**byte)).count()
 }
 
 fn inside_len(rest: &[u8]) -> usize
@@ -157,7 +135,7 @@ fn by_word(alloc: Global, word: &[u8], rest: &[u8]) -> Result<Body, StmtError>
 pub(crate) fn control(alloc: Global, rest: &[u8]) -> Result<Body, StmtError>
     ensures { Gives body_tree fault_of result (control rest.now) }
 {
-    let len = word_len(rest);
+    let len = alphanumeric_len(rest);
     match Name::of(&rest[..len]) {
         Some(word) => by_word(alloc, word.bytes(), &rest[len..]),
         None => Err(OUT_OF_FORM),

@@ -1,26 +1,16 @@
 //! Reads definitions: SEGMENT, EQU, SET and the words of addresses.
-ghost use Rattle.std.specs.Prelude.{◌≡◌, ◌≤◌, ◌+◌, All, length, option_and_then};
-ghost use Rattle.m51_cells.specs.Outcome.{Gives};
-ghost use Rattle.m51_lex.specs.Tokens.{IsWithin};
-ghost use Rattle.m51_expr.specs.Tree.{tree_of};
-ghost use Rattle.m51_stmt.specs.Kinds.{kind_of};
+ghost use Rattle.std.specs.Prelude.{◌≡◌, IfOk, option_map};
 ghost use Rattle.m51_stmt.specs.Statement.{body_tree};
-ghost use Rattle.m51_stmt.specs.Answer.{fault_of};
-ghost use Rattle.m51_stmt.specs.Lack.{same};
-ghost use Rattle.m51_stmt.specs.Definitions.{definition_of, beside_extrn, definition_at, expression_line, reloc_at};
-ghost use Rattle.m51_stmt.specs.Definitions.{overlayable_at, segment, is_segment, definition_met, valued};
-ghost use Rattle.m51_stmt.specs.Definitions.{definition_form, defined, is_allowed};
+ghost use Rattle.m51_stmt.specs.Definitions.{definition_of, is_allowed, segment_of, is_overlayable, segment};
+ghost use Rattle.m51_stmt.specs.Definitions.{definition_form};
+ghost use Rattle.m51_stmt.specs.Definitions.{definition_lacks};
 
-use crate::fault::{OUT_OF_FORM, StmtError};
 use crate::kinds::{kind_of, reloc_of};
-use crate::lack::{Want, all_closed, met};
-use crate::lists::name_or_12;
-use crate::operands::expression;
+use crate::lack::{Want, is_unclosed, lacks};
+use crate::lists::expression;
 use crate::statement::Body;
-use crate::words::word_at;
-use m51_cells::{BAD_FORM, Kind, Name, Reloc, allows, may_overlay};
-use m51_expr::{Expr, is_reserved};
-use m51_lex::Token;
+use m51_cells::{Kind, Name, NoMemory, Reloc, allows, may_overlay};
+use m51_expr::Symbol;
 use std::alloc::Global;
 
 /// A word of definitions, which stands after the name that it defines.
@@ -32,8 +22,9 @@ pub(crate) enum Definition {
     Address(Kind),
 }
 
+/// The definition that a word makes.
 #[tactic(auto, unfolding(crate::specs::Definitions::definition_of))]
-fn definition_of(word: &[u8]) -> Option<Definition>
+pub(crate) fn definition_of(word: &[u8]) -> Option<Definition>
     ensures { result ≡ definition_of word.now }
 {
     if word == b"SEGMENT".as_slice() {
@@ -43,91 +34,7 @@ fn definition_of(word: &[u8]) -> Option<Definition>
     } else if word == b"SET".as_slice() {
         Some(Definition::Set)
     } else {
-        match kind_of(word) {
-            Some(kind) => Some(Definition::Address(kind)),
-            None => None,
-        }
-    }
-}
-
-fn definition_word(word: Option<Name>) -> Option<Definition>
-    ensures { result ≡ option_and_then definition_of word }
-{
-    match word {
-        Some(word) => definition_of(word.bytes()),
-        None => None,
-    }
-}
-
-// A kind after EXTRN is no word of definitions.
-fn beside_extrn(definition: Option<Definition>) -> Option<Definition>
-    ensures { result ≡ beside_extrn definition }
-{
-    match definition {
-        Some(Definition::Address(_)) => None,
-        _ => definition,
-    }
-}
-
-/// The word of definitions after a first word, if there is one. A kind after EXTRN is none.
-pub(crate) fn definition_at(
-    line: &[u8],
-    tokens: &[Token],
-    first: &[u8],
-    at: usize,
-) -> Option<Definition>
-    requires { All (IsWithin (length line.now)) tokens.now }
-    ensures { result ≡ definition_at line.now tokens.now first.now at }
-{
-    let definition = definition_word(word_at(line, tokens, at));
-    if first == b"EXTRN".as_slice() {
-        return beside_extrn(definition);
-    }
-    definition
-}
-
-/// The expression from a place to the end of the line, or E12.
-pub(crate) fn expression_line(
-    alloc: Global,
-    line: &str,
-    tokens: &[Token],
-    at: usize,
-) -> Result<Expr, StmtError>
-    requires { All (IsWithin (length line.now)) tokens.now }
-    ensures { Gives tree_of fault_of result (expression_line line.now tokens.now at) }
-{
-    match expression(alloc, line, tokens, at, BAD_FORM) {
-        Ok((value, next)) if next >= tokens.len() => Ok(value),
-        Ok(_) => Err(OUT_OF_FORM),
-        Err(error) => Err(error),
-    }
-}
-
-// The type at a place, UNIT where none stands there, and the place after it.
-fn reloc_at(line: &[u8], tokens: &[Token], at: usize) -> (Reloc, usize)
-    requires tokens { All (IsWithin (length line.now)) tokens.now }
-    requires within { at ≤ length tokens.now + 4 }
-    ensures reloc { result ≡ reloc_at line.now tokens.now at }
-    ensures near { result.1 ≤ at + 1 }
-{
-    match word_at(line, tokens, at) {
-        Some(word) => match reloc_of(word.bytes()) {
-            Some(reloc) => (reloc, at + 1),
-            None => (Reloc::Unit, at),
-        },
-        None => (Reloc::Unit, at),
-    }
-}
-
-// Whether OVERLAYABLE stands at a place, and the place after it.
-fn overlayable_at(line: &[u8], tokens: &[Token], at: usize) -> (bool, usize)
-    requires tokens { All (IsWithin (length line.now)) tokens.now }
-    requires within { at ≤ length tokens.now + 5 }
-    ensures { result ≡ overlayable_at line.now tokens.now at }
-{
-    match word_at(line, tokens, at) {
-        Some(word) if word.bytes() == b"OVERLAYABLE".as_slice() => (true, at + 1),
-        _ => (false, at),
+        kind_of(word).map(Definition::Address)
     }
 }
 
@@ -138,116 +45,82 @@ fn is_allowed(kind: Kind, reloc: Reloc, overlayable: bool) -> bool
     allows(kind, reloc) && (!overlayable || may_overlay(kind, reloc))
 }
 
-// The kind that a word names.
-fn kind_word(word: Option<Name>) -> Option<Kind>
-    ensures { result ≡ option_and_then kind_of word }
+// The segment of this name by its kind and its type, and whether OVERLAYABLE stands.
+fn segment_of(
+    name: &Name,
+    kind: Option<Kind>,
+    reloc: Option<Reloc>,
+    overlayable: bool,
+) -> Option<Body>
+    ensures { option_map body_tree result ≡ segment_of name.now kind reloc overlayable }
 {
-    match word {
-        Some(word) => kind_of(word.bytes()),
-        None => None,
-    }
-}
-
-// The kind, type and OVERLAYABLE of a segment of this name, from a place to the end of the line.
-fn segment(line: &[u8], tokens: &[Token], name: Name, at: usize) -> Result<Body, StmtError>
-    requires tokens { All (IsWithin (length line.now)) tokens.now }
-    requires within { at ≤ length tokens.now + 2 }
-    ensures { Gives body_tree fault_of result (segment line.now tokens.now name at) }
-{
-    let Some(kind) = kind_word(word_at(line, tokens, at)) else {
-        return Err(OUT_OF_FORM);
-    };
-    let (reloc, next) = reloc_at(line, tokens, at + 1);
-    let (overlayable, next) = overlayable_at(line, tokens, next);
-    if next >= tokens.len() && is_allowed(kind, reloc, overlayable) {
-        Ok(Body::Segment(name, kind, reloc, overlayable))
+    let kind = kind?;
+    let reloc = reloc?;
+    if is_allowed(kind, reloc, overlayable) {
+        Some(Body::Segment(*name, kind, reloc, overlayable))
     } else {
-        Err(OUT_OF_FORM)
+        None
     }
 }
 
-fn is_segment(definition: Definition) -> bool
-    ensures { result ≡ is_segment definition }
+fn is_overlayable(word: &Name) -> bool
+    ensures { result ≡ is_overlayable word.now }
+{
+    word.bytes() == b"OVERLAYABLE".as_slice()
+}
+
+// The kind, the type and OVERLAYABLE of the segment of this name.
+fn segment(name: &Name, symbols: &[Symbol]) -> Option<Body>
+    ensures { option_map body_tree result ≡ segment name.now symbols.now }
+{
+    match symbols {
+        [Symbol::Word(kind)] => segment_of(name, kind_of(kind.bytes()), Some(Reloc::Unit), false),
+        [Symbol::Word(kind), Symbol::Word(last)] => {
+            let kind = kind_of(kind.bytes());
+            if is_overlayable(last) {
+                segment_of(name, kind, Some(Reloc::Unit), true)
+            } else {
+                segment_of(name, kind, reloc_of(last.bytes()), false)
+            }
+        }
+        [Symbol::Word(kind), Symbol::Word(reloc), Symbol::Word(last)] if is_overlayable(last) => {
+            segment_of(name, kind_of(kind.bytes()), reloc_of(reloc.bytes()), true)
+        }
+        _ => None,
+    }
+}
+
+/// The definition of this name with what stands after its word, if that is in form.
+pub(crate) fn definition_form(
+    alloc: Global,
+    kind: Definition,
+    name: &Name,
+    symbols: &[Symbol],
+) -> Result<Option<Body>, NoMemory>
+    ensures { IfOk result (λ found. option_map body_tree found ≡ definition_form kind name.now symbols.now) }
+{
+    Ok(match kind {
+        Definition::Segment => segment(name, symbols),
+        Definition::Equ => expression(alloc, symbols)?.map(|value| Body::Equ(*name, value)),
+        Definition::Set => expression(alloc, symbols)?.map(|value| Body::Set(*name, value)),
+        Definition::Address(kind) => {
+            expression(alloc, symbols)?.map(|value| Body::Address(*name, kind, value))
+        }
+    })
+}
+
+/// Whether something that a definition wants after its word does not stand.
+pub(crate) fn definition_lacks(
+    alloc: Global,
+    definition: Definition,
+    symbols: &[Symbol],
+) -> Result<bool, NoMemory>
+    ensures { IfOk result (λ lacks. lacks ≡ definition_lacks definition symbols.now) }
 {
     match definition {
-        Definition::Segment => true,
-        Definition::Equ | Definition::Set | Definition::Address(_) => false,
-    }
-}
-
-// E6 where a definition wants an expression after its word that does not stand.
-fn definition_met(
-    alloc: Global,
-    line: &str,
-    tokens: &[Token],
-    definition: Definition,
-    at: usize,
-) -> Result<(), StmtError>
-    requires { All (IsWithin (length line.now)) tokens.now }
-    ensures { Gives same fault_of result (definition_met line.now tokens.now definition at) }
-{
-    if is_segment(definition) {
-        all_closed(alloc, line, tokens, at)
-    } else {
-        met(alloc, line, tokens, Want::Expression, Want::Nothing, at)
-    }
-}
-
-fn definition_form(
-    alloc: Global,
-    line: &str,
-    tokens: &[Token],
-    definition: Definition,
-    name: Name,
-    at: usize,
-) -> Result<Body, StmtError>
-    requires tokens { All (IsWithin (length line.now)) tokens.now }
-    requires within { at ≤ length tokens.now + 2 }
-    ensures { Gives body_tree fault_of result (definition_form line.now tokens.now definition name at) }
-{
-    if is_segment(definition) {
-        return segment(line.as_bytes(), tokens, name, at);
-    }
-    match expression_line(alloc, line, tokens, at) {
-        Ok(value) => Ok(valued(definition, name, value)),
-        Err(error) => Err(error),
-    }
-}
-
-// What a definition by an expression makes.
-fn valued(definition: Definition, name: Name, value: Expr) -> Body
-    ensures { body_tree result ≡ valued definition name (tree_of value) }
-{
-    match definition {
-        Definition::Equ => Body::Equ(name, value),
-        Definition::Set => Body::Set(name, value),
-        Definition::Address(kind) => Body::Address(name, kind, value),
-        Definition::Segment => Body::Empty,
-    }
-}
-
-/// The definition of a word that stands at a place, or its fault.
-pub(crate) fn defined(
-    alloc: Global,
-    line: &str,
-    tokens: &[Token],
-    definition: Definition,
-    word: &[u8],
-    at: usize,
-) -> Result<Body, StmtError>
-    requires tokens { All (IsWithin (length line.now)) tokens.now }
-    requires within { at ≤ length tokens.now }
-    ensures { Gives body_tree fault_of result (defined line.now tokens.now definition word.now at) }
-{
-    if is_reserved(word) {
-        return Err(OUT_OF_FORM);
-    }
-    match definition_met(alloc, line, tokens, definition, at + 2) {
-        Ok(()) if at > 0 => Err(OUT_OF_FORM),
-        Ok(()) => match name_or_12(line.as_bytes(), tokens, at) {
-            Ok(name) => definition_form(alloc, line, tokens, definition, name, at + 2),
-            Err(error) => Err(error),
-        },
-        Err(error) => Err(error),
+        Definition::Segment => is_unclosed(alloc, symbols),
+        Definition::Equ | Definition::Set | Definition::Address(_) => {
+            lacks(alloc, Want::Expression, Want::Nothing, symbols)
+        }
     }
 }

@@ -1,17 +1,17 @@
-//! The words of directives, and what each wants after it.
-ghost use Rattle.std.specs.Prelude.{◌≡◌, ◌≤◌, All, length};
-ghost use Rattle.m51_cells.specs.Outcome.{Gives};
-ghost use Rattle.m51_lex.specs.Tokens.{IsWithin};
-ghost use Rattle.m51_stmt.specs.Answer.{fault_of};
-ghost use Rattle.m51_stmt.specs.Lack.{same};
-ghost use Rattle.m51_stmt.specs.Directives.{directive_of, select_of, is_at, select_met, extern_met, directive_met};
+//! Reads directives, and says what each wants after its word.
+ghost use Rattle.std.specs.Prelude.{◌≡◌, ◌<◌, ◌^◌, IfOk, length, option_map};
+ghost use Rattle.m51_stmt.specs.Statement.{Db, body_tree};
+ghost use Rattle.m51_stmt.specs.Lists.{item, list_of};
+ghost use Rattle.m51_stmt.specs.Directives.{select_of, directive_of, is_at, select, end_form, directive_form};
+ghost use Rattle.m51_stmt.specs.Directives.{select_lacks};
+ghost use Rattle.m51_stmt.specs.Directives.{directive_lacks, lacking, reserves, directive_fault};
 
-use crate::externs::{Region, defines_reserved};
-use crate::fault::{OUT_OF_FORM, StmtError};
-use crate::lack::{Want, all_closed, met};
-use crate::words::word_at;
-use m51_cells::{Kind, Name};
-use m51_lex::Token;
+use crate::externs::{Awaited, Region, defines_reserved, externs_from};
+use crate::lack::{Want, is_unclosed, lacks};
+use crate::lists::{expression, items, name_alone, names};
+use crate::statement::Body;
+use m51_cells::{BAD_FORM, Kind, NO_EXPRESSION, NoMemory};
+use m51_expr::Symbol;
 use std::alloc::Global;
 
 /// A directive.
@@ -83,62 +83,128 @@ pub(crate) fn directive_of(word: &[u8]) -> Option<Directive>
     }
 }
 
-/// Whether the word is AT.
-pub(crate) fn is_at(word: Option<Name>) -> bool
-    ensures { result ≡ is_at word }
+fn is_at(symbol: &Symbol) -> bool
+    ensures { result ≡ is_at symbol.now }
+{
+    match symbol {
+        Symbol::Word(word) => word.bytes() == b"AT".as_slice(),
+        _ => false,
+    }
+}
+
+// CSEG and its kin stand alone, or with AT and an expression.
+fn select(alloc: Global, kind: Kind, symbols: &[Symbol]) -> Result<Option<Body>, NoMemory>
+    ensures { IfOk result (λ found. option_map body_tree found ≡ select kind symbols.now) }
+{
+    match symbols {
+        [] => Ok(Some(Body::Select(kind, None))),
+        [first, rest @ ..] => {
+            if !is_at(first) {
+                return Ok(None);
+            }
+            Ok(expression(alloc, rest)?.map(|value| Body::Select(kind, Some(value))))
+        }
+    }
+}
+
+fn end_form(symbols: &[Symbol]) -> Option<Body>
+    ensures { option_map body_tree result ≡ end_form symbols.now }
+{
+    match symbols {
+        [] => Some(Body::End),
+        _ => None,
+    }
+}
+
+fn data_bytes(alloc: Global, symbols: &[Symbol]) -> Result<Option<Body>, NoMemory>
+    ensures { IfOk result (λ found. option_map body_tree found ≡ option_map Db (list_of item symbols.now)) }
+{
+    match items(alloc, true, symbols, Vec::new(alloc))? {
+        Some(items) => Ok(Some(Body::Db(items))),
+        None => Ok(None),
+    }
+}
+
+/// What a directive says with what stands after its word, if that is in form.
+pub(crate) fn directive_form(
+    alloc: Global,
+    word: Directive,
+    symbols: &[Symbol],
+) -> Result<Option<Body>, NoMemory>
+    ensures { IfOk result (λ found. option_map body_tree found ≡ directive_form word symbols.now) }
 {
     match word {
-        Some(word) => word.bytes() == b"AT".as_slice(),
-        None => false,
+        Directive::Using => Ok(expression(alloc, symbols)?.map(Body::Using)),
+        Directive::Ds => Ok(expression(alloc, symbols)?.map(Body::Ds)),
+        Directive::Dbit => Ok(expression(alloc, symbols)?.map(Body::Dbit)),
+        Directive::Org => Ok(expression(alloc, symbols)?.map(Body::Org)),
+        Directive::Db => data_bytes(alloc, symbols),
+        Directive::Dw => Ok(items(alloc, false, symbols, Vec::new(alloc))?.map(Body::Dw)),
+        Directive::Select(kind) => select(alloc, kind, symbols),
+        Directive::Rseg => Ok(name_alone(symbols).map(Body::Rseg)),
+        Directive::Name => Ok(name_alone(symbols).map(Body::ModuleName)),
+        Directive::Public => Ok(names(symbols, Vec::new(alloc))?.map(Body::Public)),
+        Directive::Extrn => {
+            let externs = externs_from(Awaited::Kind, symbols, Vec::new(alloc))?;
+            Ok(externs.map(Body::Extrn))
+        }
+        Directive::End => Ok(end_form(symbols)),
     }
 }
 
-fn select_met(alloc: Global, line: &str, tokens: &[Token], at: usize) -> Result<(), StmtError>
-    requires tokens { All (IsWithin (length line.now)) tokens.now }
-    requires within { at ≤ length tokens.now }
-    ensures { Gives same fault_of result (select_met line.now tokens.now at) }
+// After CSEG and its kin an expression is wanted where AT stands.
+fn select_lacks(alloc: Global, symbols: &[Symbol]) -> Result<bool, NoMemory>
+    ensures { IfOk result (λ lacks. lacks ≡ select_lacks symbols.now) }
 {
-    if is_at(word_at(line.as_bytes(), tokens, at)) {
-        met(alloc, line, tokens, Want::Expression, Want::Nothing, at + 1)
-    } else {
-        all_closed(alloc, line, tokens, at)
+    match symbols {
+        [first, rest @ ..] if is_at(first) => lacks(alloc, Want::Expression, Want::Nothing, rest),
+        _ => is_unclosed(alloc, symbols),
     }
 }
 
-// EXTRN defines no reserved word, or E12; then as of other lines without expressions.
-fn extern_met(alloc: Global, line: &str, tokens: &[Token], at: usize) -> Result<(), StmtError>
-    requires tokens { All (IsWithin (length line.now)) tokens.now }
-    requires within { at ≤ length tokens.now }
-    ensures { Gives same fault_of result (extern_met line.now tokens.now at) }
+// Whether something that a directive wants after its word does not stand.
+fn directive_lacks(alloc: Global, word: Directive, symbols: &[Symbol]) -> Result<bool, NoMemory>
+    ensures { IfOk result (λ lacks. lacks ≡ directive_lacks word symbols.now) }
 {
-    if defines_reserved(line.as_bytes(), &tokens[at..], Region::OUTSIDE) {
-        return Err(OUT_OF_FORM);
-    }
-    all_closed(alloc, line, tokens, at)
-}
-
-/// E6 where a directive wants an expression that does not stand, and E12 where EXTRN defines a reserved word.
-pub(crate) fn directive_met(
-    alloc: Global,
-    line: &str,
-    tokens: &[Token],
-    directive: Directive,
-    at: usize,
-) -> Result<(), StmtError>
-    requires tokens { All (IsWithin (length line.now)) tokens.now }
-    requires within { at ≤ length tokens.now }
-    ensures { Gives same fault_of result (directive_met line.now tokens.now directive at) }
-{
-    match directive {
+    match word {
         Directive::Using | Directive::Ds | Directive::Dbit | Directive::Org => {
-            met(alloc, line, tokens, Want::Expression, Want::Nothing, at)
+            lacks(alloc, Want::Expression, Want::Nothing, symbols)
         }
-        Directive::Db => met(alloc, line, tokens, Want::Item, Want::Item, at),
-        Directive::Dw => met(alloc, line, tokens, Want::Expression, Want::Expression, at),
-        Directive::Select(_) => select_met(alloc, line, tokens, at),
-        Directive::Extrn => extern_met(alloc, line, tokens, at),
-        Directive::Rseg | Directive::Public | Directive::Name | Directive::End => {
-            all_closed(alloc, line, tokens, at)
-        }
+        Directive::Db => lacks(alloc, Want::Item, Want::Item, symbols),
+        Directive::Dw => lacks(alloc, Want::Expression, Want::Expression, symbols),
+        Directive::Select(_) => select_lacks(alloc, symbols),
+        Directive::Extrn | Directive::Rseg | Directive::Public | Directive::Name | Directive::End =>
+            { is_unclosed(alloc, symbols) }
     }
+}
+
+/// E6 where something lacks, or else this fault.
+pub(crate) fn lacking(lacks: bool, fault: u8) -> u8
+    ensures { result ≡ lacking lacks fault }
+{
+    if lacks { NO_EXPRESSION } else { fault }
+}
+
+// Whether EXTRN defines a reserved word.
+fn reserves(word: Directive, symbols: &[Symbol]) -> bool
+    ensures { result ≡ reserves word symbols.now }
+{
+    match word {
+        Directive::Extrn => defines_reserved(Region::OUTSIDE, symbols),
+        _ => false,
+    }
+}
+
+/// The fault of a directive out of its form.
+pub(crate) fn directive_fault(
+    alloc: Global,
+    word: Directive,
+    symbols: &[Symbol],
+) -> Result<u8, NoMemory>
+    ensures { IfOk result (λ fault. fault ≡ directive_fault word symbols.now) }
+{
+    if reserves(word, symbols) {
+        return Ok(BAD_FORM);
+    }
+    Ok(lacking(directive_lacks(alloc, word, symbols)?, BAD_FORM))
 }

@@ -1,7 +1,7 @@
 //! What may be wrong with a line.
 ghost use Rattle.std.specs.Prelude.{◌≡◌};
 
-use m51_cells::{BAD_FORM, NO_EXPRESSION, NO_INSTRUCTION, NoMemory};
+use m51_cells::{BAD_FORM, NoMemory};
 use std::alloc::{AllocError, AllocFailed};
 
 /// What is wrong with a line.
@@ -15,16 +15,6 @@ pub enum StmtError {
     /// Out of memory.
     Memory,
 }
-
-// No expression or operand stands where one is wanted.
-pub(crate) const LACKING: StmtError = StmtError::Fault {
-    number: NO_EXPRESSION,
-};
-
-// There is no such instruction, or it has no such operands.
-pub(crate) const NO_SUCH_INSTRUCTION: StmtError = StmtError::Fault {
-    number: NO_INSTRUCTION,
-};
 
 // A directive, a definition or a control is out of its form, or a reserved word is defined.
 pub(crate) const OUT_OF_FORM: StmtError = StmtError::Fault { number: BAD_FORM };

@@ -1,22 +1,16 @@
-//! Where an expression or an operand is wanted and none stands.
-ghost use Rattle.std.specs.Prelude.{◌≡◌, ◌≤◌, ◌<◌, ◌+◌, ◌-◌, ◌^◌, ℕ, All, IfOk, IfSome, Ok, is_some, length};
-ghost use Rattle.std.specs.Prelude.{option_map};
-ghost use Rattle.m51_cells.specs.Outcome.{Gives};
-ghost use Rattle.m51_lex.specs.Tokens.{IsWithin};
-ghost use Rattle.m51_expr.specs.Reading.{expression_at};
-ghost use Rattle.m51_stmt.specs.Answer.{or_fault, fault_of};
-ghost use Rattle.m51_stmt.specs.Lack.{is_met, is_item, step_of, same, past, text_step, comma_step, after_at, at_step};
-ghost use Rattle.m51_stmt.specs.Lack.{step_at, all_met, met, is_closed, prefix_of, operand_in, closes};
-ghost use Rattle.m51_stmt.specs.Lack.{operand_begins, expression_begins, parenthesis, parenthesis_at, all_closed};
-ghost use Rattle.m51_expr.specs.Ranks.{leaf_of};
+//! Where an expression or an operand is wanted and none stands, in a line that is out of form.
+ghost use Rattle.std.specs.Prelude.{◌≡◌, ◌≤◌, ◌<◌, ◌+◌, ◌-◌, ◌^◌, ◌∷◌, IfOk, IfSome, Some, is_some, length};
+ghost use Rattle.std.specs.Prelude.{option_map, slice_get};
+ghost use Rattle.m51_expr.specs.Ranks.{is_close, leaf_of};
+ghost use Rattle.m51_expr.specs.Reading.{expression_in};
+ghost use Rattle.m51_stmt.specs.Lack.{begins, is_met, many, after_at, none_if};
+ghost use Rattle.m51_stmt.specs.Lack.{passed_behind, passed, lacks_after, lacks};
+ghost use Rattle.m51_stmt.specs.Lack.{is_closed, prefix_of, operand_in, closes, operand_begins, is_parenthesis};
+ghost use Rattle.m51_stmt.specs.Lack.{is_unclosed};
 
-use crate::fault::{LACKING, StmtError};
-use crate::indirect::{Behind, behind_at};
-use crate::operands::expression;
-use crate::words::{begins_expression, begins_operand, is_close, is_open, is_operator, is_text};
-use m51_cells::NO_EXPRESSION;
-use m51_expr::{Symbol, Unary, symbol_at};
-use m51_lex::{Token, What};
+use crate::words::{begins_expression, begins_operand, first_is_operator, is_text};
+use m51_cells::NoMemory;
+use m51_expr::{ReadError, Symbol, Unary, is_close, is_open, read_expr};
 use std::alloc::Global;
 
 /// What is wanted after each comma of a line: an operand of an instruction, an expression of DW, an expression or a
@@ -31,21 +25,9 @@ pub(crate) enum Want {
     Nothing,
 }
 
-/// What a symbol wants: an expression that begins with it, or after it; that what follows a text or a comma is right;
-/// or nothing.
-#[derive(Clone, Copy)]
-pub(crate) enum Step {
-    Expression,
-    Behind,
-    Text,
-    Comma,
-    At,
-    Nothing,
-}
-
-/// Whether what is wanted begins with this symbol.
-pub(crate) fn is_met(want: Want, symbol: &Option<Symbol>) -> bool
-    ensures { result ≡ is_met want symbol.now }
+// Whether what is wanted begins with this symbol.
+fn begins(want: Want, symbol: &Symbol) -> bool
+    ensures { result ≡ begins want symbol.now }
 {
     match want {
         Want::Operand => begins_operand(symbol),
@@ -56,170 +38,141 @@ pub(crate) fn is_met(want: Want, symbol: &Option<Symbol>) -> bool
     }
 }
 
-fn step_of(symbol: &Option<Symbol>) -> Step
-    ensures { result ≡ step_of symbol.now }
+// Whether what is wanted begins the symbols.
+fn is_met(want: Want, symbols: &[Symbol]) -> bool
+    ensures { result ≡ is_met want symbols.now }
 {
-    if begins_expression(symbol) {
-        return Step::Expression;
+    match symbols {
+        [first, ..] => begins(want, first),
+        [] => match want {
+            Want::First | Want::Nothing => true,
+            Want::Operand | Want::Expression | Want::Item => false,
+        },
     }
+}
+
+// How many symbols the expression has that begins them, if one does.
+fn expression_len(alloc: Global, symbols: &[Symbol]) -> Result<Option<usize>, NoMemory>
+    ensures len { IfOk result (λ len. len ≡ many (expression_in symbols.now)) }
+    ensures within { IfOk result (λ len. IfSome len (λ n. (0 < n) × (n ≤ length symbols.now))) }
+{
+    match read_expr(alloc, symbols) {
+        Ok((_value, many)) => Ok(Some(many)),
+        Err(ReadError::Fault { .. }) => Ok(None),
+        Err(ReadError::Memory) => Err(NoMemory),
+    }
+}
+
+// The same without the first symbol.
+fn rest_len(alloc: Global, symbols: &[Symbol]) -> Result<Option<usize>, NoMemory>
+    ensures { IfOk result (λ len. len ≡ option_map (λ n. n - 1) (many (expression_in symbols.now))) }
+{
+    match expression_len(alloc, symbols)? {
+        Some(len) => Ok(Some(len - 1)),
+        None => Ok(None),
+    }
+}
+
+// The + of `@A+` is no operator.
+fn after_at(symbols: &[Symbol]) -> usize
+    ensures { result ≡ after_at symbols.now }
+{
+    match symbols {
+        [Symbol::Word(word), Symbol::Plus, ..] if word.bytes() == b"A".as_slice() => 2,
+        _ => 0,
+    }
+}
+
+// Nothing more is passed over where this holds, or else something lacks.
+fn none_if(holds: bool) -> Option<usize>
+    ensures { result ≡ none_if holds }
+{
+    if holds { Some(0) } else { None }
+}
+
+// How many symbols after one belong to it, with which no expression begins.
+fn passed_behind(
+    alloc: Global,
+    want: Want,
+    symbol: &Symbol,
+    rest: &[Symbol],
+) -> Result<Option<usize>, NoMemory>
+    ensures { IfOk result (λ len. len ≡ passed_behind want symbol.now rest.now) }
+{
     match symbol {
-        Some(Symbol::Hash | Symbol::Infix(_)) => Step::Behind,
-        Some(Symbol::Text) => Step::Text,
-        Some(Symbol::Comma) => Step::Comma,
-        Some(Symbol::At) => Step::At,
-        _ => Step::Nothing,
+        Symbol::Hash | Symbol::Infix(_) => expression_len(alloc, rest),
+        Symbol::Text(_) => Ok(none_if(!first_is_operator(rest))),
+        Symbol::Comma => Ok(none_if(is_met(want, rest))),
+        Symbol::At => Ok(Some(after_at(rest))),
+        _ => Ok(Some(0)),
     }
 }
 
-// The place after the expression that begins at a place, or E6.
-fn past(alloc: Global, line: &str, tokens: &[Token], at: usize) -> Result<usize, StmtError>
-    requires { All (IsWithin (length line.now)) tokens.now }
-    ensures gives { Gives same fault_of result (past line.now tokens.now at) }
-    ensures later { IfOk result (λ next. (at < next) × (next ≤ length tokens.now)) }
-{
-    match expression(alloc, line, tokens, at, NO_EXPRESSION) {
-        Ok((_value, next)) => Ok(next),
-        Err(error) => Err(error),
-    }
-}
-
-pub(crate) fn is_item(want: Want) -> bool
-    ensures { result ≡ is_item want }
-{
-    match want {
-        Want::Item => true,
-        Want::Operand | Want::Expression | Want::First | Want::Nothing => false,
-    }
-}
-
-// A text stands before no operator; where nothing is wanted it is passed over.
-fn text_step(line: &[u8], tokens: &[Token], at: usize) -> Result<usize, StmtError>
-    requires tokens { All (IsWithin (length line.now)) tokens.now }
-    requires within { at < length tokens.now }
-    ensures gives { Gives same fault_of result (text_step line.now tokens.now at) }
-    ensures later { IfOk result (λ next. at < next) }
-{
-    if is_operator(&symbol_at(line, tokens, at + 1)) {
-        Err(LACKING)
-    } else {
-        Ok(at + 1)
-    }
-}
-
-// What is wanted stands after a comma.
-fn comma_step(line: &[u8], tokens: &[Token], want: Want, at: usize) -> Result<usize, StmtError>
-    requires tokens { All (IsWithin (length line.now)) tokens.now }
-    requires within { at < length tokens.now }
-    ensures gives { Gives same fault_of result (comma_step line.now tokens.now want at) }
-    ensures later { IfOk result (λ next. at < next) }
-{
-    if is_met(want, &symbol_at(line, tokens, at + 1)) {
-        Ok(at + 1)
-    } else {
-        Err(LACKING)
-    }
-}
-
-// How many tokens of an @ form are passed over: the + of `@A+` is no operator.
-fn after_at(a: Behind, b: Behind) -> usize
-    ensures count { result ≡ after_at a b }
-    ensures few { (1 ≤ result) × (result ≤ 3) }
-{
-    match (a, b) {
-        (Behind::A, Behind::Plus) => 3,
-        _ => 1,
-    }
-}
-
-fn at_step(line: &[u8], tokens: &[Token], at: usize) -> usize
-    requires tokens { All (IsWithin (length line.now)) tokens.now }
-    requires within { at < length tokens.now }
-    ensures place { result ≡ at_step line.now tokens.now at }
-    ensures later { at < result }
-{
-    at + after_at(
-        behind_at(line, tokens, at + 1),
-        behind_at(line, tokens, at + 2),
-    )
-}
-
-// The place after what stands at a place, or E6 where something is wanted there and does not stand.
-#[tactic(auto, unfolding(crate::specs::Lack::step_at))]
-fn step_at(
+// How many symbols after the first belong to what it begins, or none where something is wanted and does not stand.
+#[tactic(auto, unfolding(crate::specs::Lack::passed))]
+fn passed(
     alloc: Global,
-    line: &str,
-    tokens: &[Token],
     want: Want,
-    at: usize,
-) -> Result<usize, StmtError>
-    requires tokens { All (IsWithin (length line.now)) tokens.now }
-    requires within { at < length tokens.now }
-    ensures gives { Gives same fault_of result (step_at line.now tokens.now want at) }
-    ensures later { IfOk result (λ next. at < next) }
+    first: &Symbol,
+    rest: &[Symbol],
+    symbols: &[Symbol],
+) -> Result<Option<usize>, NoMemory>
+    requires { symbols.now ≡ first.now ∷ rest.now }
+    ensures { IfOk result (λ len. len ≡ passed want first.now rest.now) }
 {
-    let bytes = line.as_bytes();
-    match step_of(&symbol_at(bytes, tokens, at)) {
-        Step::Expression => past(alloc, line, tokens, at),
-        Step::Behind => past(alloc, line, tokens, at + 1),
-        Step::Text => text_step(bytes, tokens, at),
-        Step::Comma => comma_step(bytes, tokens, want, at),
-        Step::At => Ok(at_step(bytes, tokens, at)),
-        Step::Nothing => Ok(at + 1),
+    if begins_expression(first) {
+        rest_len(alloc, symbols)
+    } else {
+        passed_behind(alloc, want, first, rest)
     }
 }
 
-// From a place to the end of the line all stands that is wanted, or E6.
-fn all_met(
-    alloc: Global,
-    line: &str,
-    tokens: &[Token],
-    want: Want,
-    at: usize,
-) -> Result<(), StmtError>
-    requires { All (IsWithin (length line.now)) tokens.now }
-    ensures gives { (n : ℕ) → length tokens.now - at ≤ n →
-        Gives same fault_of result (all_met n line.now tokens.now want at) }
+// Whether something is wanted among the symbols and does not stand, after so many that are passed over.
+fn lacks_after(alloc: Global, len: usize, want: Want, symbols: &[Symbol]) -> Result<bool, NoMemory>
+    ensures { IfOk result (λ lacks. lacks ≡ lacks_after len want symbols.now) }
 {
-    if at >= tokens.len() {
-        return Ok(());
-    }
-    match step_at(alloc, line, tokens, want, at) {
-        Ok(next) => all_met(alloc, line, tokens, want, next),
-        Err(error) => Err(error),
+    match symbols {
+        [] => Ok(false),
+        [_, rest @ ..] if len > 0 => lacks_after(alloc, len - 1, want, rest),
+        [first, rest @ ..] => match passed(alloc, want, first, rest, symbols)? {
+            Some(more) => lacks_after(alloc, more, want, rest),
+            None => Ok(true),
+        },
     }
 }
 
-/// E6 where what is wanted first does not begin at a place, or where something is wanted further on and does not stand.
-pub(crate) fn met(
+/// Whether what is wanted first does not begin the symbols, or something is wanted further on and does not stand.
+pub(crate) fn lacks(
     alloc: Global,
-    line: &str,
-    tokens: &[Token],
     first: Want,
     want: Want,
-    at: usize,
-) -> Result<(), StmtError>
-    requires { All (IsWithin (length line.now)) tokens.now }
-    ensures { Gives same fault_of result (met line.now tokens.now first want at) }
+    symbols: &[Symbol],
+) -> Result<bool, NoMemory>
+    ensures { IfOk result (λ lacking. lacking ≡ lacks first want symbols.now) }
 {
-    if !is_met(first, &symbol_at(line.as_bytes(), tokens, at)) {
-        return Err(LACKING);
+    if is_met(first, symbols) {
+        lacks_after(alloc, 0, want, symbols)
+    } else {
+        Ok(true)
     }
-    all_met(alloc, line, tokens, want, at)
 }
 
 // Whether a parenthesis is closed, of which so many more are open.
-fn is_closed(tokens: &[Token], depth: usize) -> bool
-    requires { depth + length tokens.now < 2 ^ 64 }
-    ensures { result ≡ is_closed tokens.now depth }
+fn is_closed(symbols: &[Symbol], depth: usize) -> bool
+    requires { depth + length symbols.now < 2 ^ 64 }
+    ensures { result ≡ is_closed symbols.now depth }
 {
-    match tokens {
+    match symbols {
         [] => false,
-        [token, more @ ..] => match token.what {
-            What::Sign(b'(') => is_closed(more, depth + 1),
-            What::Sign(b')') if depth == 0 => true,
-            What::Sign(b')') => is_closed(more, depth - 1),
-            _ => is_closed(more, depth),
-        },
+        [first, more @ ..] => {
+            if is_open(Some(first)) {
+                is_closed(more, depth + 1)
+            } else if is_close(Some(first)) {
+                depth == 0 || is_closed(more, depth - 1)
+            } else {
+                is_closed(more, depth)
+            }
+        }
     }
 }
 
@@ -231,121 +184,96 @@ pub(crate) enum Prefix {
     Tight,
 }
 
-fn prefix_of(symbol: &Option<Symbol>) -> Prefix
+fn prefix_of(symbol: &Symbol) -> Prefix
     ensures { result ≡ prefix_of symbol.now }
 {
     match symbol {
-        Some(Symbol::Plus | Symbol::Minus) => Prefix::Tight,
-        Some(Symbol::Prefix(Unary::Not)) => Prefix::Not,
-        Some(Symbol::Prefix(_)) => Prefix::Tight,
+        Symbol::Prefix(Unary::Not) => Prefix::Not,
+        Symbol::Plus | Symbol::Minus | Symbol::Prefix(_) => Prefix::Tight,
         _ => Prefix::Nothing,
     }
 }
 
-// The tokens from an operand on, of which operators stand before it: NOT stands after no tighter one.
-fn operand_in<'a>(line: &[u8], before: Prefix, tokens: &'a [Token]) -> Option<&'a [Token]>
-    requires { All (IsWithin (length line.now)) tokens.now }
-    ensures from { option_map (λ rest. rest.now) result ≡ operand_in line.now before tokens.now }
-    ensures within { IfSome result (λ rest. All (IsWithin (length line.now)) rest.now) }
+// The symbols from an operand on, of which operators stand before it: NOT stands after no tighter one.
+fn operand_in(before: Prefix, symbols: &[Symbol]) -> Option<&[Symbol]>
+    ensures { option_map (λ rest. rest.now) result ≡ operand_in before symbols.now }
 {
-    match tokens {
+    match symbols {
         [] => None,
-        [_, more @ ..] => match (before, prefix_of(&symbol_at(line, tokens, 0))) {
+        [first, more @ ..] => match (before, prefix_of(first)) {
             (Prefix::Tight, Prefix::Not) => None,
-            (_, Prefix::Nothing) => Some(tokens),
-            (_, next) => operand_in(line, next, more),
+            (_, Prefix::Nothing) => Some(symbols),
+            (_, next) => operand_in(next, more),
         },
     }
 }
 
-// An expression begins at the second token, and a closing parenthesis follows it, or E6.
-fn closes(alloc: Global, line: &str, tokens: &[Token]) -> Result<(), StmtError>
-    requires { All (IsWithin (length line.now)) tokens.now }
-    ensures { Gives same fault_of result (closes line.now tokens.now (expression_at line.now tokens.now 1)) }
+// Whether an expression begins the symbols, and a closing parenthesis follows it.
+fn closes(alloc: Global, symbols: &[Symbol]) -> Result<bool, NoMemory>
+    ensures { IfOk result (λ holds. holds ≡ closes symbols.now (expression_in symbols.now)) }
 {
-    match expression(alloc, line, tokens, 1, NO_EXPRESSION) {
-        Ok((_value, next)) if is_close(&symbol_at(line.as_bytes(), tokens, next)) => Ok(()),
-        Ok(_) => Err(LACKING),
-        Err(error) => Err(error),
+    match expression_len(alloc, symbols)? {
+        Some(len) => Ok(first_is_close(&symbols[len..])),
+        None => Ok(false),
     }
 }
 
-fn is_leaf(symbol: &Option<Symbol>) -> bool
-    ensures { result ≡ is_some (leaf_of symbol.now) }
+fn first_is_close(symbols: &[Symbol]) -> bool
+    ensures { result ≡ is_close (slice_get symbols.now 0) }
+{
+    match symbols {
+        [first, ..] => is_close(Some(first)),
+        [] => false,
+    }
+}
+
+fn is_leaf(symbol: &Symbol) -> bool
+    ensures { result ≡ is_some (leaf_of (Some symbol.now)) }
 {
     match symbol {
-        Some(Symbol::Number(_) | Symbol::Name(_) | Symbol::Here) => true,
+        Symbol::Name(_) | Symbol::Number(_) | Symbol::Here => true,
+        Symbol::Text(_) => !is_text(symbol),
         _ => false,
     }
 }
 
-// A whole operand begins the tokens, or E6.
-fn operand_begins(alloc: Global, line: &str, tokens: &[Token]) -> Result<(), StmtError>
-    requires { All (IsWithin (length line.now)) tokens.now }
-    ensures { Gives same fault_of result (operand_begins line.now tokens.now) }
+// Whether a whole operand begins the symbols.
+fn operand_begins(alloc: Global, symbols: &[Symbol]) -> Result<bool, NoMemory>
+    ensures { IfOk result (λ holds. holds ≡ operand_begins symbols.now) }
 {
-    let first = symbol_at(line.as_bytes(), tokens, 0);
-    if is_open(&first) {
-        closes(alloc, line, tokens)
-    } else if is_leaf(&first) {
-        Ok(())
-    } else {
-        Err(LACKING)
+    match symbols {
+        [] => Ok(false),
+        [first, rest @ ..] => {
+            if is_open(Some(first)) {
+                closes(alloc, rest)
+            } else {
+                Ok(is_leaf(first))
+            }
+        }
     }
 }
 
-// A whole expression begins the tokens, or E6.
-fn expression_begins(alloc: Global, line: &str, tokens: &[Token]) -> Result<(), StmtError>
-    requires { All (IsWithin (length line.now)) tokens.now }
-    ensures { Gives same fault_of result (expression_begins line.now tokens.now) }
+// Whether after an opening parenthesis a whole expression begins, and further on stands the parenthesis that closes it.
+fn is_parenthesis(alloc: Global, symbols: &[Symbol]) -> Result<bool, NoMemory>
+    ensures { IfOk result (λ holds. holds ≡ is_parenthesis symbols.now) }
 {
-    match operand_in(line.as_bytes(), Prefix::Nothing, tokens) {
-        Some(rest) => operand_begins(alloc, line, rest),
-        None => Err(LACKING),
+    match operand_in(Prefix::Nothing, symbols) {
+        Some(operand) => Ok(operand_begins(alloc, operand)? && is_closed(symbols, 0)),
+        None => Ok(false),
     }
 }
 
-// After an opening parenthesis a whole expression begins, and further on stands the parenthesis that closes it, or E6.
-fn parenthesis(alloc: Global, line: &str, tokens: &[Token], at: usize) -> Result<(), StmtError>
-    requires tokens { All (IsWithin (length line.now)) tokens.now }
-    requires within { at < length tokens.now }
-    ensures { Gives same fault_of result (parenthesis line.now tokens.now at) }
+/// Whether a parenthesis is not right, in a line that has no expression.
+pub(crate) fn is_unclosed(alloc: Global, symbols: &[Symbol]) -> Result<bool, NoMemory>
+    ensures { IfOk result (λ lacks. lacks ≡ is_unclosed symbols.now) }
 {
-    let rest = &tokens[at + 1..];
-    match expression_begins(alloc, line, rest) {
-        Ok(()) if is_closed(rest, 0) => Ok(()),
-        Ok(()) => Err(LACKING),
-        Err(error) => Err(error),
-    }
-}
-
-fn parenthesis_at(alloc: Global, line: &str, tokens: &[Token], at: usize) -> Result<(), StmtError>
-    requires tokens { All (IsWithin (length line.now)) tokens.now }
-    requires within { at < length tokens.now }
-    ensures { Gives same fault_of result (parenthesis_at line.now tokens.now at) }
-{
-    if is_open(&symbol_at(line.as_bytes(), tokens, at)) {
-        return parenthesis(alloc, line, tokens, at);
-    }
-    Ok(())
-}
-
-/// From a place to the end of the line, which has no expression, each parenthesis is right, or E6.
-pub(crate) fn all_closed(
-    alloc: Global,
-    line: &str,
-    tokens: &[Token],
-    at: usize,
-) -> Result<(), StmtError>
-    requires { All (IsWithin (length line.now)) tokens.now }
-    ensures gives { (n : ℕ) → length tokens.now - at ≤ n →
-        Gives same fault_of result (all_closed n line.now tokens.now at) }
-{
-    if at >= tokens.len() {
-        return Ok(());
-    }
-    match parenthesis_at(alloc, line, tokens, at) {
-        Ok(()) => all_closed(alloc, line, tokens, at + 1),
-        Err(error) => Err(error),
+    match symbols {
+        [] => Ok(false),
+        [first, rest @ ..] => {
+            if is_open(Some(first)) && !is_parenthesis(alloc, rest)? {
+                return Ok(true);
+            }
+            is_unclosed(alloc, rest)
+        }
     }
 }

@@ -3,16 +3,14 @@
 
 mod control;
 mod definitions;
-mod directive_forms;
 mod directives;
 mod externs;
 mod fault;
-mod indirect;
+mod faults;
 mod kinds;
 mod lack;
 mod laws;
 mod lists;
-mod looks;
 mod operands;
 mod printing;
 mod reading;
@@ -24,7 +22,6 @@ mod words;
 
 pub use fault::StmtError;
 pub use laws::printed_reads_back;
-pub use looks::look_of;
 pub use reading::read_line;
-pub use statement::{Body, Externs, Item, Items, Operand, Operands, Stmt};
+pub use statement::{Body, Externs, Stmt};
 pub use statement_printing::print_stmt;

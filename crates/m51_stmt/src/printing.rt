@@ -6,9 +6,8 @@ ghost use Rattle.m51_stmt.specs.Printing.{word_text, number_text, unary_word, bi
 ghost use Rattle.m51_stmt.specs.Printing.{marked_text, indirect_text, sum_text, operand_text, separated, doubled};
 ghost use Rattle.m51_stmt.specs.Printing.{text_text, item_text, kind_word, extern_text};
 
-use crate::statement::{Item, Operand};
 use m51_cells::{Kind, Name, NoMemory, hex4};
-use m51_expr::{Binary, Expr, Unary};
+use m51_expr::{Binary, Expr, Item, Operand, Unary};
 
 /// A word and a blank.
 pub(crate) fn put(out: &mut Vec<u8>, word: &[u8]) -> Result<(), NoMemory>

@@ -1,114 +1,132 @@
 //! Reads a line as a statement.
-ghost use Rattle.std.specs.Prelude.{◌≡◌, ◌≤◌, ◌+◌, All, IfOk, drop, length, slice_index};
+ghost use Rattle.std.specs.Prelude.{◌≡◌, ◌≤◌, All, IfOk, drop, length, map, option_map, slice_index};
+ghost use Rattle.std.specs.Prelude.{Some, None, option_and_then, true, if◌then◌else◌};
+ghost use Rattle.m51_expr.specs.Words.{is_reserved};
+ghost use Rattle.m51_stmt.specs.Definitions.{definition_form, definition_of};
+ghost use Rattle.m51_stmt.specs.Directives.{directive_form, directive_of};
 ghost use Rattle.m51_cells.specs.Outcome.{Gives};
+ghost use Rattle.m51_cells.specs.declared.limits.TheConstants.{MOST_LINE_BYTES};
 ghost use Rattle.m51_lex.specs.Tokens.{IsWithin, tokens_at};
-ghost use Rattle.m51_stmt.specs.Statement.{body_tree, stmt_tree};
+ghost use Rattle.std.specs.Prelude.{Ok};
+ghost use Rattle.m51_stmt.specs.Statement.{StmtTree, body_tree, stmt_tree};
+ghost use Rattle.m51_stmt.specs.Grammar.{IsLine};
 ghost use Rattle.m51_stmt.specs.Answer.{fault_of};
-ghost use Rattle.m51_stmt.specs.Lines.{spoken, said, label_at, behind_label, statement, control_line, token_line};
-ghost use Rattle.m51_stmt.specs.Lines.{any_line, statement_of};
+ghost use Rattle.m51_stmt.specs.Lines.{spoken, defined, said, named, statement, read, control_line, token_line};
+ghost use Rattle.m51_stmt.specs.Lines.{any_line};
+ghost use Rattle.m51_stmt.specs.Lines.{symbols_of, with_label, statement_of};
 
 use crate::control::control;
-use crate::definitions::{defined, definition_at};
-use crate::directive_forms::directed;
-use crate::directives::directive_of;
-use crate::fault::{NO_SUCH_INSTRUCTION, OUT_OF_FORM, StmtError};
-use crate::lack::{Want, met};
+use crate::definitions::{definition_form, definition_of};
+use crate::directives::{directive_form, directive_of};
+use crate::fault::{OUT_OF_FORM, StmtError};
+use crate::faults::statement_fault;
 use crate::operands::instruction;
 use crate::statement::{Body, Stmt};
-use crate::words::{is_colon, word_at};
-use m51_cells::Name;
-use m51_expr::{is_reserved, symbol_at};
+use m51_cells::{MOST_LINE_BYTES, Name, NoMemory};
+use m51_expr::{Symbol, is_reserved, symbols};
 use m51_isa::is_mnemonic;
 use m51_lex::{LONG_LINE, LexError, Token, tokens};
 use std::alloc::Global;
 
-// The instruction or the directive that a word begins, or E11 where it begins none.
-fn spoken(
-    alloc: Global,
-    line: &str,
-    tokens: &[Token],
-    word: Name,
-    at: usize,
-) -> Result<Body, StmtError>
-    requires tokens { All (IsWithin (length line.now)) tokens.now }
-    requires within { at ≤ length tokens.now }
-    ensures { Gives body_tree fault_of result (spoken line.now tokens.now word at) }
+// The instruction or the directive that a word begins.
+fn spoken(alloc: Global, word: &Name, rest: &[Symbol]) -> Result<Option<Body>, NoMemory>
+    ensures { IfOk result (λ found. option_map body_tree found ≡ spoken word.now rest.now) }
 {
     if is_mnemonic(word.bytes()) {
-        return match met(alloc, line, tokens, Want::First, Want::Operand, at) {
-            Ok(()) => instruction(alloc, line, tokens, word, at),
-            Err(error) => Err(error),
-        };
-    }
-    match directive_of(word.bytes()) {
-        Some(directive) => directed(alloc, line, tokens, directive, at),
-        None => Err(NO_SUCH_INSTRUCTION),
+        instruction(alloc, word, rest)
+    } else {
+        match directive_of(word.bytes()) {
+            Some(directive) => directive_form(alloc, directive, rest),
+            None => Ok(None),
+        }
     }
 }
 
-// What stands from a place to the end of the line: nothing, a definition, an instruction or a directive.
-fn said(alloc: Global, line: &str, tokens: &[Token], at: usize) -> Result<Body, StmtError>
-    requires { All (IsWithin (length line.now)) tokens.now }
-    ensures { Gives body_tree fault_of result (said line.now tokens.now at) }
+// The definition that a name begins, which is not reserved and has no label before it.
+fn defined(
+    alloc: Global,
+    labelled: bool,
+    name: &Name,
+    rest: &[Symbol],
+) -> Result<Option<Body>, NoMemory>
+    ensures { IfOk result (λ found. option_map body_tree found ≡ defined labelled name.now rest.now) }
 {
-    if at >= tokens.len() {
-        return Ok(Body::Empty);
-    }
-    let bytes = line.as_bytes();
-    let Some(word) = word_at(bytes, tokens, at) else {
-        return Err(NO_SUCH_INSTRUCTION);
-    };
-    match definition_at(bytes, tokens, word.bytes(), at + 1) {
-        Some(definition) => defined(alloc, line, tokens, definition, word.bytes(), at),
-        None => spoken(alloc, line, tokens, word, at + 1),
+    match rest {
+        [Symbol::Word(word), rest @ ..] => {
+            if labelled || is_reserved(name.bytes()) {
+                return Ok(None);
+            }
+            match definition_of(word.bytes()) {
+                Some(definition) => definition_form(alloc, definition, name, rest),
+                None => Ok(None),
+            }
+        }
+        _ => Ok(None),
     }
 }
 
-// The label of a line: a word before a colon.
-fn label_at(line: &[u8], tokens: &[Token]) -> Option<Name>
-    requires { All (IsWithin (length line.now)) tokens.now }
-    ensures { result ≡ label_at line.now tokens.now }
+// What stands after the label: nothing, a definition, an instruction or a directive.
+fn said(alloc: Global, labelled: bool, symbols: &[Symbol]) -> Result<Option<Body>, NoMemory>
+    ensures { IfOk result (λ found. option_map body_tree found ≡ said labelled symbols.now) }
 {
-    if !is_colon(&symbol_at(line, tokens, 1)) {
-        return None;
-    }
-    word_at(line, tokens, 0)
-}
-
-// The statement after a label, which is no reserved word, or E12.
-fn behind_label(alloc: Global, line: &str, tokens: &[Token], label: Name) -> Result<Stmt, StmtError>
-    requires { All (IsWithin (length line.now)) tokens.now }
-    ensures { Gives stmt_tree fault_of result (behind_label line.now tokens.now label) }
-{
-    if is_reserved(label.bytes()) {
-        return Err(OUT_OF_FORM);
-    }
-    match said(alloc, line, tokens, 2) {
-        Ok(body) => Ok(Stmt {
-            label: Some(label),
-            body,
-        }),
-        Err(error) => Err(error),
-    }
-}
-
-// The statement that the tokens of a line write.
-fn statement(alloc: Global, line: &str, tokens: &[Token]) -> Result<Stmt, StmtError>
-    requires { All (IsWithin (length line.now)) tokens.now }
-    ensures { Gives stmt_tree fault_of result (statement line.now tokens.now) }
-{
-    match label_at(line.as_bytes(), tokens) {
-        Some(label) => behind_label(alloc, line, tokens, label),
-        None => match said(alloc, line, tokens, 0) {
-            Ok(body) => Ok(Stmt { label: None, body }),
-            Err(error) => Err(error),
+    match symbols {
+        [] => Ok(Some(Body::Empty)),
+        [first, rest @ ..] => match first {
+            Symbol::Name(name) => defined(alloc, labelled, name, rest),
+            Symbol::Word(word) => spoken(alloc, word, rest),
+            _ => Ok(None),
         },
+    }
+}
+
+// A statement without a label.
+fn bare(body: Body) -> Stmt
+    ensures { stmt_tree result ≡ with_label None (body_tree body) }
+{
+    Stmt { label: None, body }
+}
+
+// What a name begins: a label, where a colon follows it, or a definition.
+fn named(alloc: Global, name: &Name, rest: &[Symbol]) -> Result<Option<Stmt>, NoMemory>
+    ensures { IfOk result (λ found. option_map stmt_tree found ≡ named name.now rest.now) }
+{
+    match rest {
+        [Symbol::Colon, rest @ ..] => {
+            if is_reserved(name.bytes()) {
+                return Ok(None);
+            }
+            let label = Some(*name);
+            Ok(said(alloc, true, rest)?.map(|body| Stmt { label, body }))
+        }
+        _ => Ok(defined(alloc, false, name, rest)?.map(bare)),
+    }
+}
+
+// The statement that the symbols of a line write, if they are in form.
+fn statement(alloc: Global, symbols: &[Symbol]) -> Result<Option<Stmt>, NoMemory>
+    ensures { IfOk result (λ found. option_map stmt_tree found ≡ statement symbols.now) }
+{
+    match symbols {
+        [Symbol::Name(name), rest @ ..] => named(alloc, name, rest),
+        _ => Ok(said(alloc, false, symbols)?.map(bare)),
+    }
+}
+
+// What the symbols of a line say.
+fn read(alloc: Global, symbols: &[Symbol]) -> Result<Stmt, StmtError>
+    ensures { Gives stmt_tree fault_of result (read symbols.now) }
+{
+    match statement(alloc, symbols)? {
+        Some(statement) => Ok(statement),
+        None => Err(StmtError::Fault {
+            number: statement_fault(alloc, symbols)?,
+        }),
     }
 }
 
 // The tokens of a line that is not too long.
 fn token_list(alloc: Global, line: &str) -> Result<Vec<Token>, StmtError>
-    requires { length line.now ≤ 255 }
+    requires { length line.now ≤ MOST_LINE_BYTES }
     ensures gives { Gives (λ v. v.items) fault_of result (tokens_at 0 0 line.now) }
     ensures within { IfOk result (λ v. All (IsWithin (length line.now)) v.items) }
 {
@@ -143,18 +161,18 @@ fn control_line(alloc: Global, rest: &[u8]) -> Result<Stmt, StmtError>
     ensures { Gives stmt_tree fault_of result (control_line rest.now) }
 {
     match control(alloc, rest) {
-        Ok(body) => Ok(Stmt { label: None, body }),
+        Ok(body) => Ok(bare(body)),
         Err(error) => Err(error),
     }
 }
 
 // What a line of tokens says.
 fn token_line(alloc: Global, line: &str) -> Result<Stmt, StmtError>
-    requires { length line.now ≤ 255 }
+    requires { length line.now ≤ MOST_LINE_BYTES }
     ensures { Gives stmt_tree fault_of result (token_line line.now) }
 {
     match token_list(alloc, line) {
-        Ok(found) => statement(alloc, line, &found),
+        Ok(found) => read(alloc, &symbols(alloc, line, &found)?),
         Err(error) => Err(error),
     }
 }
@@ -162,7 +180,7 @@ fn token_line(alloc: Global, line: &str) -> Result<Stmt, StmtError>
 // What a line says that is not too long, by its first character.
 #[tactic(auto, unfolding(crate::specs::Lines::any_line))]
 fn any_line(alloc: Global, line: &str) -> Result<Stmt, StmtError>
-    requires { length line.now ≤ 255 }
+    requires { length line.now ≤ MOST_LINE_BYTES }
     ensures { Gives stmt_tree fault_of result (any_line line.now) }
 {
     let bytes = line.as_bytes();
@@ -176,6 +194,16 @@ fn any_line(alloc: Global, line: &str) -> Result<Stmt, StmtError>
     }
 }
 
+// What a line says, or E5 where it is too long.
+fn short_or_long(alloc: Global, line: &str) -> Result<Stmt, StmtError>
+    ensures { Gives stmt_tree fault_of result (statement_of line.now) }
+{
+    if line.len() > MOST_LINE_BYTES {
+        return Err(StmtError::Fault { number: LONG_LINE });
+    }
+    any_line(alloc, line)
+}
+
 /// The statement that a line writes, which stands without its line end.
 ///
 /// Errors: E5 for a line over 255 bytes; E12 for a first `%` and for a control line out of its form; the leftmost of E1
@@ -185,10 +213,13 @@ fn any_line(alloc: Global, line: &str) -> Result<Stmt, StmtError>
 ///
 /// Source: ASM51 guide.
 pub fn read_line(alloc: Global, line: &str) -> Result<Stmt, StmtError>
-    ensures { Gives stmt_tree fault_of result (statement_of line.now) }
+    // The statement that the rules of lines give, or the first fault.
+    ensures gives { Gives stmt_tree fault_of result (statement_of line.now) }
+    // It is a statement of the grammar of lines.
+    ensures sound { IfOk result (λ s. IsLine line.now (stmt_tree s)) }
+    // A statement of the grammar is this one: so there is one at most, and a fault comes only where there is none.
+    ensures complete { (s : StmtTree) → length line.now ≤ MOST_LINE_BYTES → IsLine line.now s
+        → Gives stmt_tree fault_of result (Ok s) }
 {
-    if line.len() > 255 {
-        return Err(StmtError::Fault { number: LONG_LINE });
-    }
-    any_line(alloc, line)
+    short_or_long(alloc, line)
 }

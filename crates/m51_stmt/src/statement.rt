@@ -1,58 +1,6 @@
 //! Statements.
 use m51_cells::{Bytes, Kind, ListOf, Name, Names, Reloc};
-use m51_expr::Expr;
-
-/// An operand of an instruction.
-///
-/// Source: ASM51 guide.
-#[derive(Drop)]
-pub enum Operand {
-    /// `A`
-    A,
-    /// `AB`
-    Ab,
-    /// `C`
-    C,
-    /// `DPTR`
-    Dptr,
-    /// `@A+PC`
-    APc,
-    /// `@A+DPTR`
-    ADptr,
-    /// `@DPTR`
-    AtDptr,
-    /// `R0` to `R7`
-    R(u8),
-    /// `@R0` or `@R1`
-    AtR(u8),
-    /// `#` and an expression.
-    Imm(Expr),
-    /// An expression: an address, a bit or a target.
-    Plain(Expr),
-    /// `/` and an expression: a bit, inverted.
-    NotBit(Expr),
-}
-
-/// The operands of an instruction, at most three.
-///
-/// Source: own choice ("Lists in types").
-pub type Operands = ListOf<Operand>;
-
-/// An item of DB or DW.
-///
-/// Source: ASM51 guide.
-#[derive(Drop)]
-pub enum Item {
-    /// A value: one byte of DB, two of DW.
-    Value(Expr),
-    /// A text that stands alone in DB, as its characters.
-    Text(Bytes),
-}
-
-/// The items of DB or DW.
-///
-/// Source: own choice ("Lists in types").
-pub type Items = ListOf<Item>;
+use m51_expr::{Expr, Items, Operands};
 
 /// The names of EXTRN with their kinds.
 ///

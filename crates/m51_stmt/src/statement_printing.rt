@@ -8,9 +8,9 @@ ghost use Rattle.m51_stmt.specs.Printing.{mod51_text, overlayable_text, segment_
 ghost use Rattle.m51_stmt.specs.Printing.{list_text, label_text, body_text, stmt_text};
 
 use crate::printing::{kind_word, put, put_expr, put_externs, put_items, put_names, put_operands};
-use crate::statement::{Body, Item, Operand, Stmt};
+use crate::statement::{Body, Stmt};
 use m51_cells::{Kind, Name, NoMemory, Reloc};
-use m51_expr::Expr;
+use m51_expr::{Expr, Item, Operand};
 use std::alloc::Global;
 
 fn select_word(kind: Kind) -> &'static [u8]
@@ -198,7 +198,7 @@ fn put_label(out: &mut Vec<u8>, label: &Option<Name>) -> Result<(), NoMemory>
 }
 
 /// The line of a statement: each token with a blank after it, numbers in hexadecimal, and each operator with its
-/// operands in parentheses. That `read_line` gives the statement back is only tested.
+/// operands in parentheses. By `printed_reads_back` each statement that a line writes is what `read_line` gives of it.
 ///
 /// Errors: want of memory.
 ///

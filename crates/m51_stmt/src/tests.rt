@@ -287,3 +287,14 @@ fn a_printed_line_reads_as_its_statement(rt: HostRuntime) -> Result<(), Fail> {
     }
     Ok(())
 }
+
+#[test]
+fn a_line_of_parentheses_ends_soon(rt: HostRuntime) -> Result<(), Fail> {
+    let mut line = String::new(rt.alloc());
+    line.push_str("EXTRN ")?;
+    for _ in 0..249 {
+        line.push('(')?;
+    }
+    assert_eq!(rt; answer(rt.alloc(), line.as_str()).err(), Some(6));
+    Ok(())
+}

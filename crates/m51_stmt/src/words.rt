@@ -1,15 +1,14 @@
 //! The words of a line, and what begins an operand or an expression.
-ghost use Rattle.std.specs.Prelude.{◌≡◌, ◌<◌, All, IsSome, length};
+ghost use Rattle.std.specs.Prelude.{◌≡◌, is_some};
 ghost use Rattle.std.specs.List.{list_any};
 ghost use Rattle.std.specs.Str.{bytes_eq};
-ghost use Rattle.m51_lex.specs.Tokens.{IsWithin};
-ghost use Rattle.m51_expr.specs.Ranks.{is_open, is_close};
-ghost use Rattle.m51_stmt.specs.Words.{word_of, word_at, is_comma, is_colon, is_text, is_operator, register_number};
-ghost use Rattle.m51_stmt.specs.Words.{is_register, begins_expression, begins_operand};
+ghost use Rattle.m51_expr.specs.Ranks.{text_value};
+ghost use Rattle.m51_stmt.specs.Words.{word_of, is_word_operator, is_word, is_reserved_word, is_comma, is_text};
+ghost use Rattle.m51_stmt.specs.Words.{is_operator, register_number, is_register, begins_expression, begins_operand};
+ghost use Rattle.m51_stmt.specs.Words.{first_is};
 
 use m51_cells::Name;
-use m51_expr::{Binary, Symbol};
-use m51_lex::{Token, What};
+use m51_expr::{Binary, Symbol, is_reserved};
 
 /// Whether the word is one of these.
 pub(crate) fn is_among(word: &[u8], words: &[&[u8]]) -> bool
@@ -18,85 +17,83 @@ pub(crate) fn is_among(word: &[u8], words: &[&[u8]]) -> bool
     words.iter().any(|one| *one == word)
 }
 
-/// The word that a token is, in upper case, if it is a word.
-#[tactic(auto, unfolding(crate::specs::Words::word_of))]
-pub(crate) fn word_of(line: &[u8], token: &Token) -> Option<Name>
-    requires { IsWithin (length line.now) token.now }
-    ensures { result ≡ word_of line.now token.now }
-{
-    let text = &line[token.from as usize..token.to as usize];
-    match token.what {
-        What::Name => Name::of(text),
-        What::Number(_) | What::Text | What::Sign(_) => None,
-    }
-}
-
-/// The word at a place of the line's tokens, in upper case, if a word stands there: a name or a word of the language.
-pub(crate) fn word_at(line: &[u8], tokens: &[Token], at: usize) -> Option<Name>
-    requires { All (IsWithin (length line.now)) tokens.now }
-    ensures word { result ≡ word_at line.now tokens.now at }
-    ensures within { IsSome result → at < length tokens.now }
-{
-    if at >= tokens.len() {
-        return None;
-    }
-    word_of(line, &tokens[at])
-}
-
-pub(crate) fn is_comma(symbol: &Option<Symbol>) -> bool
-    ensures comma { result ≡ is_comma symbol.now }
+/// The name, or the word of the language, that a symbol is.
+pub(crate) fn word_of(symbol: &Symbol) -> Option<Name>
+    ensures { result ≡ word_of symbol.now }
 {
     match symbol {
-        Some(Symbol::Comma) => true,
+        Symbol::Word(word) => Some(*word),
+        Symbol::Name(name) => Some(*name),
+        _ => None,
+    }
+}
+
+fn is_word_operator(op: Binary) -> bool
+    ensures { result ≡ is_word_operator op }
+{
+    match op {
+        Binary::Mul | Binary::Div | Binary::Add | Binary::Sub | Binary::Dot => false,
+        _ => true,
+    }
+}
+
+/// Whether it is a word: a name, a word of the language, or an operator that is one.
+pub(crate) fn is_word(symbol: &Symbol) -> bool
+    ensures { result ≡ is_word symbol.now }
+{
+    match symbol {
+        Symbol::Word(_) | Symbol::Name(_) | Symbol::Prefix(_) => true,
+        Symbol::Infix(op) => is_word_operator(*op),
         _ => false,
     }
 }
 
-pub(crate) fn is_colon(symbol: &Option<Symbol>) -> bool
-    ensures { result ≡ is_colon symbol.now }
+/// Whether it is a word that nothing can define.
+pub(crate) fn is_reserved_word(symbol: &Symbol) -> bool
+    ensures { result ≡ is_reserved_word symbol.now }
 {
     match symbol {
-        Some(Symbol::Colon) => true,
+        Symbol::Name(name) => is_reserved(name.bytes()),
+        _ => is_word(symbol),
+    }
+}
+
+/// Whether it is a comma.
+pub(crate) fn is_comma(symbol: &Symbol) -> bool
+    ensures { result ≡ is_comma symbol.now }
+{
+    match symbol {
+        Symbol::Comma => true,
         _ => false,
     }
 }
 
-/// Whether it is an opening parenthesis.
-pub(crate) fn is_open(symbol: &Option<Symbol>) -> bool
-    ensures { result ≡ is_open symbol.now }
+// Whether a text is a number: it has one or two characters.
+fn is_short(characters: &[u8]) -> bool
+    ensures { result ≡ is_some (text_value characters.now) }
 {
-    match symbol {
-        Some(symbol) => symbol.is_open(),
-        None => false,
+    match characters {
+        [_] | [_, _] => true,
+        _ => false,
     }
 }
 
 /// Whether it is a text of no character, or of more than two.
-pub(crate) fn is_text(symbol: &Option<Symbol>) -> bool
+pub(crate) fn is_text(symbol: &Symbol) -> bool
     ensures { result ≡ is_text symbol.now }
 {
     match symbol {
-        Some(Symbol::Text) => true,
+        Symbol::Text(characters) => !is_short(characters.as_slice()),
         _ => false,
     }
 }
 
-/// Whether it is a closing parenthesis.
-pub(crate) fn is_close(symbol: &Option<Symbol>) -> bool
-    ensures { result ≡ is_close symbol.now }
-{
-    match symbol {
-        Some(symbol) => symbol.is_close(),
-        None => false,
-    }
-}
-
-/// Whether it is an operator between two operands.
-pub(crate) fn is_operator(symbol: &Option<Symbol>) -> bool
+// Whether it is an operator between two operands.
+fn is_operator(symbol: &Symbol) -> bool
     ensures { result ≡ is_operator symbol.now }
 {
     match symbol {
-        Some(Symbol::Plus | Symbol::Minus | Symbol::Infix(_)) => true,
+        Symbol::Plus | Symbol::Minus | Symbol::Infix(_) => true,
         _ => false,
     }
 }
@@ -140,30 +137,39 @@ fn is_register(word: &[u8]) -> bool
 }
 
 /// Whether an expression may begin with it.
-pub(crate) fn begins_expression(symbol: &Option<Symbol>) -> bool
+pub(crate) fn begins_expression(symbol: &Symbol) -> bool
     ensures { result ≡ begins_expression symbol.now }
 {
     match symbol {
-        Some(
-            Symbol::Number(_)
-            | Symbol::Name(_)
-            | Symbol::Here
-            | Symbol::Open
-            | Symbol::Plus
-            | Symbol::Minus
-            | Symbol::Prefix(_),
-        ) => true,
+        Symbol::Number(_)
+        | Symbol::Name(_)
+        | Symbol::Here
+        | Symbol::Open
+        | Symbol::Plus
+        | Symbol::Minus
+        | Symbol::Prefix(_) => true,
+        Symbol::Text(characters) => is_short(characters.as_slice()),
         _ => false,
     }
 }
 
 /// Whether an operand may begin with it.
-pub(crate) fn begins_operand(symbol: &Option<Symbol>) -> bool
+pub(crate) fn begins_operand(symbol: &Symbol) -> bool
     ensures { result ≡ begins_operand symbol.now }
 {
     match symbol {
-        Some(Symbol::Hash | Symbol::At | Symbol::Infix(Binary::Div)) => true,
-        Some(Symbol::Word(word)) => is_register(word.bytes()),
+        Symbol::Hash | Symbol::At | Symbol::Infix(Binary::Div) => true,
+        Symbol::Word(word) => is_register(word.bytes()),
         _ => begins_expression(symbol),
+    }
+}
+
+/// Whether an operator between two operands comes first.
+pub(crate) fn first_is_operator(symbols: &[Symbol]) -> bool
+    ensures { result ≡ first_is is_operator symbols.now }
+{
+    match symbols {
+        [first, ..] => is_operator(first),
+        [] => false,
     }
 }

@@ -6,3 +6,4 @@ pub mod Judged
 pub mod Telling
 pub mod Whole
 pub mod Numbered
+pub mod StatementRows

@@ -1,11 +1,12 @@
 -- The faults of a text, at most one for each line.
-use Rattle.std.specs.Prelude.{ℕ, ◌==◌, ◌&&◌, ◌||◌, not, Bool, true, false, nat_lt, if◌then◌else◌, List, [], ◌∷◌, ◌++◌}
-use Rattle.std.specs.Prelude.{length, Option, Some, None, Result, Ok, Err}
+use Rattle.std.specs.Prelude.{ℕ, ◌+◌, ◌==◌, ◌&&◌, ◌||◌, not, Bool, true, false, nat_lt, if◌then◌else◌, List, [], ◌∷◌}
+use Rattle.std.specs.Prelude.{◌++◌, length, Option, Some, None, Result, Ok, Err}
 use Rattle.std.specs.List.{list_any}
 use Rattle.m51_module.specs.declared.source.SourceFile.{SourceFile}
 use Rattle.m51_stmt.specs.Statement.{StmtTree}
 use Rattle.m51_module.specs.declared.source.Fault.{Fault}
 use Rattle.m51_cells.specs.declared.fault.TheConstants.{MISPLACED_END, BAD_INCLUDE, TOO_MANY}
+use Rattle.m51_cells.specs.declared.limits.TheConstants.{MOST_SOURCE_LINES}
 use Rattle.m51_text.specs.declared.inclusion.Inclusion.{Inclusion}
 use Rattle.m51_text.specs.declared.inclusion.Inclusion.TheVariants.{Refused}
 use Rattle.m51_text.specs.Said.{said, is_end, is_text}
@@ -25,7 +26,7 @@ is_misplaced ended in_source statement = ended && is_text statement || is_end (O
 
 -- END is missing in a text: it was read to its end, and no line of the source is END
 abbrev pub lacks_end : List TextLine → Bool
-lacks_end text = nat_lt (length text) 65536 && not (list_any ends_source text)
+lacks_end text = nat_lt (length text) (MOST_SOURCE_LINES + 1) && not (list_any ends_source text)
 
 -- the last line of the source itself, above these lines
 abbrev pub is_last_of_source : TextLine → List TextLine → Bool
@@ -42,7 +43,7 @@ abbrev pub fault_by_place : Bool → Inclusion → ℕ → Option ℕ
 fault_by_place misplaced inclusion above =
     if misplaced then Some MISPLACED_END
     else if is_refused inclusion then Some BAD_INCLUDE
-    else if above == 65535 then Some TOO_MANY
+    else if above == MOST_SOURCE_LINES then Some TOO_MANY
     else None
 
 -- the fault of a line that says this

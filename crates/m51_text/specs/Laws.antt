@@ -3,7 +3,7 @@ use Rattle.std.specs.Prelude.{◌≡◌, ℕ, zero, suc, ◌<◌, ◌≤◌, Lis
 use Rattle.std.specs.Str.Lines.{lines}
 use Rattle.m51_module.specs.declared.source.SourceFile.{SourceFile}
 use Rattle.m51_text.specs.Text.{bytes_of}
-use Rattle.m51_text.specs.Answer.{LineTree, TextTree, Lines, text_of}
+use Rattle.m51_text.specs.Answer.{LineTree, Lines, text_of}
 
 -- the bytes of a file: 0 is the source, k the k-th include
 abbrev pub bytes_in : SourceFile → List SourceFile → ℕ → List ℕ

@@ -5,3 +5,4 @@ pub mod Answer
 pub mod Laws
 pub mod Entries
 pub mod Reading
+pub mod Rows

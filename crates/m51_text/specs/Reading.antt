@@ -6,6 +6,7 @@ use Rattle.std.specs.List.{filter_map}
 use Rattle.m51_module.specs.declared.source.SourceFile.{SourceFile}
 use Rattle.m51_stmt.specs.Statement.{StmtTree}
 use Rattle.m51_cells.specs.declared.fault.TheConstants.{MISPLACED_END}
+use Rattle.m51_cells.specs.declared.limits.TheConstants.{MOST_SOURCE_LINES}
 use Rattle.m51_text.specs.declared.inclusion.Inclusion.{Inclusion}
 use Rattle.m51_text.specs.declared.inclusion.Inclusion.TheVariants.{Given}
 use Rattle.m51_text.specs.declared.reading.Place.{Place}
@@ -49,7 +50,7 @@ entry_of includes above ended line =
 -- after one line more, of which there are at most 65,536
 abbrev pub next : List SourceFile → State → TextLine → State
 next includes s line =
-    if nat_le 65536 (length s.entries) then s
+    if nat_le (MOST_SOURCE_LINES + 1) (length s.entries) then s
     else record {
       entries = s.entries ++ entry_of includes (length s.entries) s.ended line ∷ [];
       ended = s.ended || ends_source line;
@@ -72,7 +73,7 @@ nothing_yet = record { entries = []; ended = false }
 
 -- END is missing: all was read, and no END of the source is among it
 abbrev pub lacks_end : State → Bool
-lacks_end s = nat_lt (length s.entries) 65536 && not s.ended
+lacks_end s = nat_lt (length s.entries) (MOST_SOURCE_LINES + 1) && not s.ended
 
 -- the lines, with the missing END
 abbrev pub settled : State → List EntryTree

@@ -4,6 +4,7 @@ use Rattle.std.specs.Prelude.{slice_get, Option, Some, None, Result}
 use Rattle.std.specs.Str.{bytes_eq}
 use Rattle.m51_module.specs.declared.source.SourceFile.{SourceFile}
 use Rattle.std.specs.Str.Lines.{lines}
+use Rattle.m51_cells.specs.declared.limits.TheConstants.{MOST_INCLUDE_LEVELS, MOST_SOURCE_LINES}
 use Rattle.m51_stmt.specs.Statement.{StmtTree}
 use Rattle.m51_text.specs.declared.inclusion.Inclusion.{Inclusion}
 use Rattle.m51_text.specs.declared.inclusion.Inclusion.TheVariants.{Nothing, Refused, Given}
@@ -75,4 +76,5 @@ file_lines includes levels file bytes = lines_with (brought includes levels) lev
 
 -- the lines of a text, as far as they are read: eight levels of includes, and 65,536 lines
 unfoldable pub text_lines : SourceFile → List SourceFile → List TextLine
-text_lines source includes = take 65536 (file_lines includes 8 0 source.bytes)
+text_lines source includes =
+    take (MOST_SOURCE_LINES + 1) (file_lines includes MOST_INCLUDE_LEVELS 0 source.bytes)

@@ -12,12 +12,12 @@ use crate::inserting::read_file;
 use crate::missing_end::mark_missing_end;
 use crate::reading::Reading;
 use crate::text::{Line, Lines, Text};
-use m51_cells::{MISPLACED_END, NoMemory};
+use m51_cells::{MISPLACED_END, MOST_INCLUDE_LEVELS, NoMemory};
 use m51_module::{Fault, Faults, SourceFile};
 use std::alloc::{AllocError, Global};
 
 /// How many levels of includes may stand below the lines of a source.
-const MOST_LEVELS: u8 = 8;
+const MOST_LEVELS: u8 = MOST_INCLUDE_LEVELS as u8;
 
 // The faults of lines.
 fn faults_of(alloc: Global, entries: &[Entry]) -> Result<Vec<Fault>, AllocError>
@@ -88,16 +88,19 @@ fn told(alloc: Global, entries: Vec<Entry>) -> Result<Text, NoMemory>
     faults_or_lines(alloc, entries)
 }
 
-/// The text of a source and its includes, or its faults.
+/// The text of a source and its includes: its lines, or where a line has a fault the faults in the order of the lines.
 ///
 /// The lines of the text are those of the source in order, each line `$INCLUDE(name)` with the lines after it of the
 /// first include of exactly that name, which may bring in others: eight levels deep. Reading stops at line 65,536.
 ///
-/// A line has at most one fault, the first of these: E18 for a byte other than a tab and 20H to 7EH, in comments too;
-/// its fault as `read_line` gives it, E1 to E6, E11 and E12; E16 for more than blanks and a comment after the END of
-/// the source, for END in an include, and at the last line of the source where END is missing; E17 for an include that
-/// is not given or stands too deep; E19 for line 65,536. A source of no lines has E16 at line 1. Where reading stopped,
-/// END does not count as missing. Where a line has a fault, the answer is the faults in the order of the lines.
+/// A line has at most one fault, the first of these:
+///
+/// - E18: a byte other than a tab and 20H to 7EH, in a comment too;
+/// - E1 to E6, E11 and E12: as `read_line` gives them;
+/// - E16: more than blanks and a comment after the END of the source; END in an include; or END is missing, at the last
+///   line of the source, and at line 1 of one that has none. It is not missing where reading stopped;
+/// - E17: an include that is not given, or stands too deep;
+/// - E19: line 65,536.
 ///
 /// Error: out of memory.
 ///

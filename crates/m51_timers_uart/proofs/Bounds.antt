@@ -18,7 +18,8 @@ use Rattle.m51_timers_uart.specs.Timer2.{Overflowed, counted_times, gives_rate, 
 use Rattle.m51_timers_uart.specs.Sending.{Ticked, begun, bit_time, bit_times, clocked, ended, growth, moved, sending_ticked, serial_mode}
 use Rattle.m51_timers_uart.specs.Tick.{ticked}
 
-bit_most : (b : Bool) → bit_of b ≤ 1
+-- a bit is 0 or 1
+pub bit_most : (b : Bool) → bit_of b ≤ 1
 bit_most true = lit≤ tt
 bit_most false = lit≤ tt
 

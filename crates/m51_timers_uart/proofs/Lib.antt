@@ -5,3 +5,8 @@ pub mod Lines
 pub mod Rates
 pub mod Bounds
 pub mod Told
+pub mod Walk
+pub mod Spared
+pub mod Running
+pub mod InTime
+pub mod Cycles

@@ -1,25 +1,26 @@
 -- A byte of mode 1 over the overflows of timer 1.
-use Rattle.std.proofs.Common.{◌≡◌, ◌≢◌, ℕ, ◌+◌, ◌-◌, ◌*◌, ◌<◌, ◌≤◌, Bool, true, false, cond, List, [], ◌∷◌, refl, sym, ap, ◌∙◌, subst, arith}
+use Rattle.std.proofs.Common.{◌≡◌, ◌≢◌, ℕ, ◌+◌, ◌-◌, ◌*◌, ◌<◌, ◌≤◌, Bool, true, false, List, [], ◌∷◌, refl, sym, ap, ◌∙◌, subst, arith}
 use Rattle.std.specs.Prelude.{Option, Some, None, ◌==◌, nat_le, if◌then◌else◌}
 use Rattle.std.proofs.lemmas.Bool.{cond_both, eqb-true, eqb-false}
 use Rattle.std.proofs.lemmas.Bool.Decides.{nat_tests}
 use Rattle.m51_alu.specs.Arithmetic.{bit_of}
 use Rattle.m51_flat.specs.declared.state.Cpu.{Cpu}
-use Rattle.m51_flat.specs.Flags.{smod, tclk}
-use Rattle.m51_flat.specs.Sfr.{flag, pcon, t2con}
+use Rattle.m51_flat.specs.Flags.{smod, tclk, ti}
+use Rattle.m51_flat.specs.Sfr.{flag, pcon, scon, t2con, with_flag}
 use Rattle.m51_timers_uart.specs.declared.periph.Periph.{Periph}
 use Rattle.m51_timers_uart.specs.declared.periph.Sent.{Sent}
 use Rattle.m51_timers_uart.specs.Sending.{Ticked, begun, bit_time, bit_times, clocked, ended, growth, has_ninth, moved, sending_ticked, serial_mode}
-use Rattle.m51_timers_uart.specs.RateLaws.{AreRatedBy, IsRatedBy, IsSentInTime, LineTick, ModeOneIsSentInTime, line_after, overflows_in, overflows_of_bit, tick_line}
+use Rattle.m51_timers_uart.proofs.Bounds.{bit_most}
+use Rattle.m51_timers_uart.specs.RateLaws.{AreRatedBy, IsRatedBy, LineTick, ModeOneIsSentInTime, line_after, overflows_in, overflows_of_bit, tick_line}
 
 -- a byte of mode 1 on its way, after so many overflows: its bit times, at so many overflows each, and what is counted
-record OnItsWay (takes byte passed : ℕ) (p : Periph) : Type 0 where
-  mode : p.mode ≡ 1
-  is : p.byte ≡ byte
-  ninth : p.ninth ≡ None
-  some : p.left ≢ 0
-  counted : p.count < takes
-  rest : p.left * takes + passed ≡ 9 * takes + p.count
+pub record OnItsWay (takes byte passed : ℕ) (p : Periph) : Type 0 where
+  pub mode : p.mode ≡ 1
+  pub is : p.byte ≡ byte
+  pub ninth : p.ninth ≡ None
+  pub some : p.left ≢ 0
+  pub counted : p.count < takes
+  pub rest : p.left * takes + passed ≡ 9 * takes + p.count
 
 -- a tick of a byte on its way, by what it looks at
 abbrev passed_by : ℕ → Bool → Bool → Bool → ℕ → Periph → Periph
@@ -56,23 +57,19 @@ down_32 left count passed b ne h le = omega (arith, ne, h, le)
 down_16 : (left count passed b : ℕ) → left ≢ 0 → left * 16 + passed ≡ 9 * 16 + count → 16 ≤ count + b → (left - 1) * 16 + (passed + b) ≡ 9 * 16 + (count + b - 16)
 down_16 left count passed b ne h le = omega (arith, ne, h, le)
 
-at_most_one : (b : Bool) → bit_of b ≤ 1
-at_most_one true = omega arith
-at_most_one false = omega arith
-
 clocks : (twice : Bool) (byte passed : ℕ) (one : Bool) (p : Periph) → OnItsWay (overflows_of_bit twice) byte passed p
     → Clocks (overflows_of_bit twice) byte (passed + bit_of one) (clocked (bit_of one) (overflows_of_bit twice) p)
 unfolding clocked
 clocks true byte passed one p w =
     cond_both (nat_le 16 (p.count + bit_of one)) _ _ (Clocks 16 byte (passed + bit_of one))
     (λ e. let le : 16 ≤ p.count + bit_of one = grind (arith, nat_tests, e) in
-    record { mode = w.mode; is = w.is; ninth = w.ninth; counted = omega (arith, w.counted, at_most_one one); rest = down_16 p.left p.count passed (bit_of one) w.some w.rest le })
+    record { mode = w.mode; is = w.is; ninth = w.ninth; counted = omega (arith, w.counted, bit_most one); rest = down_16 p.left p.count passed (bit_of one) w.some w.rest le })
     (λ e. let lt : p.count + bit_of one < 16 = grind (arith, nat_tests, e) in
     record { mode = w.mode; is = w.is; ninth = w.ninth; counted = lt; rest = omega (arith, w.rest) })
 clocks false byte passed one p w =
     cond_both (nat_le 32 (p.count + bit_of one)) _ _ (Clocks 32 byte (passed + bit_of one))
     (λ e. let le : 32 ≤ p.count + bit_of one = grind (arith, nat_tests, e) in
-    record { mode = w.mode; is = w.is; ninth = w.ninth; counted = omega (arith, w.counted, at_most_one one); rest = down_32 p.left p.count passed (bit_of one) w.some w.rest le })
+    record { mode = w.mode; is = w.is; ninth = w.ninth; counted = omega (arith, w.counted, bit_most one); rest = down_32 p.left p.count passed (bit_of one) w.some w.rest le })
     (λ e. let lt : p.count + bit_of one < 32 = grind (arith, nat_tests, e) in
     record { mode = w.mode; is = w.is; ninth = w.ninth; counted = lt; rest = omega (arith, w.rest) })
 
@@ -109,38 +106,44 @@ none_left true left count passed h lt e = none_left_16 left count passed h lt e
 none_left false left count passed h lt e = none_left_32 left count passed h lt e
 
 -- a tick before the last overflow
-record Goes (takes byte passed : ℕ) (t : Ticked) : Type 0 where
-  way : OnItsWay takes byte passed t.periph
-  sent : t.sent ≡ None
+pub record Goes (takes byte passed : ℕ) (cpu : Cpu) (t : Ticked) : Type 0 where
+  pub way : OnItsWay takes byte passed t.periph
+  pub sent : t.sent ≡ None
+  pub same : t.cpu ≡ cpu
 
-goes_on : (takes byte passed : ℕ) (cpu : Cpu) (q : Periph) → Clocks takes byte passed q → q.left ≢ 0 → Goes takes byte passed (ended cpu q)
+goes_on : (takes byte passed : ℕ) (cpu : Cpu) (q : Periph) → Clocks takes byte passed q → q.left ≢ 0 → Goes takes byte passed cpu (ended cpu q)
 goes_on takes byte passed cpu q c ne =
-    cond_both (q.left == 0) _ _ (Goes takes byte passed) (λ e. absurd (ne (eqb-true q.left 0 e)))
-    (λ e. record { way = record { mode = c.mode; is = c.is; ninth = c.ninth; some = ne; counted = c.counted; rest = c.rest }; sent = refl })
+    cond_both (q.left == 0) _ _ (Goes takes byte passed cpu) (λ e. absurd (ne (eqb-true q.left 0 e)))
+    (λ e. record { way = record { mode = c.mode; is = c.is; ninth = c.ninth; some = ne; counted = c.counted; rest = c.rest }; sent = refl; same = refl })
 
-step : (twice : Bool) (byte passed : ℕ) (t : LineTick) (p : Periph) → IsRatedBy twice t → OnItsWay (overflows_of_bit twice) byte passed p
-    → passed + bit_of t.timer1 < 9 * overflows_of_bit twice → Goes (overflows_of_bit twice) byte (passed + bit_of t.timer1) (tick_line t p)
+pub step : (twice : Bool) (byte passed : ℕ) (t : LineTick) (p : Periph) → IsRatedBy twice t → OnItsWay (overflows_of_bit twice) byte passed p
+    → passed + bit_of t.timer1 < 9 * overflows_of_bit twice → Goes (overflows_of_bit twice) byte (passed + bit_of t.timer1) t.cpu (tick_line t p)
 step twice byte passed t p rated w lt =
     let q = clocked (bit_of t.timer1) (overflows_of_bit twice) p in
     let c = clocks twice byte passed t.timer1 p w in
-    subst (Goes (overflows_of_bit twice) byte (passed + bit_of t.timer1)) (sym (ticks twice t p rated w.mode w.some))
+    subst (Goes (overflows_of_bit twice) byte (passed + bit_of t.timer1) t.cpu) (sym (ticks twice t p rated w.mode w.some))
     (goes_on (overflows_of_bit twice) byte (passed + bit_of t.timer1) t.cpu q c (some_left twice q.left q.count (passed + bit_of t.timer1) c.rest lt))
 
-ends_sent : (cpu : Cpu) (q : Periph) → q.left ≡ 0 → (ended cpu q).sent ≡ Some (record { byte = q.byte; ninth = q.ninth })
-ends_sent cpu q e =
-    cond_both (q.left == 0) _ _ (λ (t : Ticked). t.sent ≡ Some (record { byte = q.byte; ninth = q.ninth })) (λ h. refl) (λ h. absurd (eqb-false q.left 0 h e))
+-- the last tick sends the byte and sets TI
+pub record Ends (byte : ℕ) (cpu : Cpu) (t : Ticked) : Type 0 where
+  pub sent : t.sent ≡ Some (record { byte = byte; ninth = None })
+  pub flagged : t.cpu ≡ with_flag cpu scon ti true
 
 same_sent : (b c : ℕ) (m n : Option Bool) → b ≡ c → m ≡ n → ◌≡◌ {A = Option Sent} (Some (record { byte = b; ninth = m })) (Some (record { byte = c; ninth = n }))
 same_sent b c m n e f = λ i. Some (record { byte = e i; ninth = f i })
 
-last : (twice : Bool) (byte passed : ℕ) (t : LineTick) (p : Periph) → IsRatedBy twice t → OnItsWay (overflows_of_bit twice) byte passed p
-    → passed + bit_of t.timer1 ≡ 9 * overflows_of_bit twice → (tick_line t p).sent ≡ Some (record { byte = byte; ninth = None })
+ends : (byte : ℕ) (cpu : Cpu) (q : Periph) → q.left ≡ 0 → q.byte ≡ byte → q.ninth ≡ None → Ends byte cpu (ended cpu q)
+ends byte cpu q e is ninth =
+    cond_both (q.left == 0) _ _ (Ends byte cpu)
+    (λ h. record { sent = same_sent q.byte byte q.ninth None is ninth; flagged = refl }) (λ h. absurd (eqb-false q.left 0 h e))
+
+pub last : (twice : Bool) (byte passed : ℕ) (t : LineTick) (p : Periph) → IsRatedBy twice t → OnItsWay (overflows_of_bit twice) byte passed p
+    → passed + bit_of t.timer1 ≡ 9 * overflows_of_bit twice → Ends byte t.cpu (tick_line t p)
 last twice byte passed t p rated w e =
     let q = clocked (bit_of t.timer1) (overflows_of_bit twice) p in
     let c = clocks twice byte passed t.timer1 p w in
-    ap (λ (k : Ticked). k.sent) (ticks twice t p rated w.mode w.some)
-    ∙ ends_sent t.cpu q (none_left twice q.left q.count (passed + bit_of t.timer1) c.rest c.counted e)
-    ∙ same_sent q.byte byte q.ninth None c.is c.ninth
+    subst (Ends byte t.cpu) (sym (ticks twice t p rated w.mode w.some))
+    (ends byte t.cpu q (none_left twice q.left q.count (passed + bit_of t.timer1) c.rest c.counted e) c.is c.ninth)
 
 -- over the ticks before it
 below : (a b c d : ℕ) → a + (b + c) < d → a + b < d
@@ -176,7 +179,7 @@ some_of : (twice : Bool) → 0 < overflows_of_bit twice
 some_of true = omega arith
 some_of false = omega arith
 
-begins : (twice : Bool) (cpu : Cpu) (byte : ℕ) (p : Periph) → serial_mode cpu ≡ 1 → OnItsWay (overflows_of_bit twice) byte 0 (begun cpu byte p)
+pub begins : (twice : Bool) (cpu : Cpu) (byte : ℕ) (p : Periph) → serial_mode cpu ≡ 1 → OnItsWay (overflows_of_bit twice) byte 0 (begun cpu byte p)
 unfolding begun
 begins twice cpu byte p e = begun_by (serial_mode cpu) byte _ p e (overflows_of_bit twice) (some_of twice)
 
@@ -199,5 +202,5 @@ sent_in_time cpu byte p twice before t mode rated now =
     = way_after twice byte 0 before (begun cpu byte p) rated (begins twice cpu byte p mode) in
     record {
       early = λ lt. (step twice byte (0 + overflows_in before) t (line_after before (begun cpu byte p)) now (way (less_first (overflows_in before) (bit_of t.timer1) (9 * takes) lt)) (from_zero (overflows_in before) (bit_of t.timer1) (9 * takes) lt)).sent;
-      sent = λ e one. last twice byte (0 + overflows_in before) t (line_after before (begun cpu byte p)) now (way (less_one (overflows_in before) (9 * takes) e)) (one_of (overflows_in before) (9 * takes) t.timer1 one e);
+      sent = λ e one. (last twice byte (0 + overflows_in before) t (line_after before (begun cpu byte p)) now (way (less_one (overflows_in before) (9 * takes) e)) (one_of (overflows_in before) (9 * takes) t.timer1 one e)).sent;
     }

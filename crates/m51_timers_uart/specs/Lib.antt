@@ -10,3 +10,4 @@ pub mod CountLaws
 pub mod LineLaws
 pub mod KeptLaws
 pub mod RateLaws
+pub mod RowLaws

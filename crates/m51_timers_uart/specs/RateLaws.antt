@@ -38,9 +38,11 @@ AreRatedBy twice (t ∷ ts) = IsRatedBy twice t × AreRatedBy twice ts
 abbrev pub overflows_of_bit : Bool → ℕ
 overflows_of_bit twice = if twice then 16 else 32
 
--- A byte of mode 1 is sent in the tick in which timer 1 has overflowed as often as its nine bit times take, and in none before.
+-- A byte of mode 1 is sent in the tick in which timer 1 has overflowed as often as its nine bit times take, and in
+-- none before.
 pub record IsSentInTime (twice : Bool) (byte : ℕ) (before : List LineTick) (t : LineTick) (p : Periph) : Type 0 where
-  pub early : overflows_in before + bit_of t.timer1 < 9 * overflows_of_bit twice → (tick_line t (line_after before p)).sent ≡ None
+  pub early : overflows_in before + bit_of t.timer1 < 9 * overflows_of_bit twice
+      → (tick_line t (line_after before p)).sent ≡ None
   pub sent : overflows_in before + 1 ≡ 9 * overflows_of_bit twice → t.timer1 ≡ true
       → (tick_line t (line_after before p)).sent ≡ Some (record { byte = byte; ninth = None })
 

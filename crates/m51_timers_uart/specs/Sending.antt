@@ -29,8 +29,8 @@ begun cpu byte p = record p {
   count = 0;
 }
 
--- what `count` grows by in modes 1 to 3: the twelve oscillator periods of a cycle in mode 2, else the overflows in this tick of
--- the timer that gives the rate
+-- what `count` grows by in modes 1 to 3: the twelve oscillator periods of a cycle in mode 2, else the overflows in
+-- this tick of the timer that gives the rate
 unfoldable pub growth : Cpu → ℕ → Bool → ℕ → ℕ
 growth cpu mode timer1 timer2 =
     if mode == 2 then 12 else (if flag cpu t2con tclk then timer2 else bit_of timer1)
@@ -66,7 +66,11 @@ pub record Ticked : Type 0 where
 abbrev pub ended : Cpu → Periph → Ticked
 ended cpu p =
     if p.left == 0
-    then record { cpu = with_flag cpu scon ti true; periph = p; sent = Some (record { byte = p.byte; ninth = p.ninth }) }
+    then record {
+      cpu = with_flag cpu scon ti true;
+      periph = p;
+      sent = Some (record { byte = p.byte; ninth = p.ninth });
+    }
     else record { cpu = cpu; periph = p; sent = None }
 
 unfoldable pub sending_ticked : Bool → ℕ → Cpu → Periph → Ticked

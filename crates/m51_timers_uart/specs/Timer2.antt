@@ -49,8 +49,8 @@ times2 levels cpu =
     if not (flag cpu t2con tr2) then 0 else (
     if flag cpu t2con ct2 then bit_of (falls levels T2) else (if gives_rate cpu then 6 else 1))
 
--- a fall of T2EX with EXEN2 sets EXF2; where timer 2 does not give the rate it is captured into RCAP2 with CP/RL2 1, and
--- reloaded from it with CP/RL2 0
+-- a fall of T2EX with EXEN2 sets EXF2; where timer 2 does not give the rate it is captured into RCAP2 with CP/RL2 1,
+-- and reloaded from it with CP/RL2 0
 abbrev pub captured : Cpu → Cpu
 captured cpu = with_bytes rcap2h rcap2l (bytes_at th2 tl2 cpu) cpu
 

@@ -3,8 +3,7 @@ ghost use Rattle.m51_timers_uart.specs.CountLaws.{TimersCountUp};
 ghost use Rattle.m51_timers_uart.specs.KeptLaws.{TheRestIsKept, TimerZeroIsTold};
 ghost use Rattle.m51_timers_uart.specs.LineLaws.{LineIsBounded, NinthBitsAreApart, OneBitPasses, OneByteIsSent};
 ghost use Rattle.m51_timers_uart.specs.RateLaws.{ModeOneIsSentInTime};
-
-use m51_flat::registers_are_written;
+ghost use Rattle.m51_timers_uart.specs.RowLaws.{ModeOneIsSentAtItsCycle, TimerOneCountsCycles};
 
 /// A timer overflows at the count that reaches its size and at none before, and then goes on from its reload value: in
 /// mode 1 after 65,536 counts less its number, in mode 2 after 256 less TL, and from TH.
@@ -12,6 +11,16 @@ use m51_flat::registers_are_written;
 /// Source: family manual.
 pub fn timers_count_up()
     ensures { TimersCountUp }
+{}
+
+/// Timer 1 in modes 0 to 2, while it runs free: TR1 is 1, GATE and C/T are 0. Each cycle counts by one. In the cycle in
+/// which the number comes to its size, 65,536 less it in mode 1 and 256 less TL1 in mode 2, TF1 is set, and the number
+/// is its reload value; in the cycles before it TF1 stays. The cycles come one after another; what runs between two
+/// ticks does not write TH1, TL1, TMOD and TR1, and timer 0 is not in mode 3 in the last of them.
+///
+/// Source: family manual.
+pub fn timer_1_counts_cycles()
+    ensures { TimerOneCountsCycles }
 {}
 
 /// In a tick at most one bit time passes, and what is sent is the byte on its way, when its last bit time passes.
@@ -35,13 +44,24 @@ pub fn ninth_bits_are_apart()
     ensures { NinthBitsAreApart }
 {}
 
-/// A byte of mode 1 is sent in the tick in which timer 1 has overflowed as often, since the write to SBUF, as its nine
-/// bit times take, 32 times each or with SMOD 16, and in none before; so with timer 1 in mode 2 at reload `r` a bit
-/// time has 32, or 16, times 256 - r counts. SMOD stays, and TCLK is 0.
+/// A write to SBUF in mode 1, by what the line is told: while TCLK is 0 and SMOD stays, the byte is sent in the tick in
+/// which timer 1 overflows for the last time of its nine bit times, each of 32 overflows or with SMOD 16, and in none
+/// before. How timer 1 comes to overflow does not matter.
 ///
 /// Source: family manual; own choice ("Bit times").
 pub fn mode_1_is_sent_in_time()
     ensures { ModeOneIsSentInTime }
+{}
+
+/// A write to SBUF in mode 1, while timer 1 runs free in mode 2 and gives the rate: the byte is sent, and TI set, in
+/// the cycle in which timer 1 overflows for the last time of its nine bit times, each of 32 overflows or with SMOD
+/// 16. That is 256 less TL1 cycles to the first overflow and 256 less TH1 to each later one. In no cycle before it is
+/// anything sent, nor TI changed. The cycles come one after another; what runs between two ticks does not write TH1,
+/// TL1, TMOD, TR1, TCLK, SMOD and SBUF.
+///
+/// Source: family manual; own choice ("Bit times").
+pub fn mode_1_is_sent_at_its_cycle()
+    ensures { ModeOneIsSentAtItsCycle }
 {}
 
 /// At most ten bit times are left, the mode is 0 to 3, and less has passed than the longest bit time: after a reset,
@@ -65,6 +85,4 @@ pub fn the_rest_is_kept()
 /// Source: family manual.
 pub fn timer_0_is_told()
     ensures { TimerZeroIsTold }
-{
-    registers_are_written();
-}
+{}

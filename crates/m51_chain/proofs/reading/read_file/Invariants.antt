@@ -1,11 +1,12 @@
 use Rattle.std.proofs.Common.{◌≡◌, ◌≤◌, ◌-◌, length, take, true, IfSome, string_bytes}
+use Rattle.m51_cells.specs.declared.limits.TheConstants.{MOST_FILE_BYTES}
 use Rattle.m51_cells.specs.Outside.{one_more}
 use Rattle.m51_chain.specs.Shelf.{Opens}
 use Rattle.m51_chain.proofs.reading.read_file.Given as goal
 
 abbrev pub invariant-loop-bytes : goal.invariant-loop-bytes
 invariant-loop-bytes g l = record {
-  most : length l.bytes ≤ 1048576;
+  most : length l.bytes ≤ MOST_FILE_BYTES;
   taken : (g.F.Shelf.state l.files).taken ≡ length l.bytes;
   ready : (g.F.Shelf.state l.files).ready ≡ true;
   named : (g.F.Shelf.state l.files).named ≡ string_bytes l.fn.name;

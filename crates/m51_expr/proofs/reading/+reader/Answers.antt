@@ -1,15 +1,14 @@
 use Rattle.std.proofs.Common.{◌<◌, ◌-◌, refl, sym, ap, ◌∙◌, arith, Some}
 use Rattle.std.proofs.lemmas.Result.{err_from_is_err_and}
-use Rattle.m51_expr.specs.Symbol.{symbol_at}
 use Rattle.m51_expr.specs.Ranks.{infix_of, prefix_of}
 use Rattle.m51_expr.specs.Tree.{tree_of, One, Two}
-use Rattle.m51_expr.specs.Reading.{or_no_expression, and_on, read, more}
+use Rattle.m51_expr.specs.Reading.{line_of, or_no_expression, and_on, read, more}
 use Rattle.m51_expr.proofs.Steps.{read_operand, read_prefix, read_plain, more_ends, more_goes, err_step, gives_same, gives_read}
 use Rattle.m51_expr.proofs.reading.+reader.Goals as goal
 
 pub more-returns-in_default-clause-gives : goal.more-returns-in_default-clause-gives
 more-returns-in_default-clause-gives t c = λ n le. ap or_no_expression
-    (more_ends n (n - 1) (symbol_at c.args.line.now c.args.tokens.now) c.args.rank (tree_of c.args.left) c.args.at (omega (arith, le))
+    (more_ends n (n - 1) (line_of c.args.symbols.now) c.args.rank (tree_of c.args.left) c.args.at (omega (arith, le))
     (ap (λ s. infix_of s c.args.rank) (sym c.symbol_at.ensures.symbol) ∙ sym c.infix_of.ensures.op ∙ c.in_default.is))
 
 pub more-returns-in_err-right-clause-gives : goal.more-returns-in_err-right-clause-gives
@@ -17,12 +16,12 @@ more-returns-in_err-right-clause-gives t c = λ n le.
     let inside = c.symbol_at.ensures.within (c.in-Some.ensures.some refl) in
     let p = err_from_is_err_and c.from_residual.result c.from_residual.ensures.1 in
     rw (p.1, p.2) (err_step c.in_err-right.field-0.0 _ _ _ (c.in_err-right.ensures.gives (n - 1) (omega (arith, le, inside)))
-    (more_goes n (n - 1) (symbol_at c.args.line.now c.args.tokens.now) c.args.rank (tree_of c.args.left) c.args.at c.in-Some.op (omega (arith, le))
+    (more_goes n (n - 1) (line_of c.args.symbols.now) c.args.rank (tree_of c.args.left) c.args.at c.in-Some.op (omega (arith, le))
     (ap (λ s. infix_of s c.args.rank) (sym c.symbol_at.ensures.symbol) ∙ sym c.infix_of.ensures.op ∙ c.in-Some.is)))
 
 pub more-returns-clause-gives : goal.more-returns-clause-gives
 more-returns-clause-gives t c = λ n le.
-    let line = symbol_at c.args.line.now c.args.tokens.now in
+    let line = line_of c.args.symbols.now in
     let inside = c.symbol_at.ensures.within (c.in-Some.ensures.some refl) in
     gives_same c.more.result _ _ (c.more.ensures.gives (n - 1) (omega (arith, le, inside, c.in_ok-right.ensures.within.0)))
     (more_goes n (n - 1) line c.args.rank (tree_of c.args.left) c.args.at c.in-Some.op (omega (arith, le))
@@ -32,7 +31,7 @@ more-returns-clause-gives t c = λ n le.
 
 pub read-returns-then-rank-eq-OPERAND-clause-gives : goal.read-returns-then-rank-eq-OPERAND-clause-gives
 read-returns-then-rank-eq-OPERAND-clause-gives t c = λ n le.
-    let line = symbol_at c.args.line.now c.args.tokens.now in
+    let line = line_of c.args.symbols.now in
     gives_same c.operand.result _ _ (c.operand.ensures.gives (n - 1) (omega (arith, le, c.if-rank-eq-OPERAND.true)))
     (ap (λ r. read n line r c.args.at) c.if-rank-eq-OPERAND.true ∙ read_operand n (n - 1) line c.args.at (omega (arith, le, c.if-rank-eq-OPERAND.true)))
 
@@ -41,13 +40,13 @@ read-returns-in_err-inner-in-Some-clause-gives t c = λ n le.
     let inside = c.symbol_at.ensures.within (c.in-Some.ensures.some refl) in
     let p = err_from_is_err_and c.from_residual.result c.from_residual.ensures.1 in
     rw (p.1, p.2) (err_step c.in_err-inner-in-Some.field-0.0 _ _ _ (c.in_err-inner-in-Some.ensures.gives (n - 1) (omega (arith, le, inside)))
-    (read_prefix n (n - 1) (symbol_at c.args.line.now c.args.tokens.now) c.args.rank c.args.at c.in-Some.op (omega (arith, le, c.requires.rank)) (omega (arith, c.requires.rank, c.if-rank-eq-OPERAND.false))
+    (read_prefix n (n - 1) (line_of c.args.symbols.now) c.args.rank c.args.at c.in-Some.op (omega (arith, le, c.requires.rank)) (omega (arith, c.requires.rank, c.if-rank-eq-OPERAND.false))
     (ap (λ s. prefix_of s c.args.rank) (sym c.symbol_at.ensures.symbol) ∙ sym c.prefix_of.ensures.op ∙ c.in-Some.is)))
 
 pub read-returns-in_ok-one-in-Some-clause-gives : goal.read-returns-in_ok-one-in-Some-clause-gives
 read-returns-in_ok-one-in-Some-clause-gives t c = λ n le.
     let inside = c.symbol_at.ensures.within (c.in-Some.ensures.some refl) in
-    ap or_no_expression (read_prefix n (n - 1) (symbol_at c.args.line.now c.args.tokens.now) c.args.rank c.args.at c.in-Some.op (omega (arith, le, c.requires.rank)) (omega (arith, c.requires.rank, c.if-rank-eq-OPERAND.false))
+    ap or_no_expression (read_prefix n (n - 1) (line_of c.args.symbols.now) c.args.rank c.args.at c.in-Some.op (omega (arith, le, c.requires.rank)) (omega (arith, c.requires.rank, c.if-rank-eq-OPERAND.false))
     (ap (λ s. prefix_of s c.args.rank) (sym c.symbol_at.ensures.symbol) ∙ sym c.prefix_of.ensures.op ∙ c.in-Some.is)
     ∙ ap (λ r. and_on r (λ e next. Some (One c.in-Some.op e, next))) (gives_read c.in_ok-inner-in-Some.inner c.in_ok-inner-in-Some.next _ (c.in_ok-inner-in-Some.ensures.gives (n - 1) (omega (arith, le, inside))))
     ∙ ap (λ e. Some (e, c.in_ok-inner-in-Some.next)) (sym c.in_ok-one-in-Some.ensures))
@@ -57,12 +56,12 @@ read-returns-in_err-left-in-None-clause-gives t c = λ n le.
     let p = err_from_is_err_and c.from_residual-in_err-left-in-None.result c.from_residual-in_err-left-in-None.ensures.1 in
     let low : c.args.rank < 8 = omega (arith, c.requires.rank, c.if-rank-eq-OPERAND.false) in
     rw (p.1, p.2) (err_step c.in_err-left-in-None.field-0.0 _ _ _ (c.in_err-left-in-None.ensures.gives (n - 1) (omega (arith, le, low)))
-    (read_plain n (n - 1) (symbol_at c.args.line.now c.args.tokens.now) c.args.rank c.args.at (omega (arith, le, low)) low
+    (read_plain n (n - 1) (line_of c.args.symbols.now) c.args.rank c.args.at (omega (arith, le, low)) low
     (ap (λ s. prefix_of s c.args.rank) (sym c.symbol_at.ensures.symbol) ∙ sym c.prefix_of.ensures.op ∙ c.in-None.is)))
 
 pub read-returns-in_ok-left-in-None-clause-gives : goal.read-returns-in_ok-left-in-None-clause-gives
 read-returns-in_ok-left-in-None-clause-gives t c = λ n le.
-    let line = symbol_at c.args.line.now c.args.tokens.now in
+    let line = line_of c.args.symbols.now in
     let low : c.args.rank < 8 = omega (arith, c.requires.rank, c.if-rank-eq-OPERAND.false) in
     gives_same c.more.result _ _ (c.more.ensures.gives (n - 1) (omega (arith, le, low, c.in_ok-left-in-None.ensures.within.0, c.in_ok-left-in-None.ensures.within.1)))
     (read_plain n (n - 1) line c.args.rank c.args.at (omega (arith, le, low)) low

@@ -3,10 +3,10 @@ use Rattle.m51_expr.specs.Reading.{enough}
 use Rattle.m51_expr.proofs.reading.+reader.Given as goal
 
 abbrev pub decreases-more : goal.decreases-more
-decreases-more l = enough (length l.tokens.now - l.at) 8
+decreases-more l = enough (length l.symbols.now - l.at) 8
 
 abbrev pub decreases-operand : goal.decreases-operand
-decreases-operand l = enough (length l.tokens.now - l.at) 9
+decreases-operand l = enough (length l.symbols.now - l.at) 9
 
 abbrev pub decreases-read : goal.decreases-read
-decreases-read l = enough (length l.tokens.now - l.at) l.rank
+decreases-read l = enough (length l.symbols.now - l.at) l.rank

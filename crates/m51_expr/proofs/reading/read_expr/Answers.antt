@@ -1,6 +1,5 @@
-use Rattle.std.proofs.Common.{length, ◌-◌, sym, subst, arith}
-use Rattle.m51_expr.specs.Symbol.{symbol_at}
-use Rattle.m51_expr.specs.Reading.{enough, read, GivesTree}
+use Rattle.std.proofs.Common.{length, sym, arith}
+use Rattle.m51_expr.specs.Reading.{line_of, enough, read}
 use Rattle.m51_expr.proofs.Complete.{expression_is}
 use Rattle.m51_expr.proofs.Steps.{gives_same}
 use Rattle.m51_expr.proofs.Sound.{found_of}
@@ -8,12 +7,11 @@ use Rattle.m51_expr.proofs.reading.read_expr.Goals as goal
 
 pub returns-clause-sound : goal.returns-clause-sound
 returns-clause-sound c =
-    found_of c.read.result (enough (length c.args.tokens.now - c.args.from) 0) (symbol_at c.args.line.now c.args.tokens.now) c.args.from
-    (subst (λ l. GivesTree c.read.result (read (enough (length c.args.tokens.now - c.args.from) 0) (symbol_at l c.args.tokens.now) 0 c.args.from)) c.as_bytes.ensures.value (c.read.ensures.gives _ (omega arith)))
+    let n = enough (length c.args.symbols.now) 0 in
+    found_of c.read.result n (line_of c.args.symbols.now) 0 (c.read.ensures.gives n (omega arith))
 
 pub returns-clause-complete : goal.returns-clause-complete
 returns-clause-complete c = λ e to whole.
-    let n = enough (length c.args.tokens.now - c.args.from) 0 in
-    gives_same c.read.result (read n (symbol_at c.args.line.now c.args.tokens.now) 0 c.args.from) _
-    (subst (λ l. GivesTree c.read.result (read n (symbol_at l c.args.tokens.now) 0 c.args.from)) c.as_bytes.ensures.value (c.read.ensures.gives n (omega arith)))
-    (sym (expression_is c.args.line.now c.args.tokens.now c.args.from e to whole))
+    let n = enough (length c.args.symbols.now) 0 in
+    gives_same c.read.result (read n (line_of c.args.symbols.now) 0 0) _ (c.read.ensures.gives n (omega arith))
+    (sym (expression_is c.args.symbols.now e to whole))

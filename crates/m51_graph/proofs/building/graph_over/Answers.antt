@@ -11,12 +11,15 @@ pub judge-requires-clause-units : goal.judge-requires-clause-units
 judge-requires-clause-units c =
     let segments = c.args.segments.now in
     let titles = c.args.titles.now in
-    let made = c.args.made.now in
-    let is : c.in_ok-parts.parts ≡ parts_of segments c.args.controls.now (edges_of (unit_titles segments) c.args.controls.now made) =
-    c.in_ok-parts.ensures ∙ ap (λ (names : List (List ℕ)). parts_of segments c.args.controls.now (edges_of names c.args.controls.now made)) c.requires.titles in
-    subst (λ (g : GraphParts). AreOfUnits g) (sym is)
-    (parts_fit segments c.args.controls.now made (subst (λ (names : List (List ℕ)). length names ≤ 1000) c.requires.titles c.requires.few) (subst (λ (names : List (List ℕ)). LeadWithin (length names) made) c.requires.titles c.requires.made))
+    let controls = c.args.controls.now in
+    let made = c.args.made.list in
+    let few : length (unit_titles segments) ≤ 1000 = subst (λ (names : List (List ℕ)). length names ≤ 1000) c.requires.titles c.titles.ensures.few in
+    let within : LeadWithin (length (unit_titles segments)) made = subst (λ (names : List (List ℕ)). LeadWithin (length names) made) c.requires.titles c.requires.made in
+    let is : c.in_ok-parts.parts ≡ parts_of segments controls (edges_of (unit_titles segments) controls made) =
+    c.in_ok-parts.ensures ∙ ap (λ (names : List (List ℕ)). parts_of segments controls (edges_of names controls made)) c.requires.titles in
+    subst (λ (g : GraphParts). AreOfUnits g) (sym is) (parts_fit segments controls made few within)
 
 pub judge-requires-clause-titles : goal.judge-requires-clause-titles
 judge-requires-clause-titles c =
-    ap (λ (names : List (List ℕ)). length names) c.requires.titles ∙ titles_are c.args.segments.now ∙ sym (ap (λ (g : GraphParts). length g.units) c.in_ok-parts.ensures)
+    ap (λ (names : List (List ℕ)). length names) (c.titles-2.ensures.titles ∙ c.requires.titles)
+    ∙ titles_are c.args.segments.now ∙ sym (ap (λ (g : GraphParts). length g.units) c.in_ok-parts.ensures)

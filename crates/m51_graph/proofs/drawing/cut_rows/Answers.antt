@@ -1,4 +1,4 @@
-use Rattle.std.proofs.Common.{◌||◌, ℕ, Bool, ap, ◌∙◌}
+use Rattle.std.proofs.Common.{◌||◌, ℕ, Bool, List, length, ap, ◌∙◌}
 use Rattle.m51_control.specs.declared.control.Control.{Control}
 use Rattle.m51_graph.specs.Drawing.{cuts}
 use Rattle.m51_graph.specs.Rows.{pairs}
@@ -6,7 +6,7 @@ use Rattle.m51_graph.proofs.Cutting.{lines_more}
 use Rattle.m51_graph.proofs.drawing.cut_rows.Goals as goal
 
 pub loop-line-init : goal.loop-line-init
-loop-line-init c = record { count = c.in_ok-set.ensures.count; pairs = λ u v. ap (λ (p : ℕ → ℕ → Bool). p u v) c.in_ok-set.ensures.pairs }
+loop-line-init c = record { count = c.in_ok-set.ensures.count ∙ ap (λ (names : List (List ℕ)). length names) c.titles.ensures.titles; pairs = λ u v. ap (λ (p : ℕ → ℕ → Bool). p u v) c.in_ok-set.ensures.pairs }
 
 pub loop-line-preserved : goal.loop-line-preserved
 loop-line-preserved c = record {

@@ -1,7 +1,10 @@
-use Rattle.std.proofs.Common.{◌≡◌, [], flat_map}
+use Rattle.std.proofs.Common.{◌≡◌, [], flat_map, length}
 use Rattle.std.specs.List.{range_with_len}
 use Rattle.m51_graph.specs.Drawing.{module_edges, with_edges}
 use Rattle.m51_graph.proofs.drawing.fixup_edges.Given as goal
 
 abbrev pub invariant-loop-module : goal.invariant-loop-module
-invariant-loop-module l = l.edges.items ≡ with_edges [] (flat_map (module_edges l.joined) (range_with_len 0 l.«module»))
+invariant-loop-module l = record {
+  count : l.edges.count ≡ length l.units;
+  drawn : l.edges.list ≡ with_edges [] (flat_map (module_edges l.joined) (range_with_len 0 l.«module»));
+}

@@ -11,7 +11,7 @@ put_edge-requires c =
     let titles : List (List ℕ) = c.args.titles.now in
     let name : List ℕ = c.name-item.result in
     subst (λ (found : Option (ℕ × ℕ)). IfSome found (λ edge. IsWithin c.loop-name.set.count edge)) (sym c.edge_named.ensures)
-    (subst (λ n. IfSome (edge_named titles c.args.from.now name) (λ edge. IsWithin n edge)) (sym (c.loop-name.invariant.count ∙ c.requires.count)) (named_there titles c.args.from.now name))
+    (subst (λ n. IfSome (edge_named titles c.args.from.now name) (λ edge. IsWithin n edge)) (sym (c.loop-name.invariant.count ∙ c.requires)) (named_there titles c.args.from.now name))
 
 pub loop-name-preserved : goal.loop-name-preserved
 loop-name-preserved c =

@@ -14,7 +14,7 @@ returns-in_err-member-clause-value c =
 
 pub loop-place-preserved : goal.loop-place-preserved
 loop-place-preserved c =
-    let push : c.push.new.modules.items ≡ c.loop-place.modules.items ++ c.in_ok-member.member ∷ [] = c.in_ok-push.ensures in
+    let push : c.push.new.self.items ≡ c.loop-place.modules.items ++ c.in_ok-member.member ∷ [] = c.in_ok-push.ensures.items in
     record {
       goes = rw push (one_more c.loop-place.modules.items c.args.count c.loop-place._place c.args.total c.loop-place.next c.in_ok-member.following c.in_ok-member.member
           c.loop-place.rest.now c.in_ok-member.after.now (modules_at c.args.count c.args.total c.args.number c.args.bytes.now) c.loop-place-test.true

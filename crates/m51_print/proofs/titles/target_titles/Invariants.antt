@@ -1,6 +1,7 @@
 use Rattle.std.proofs.Common.{◌≡◌, map}
 use Rattle.std.specs.List.{filter, range_with_len}
-use Rattle.m51_print.specs.Map.{unit_title, has_edge}
+use Rattle.m51_module.specs.Walks.{has_edge}
+use Rattle.m51_print.specs.Map.{unit_title}
 use Rattle.m51_print.proofs.titles.target_titles.Given as goal
 
 abbrev pub invariant-loop-target : goal.invariant-loop-target

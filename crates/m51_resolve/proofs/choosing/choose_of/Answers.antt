@@ -1,5 +1,6 @@
 use Rattle.std.proofs.Common.{◌≡◌, ℕ, Bor, Option, Some, None, List, length, ap, ◌∙◌}
 use Rattle.std.specs.Prelude.{nat_lt, position}
+use Rattle.m51_cells.specs.declared.limits.TheConstants.{MOST_MODULES}
 use Rattle.m51_module.specs.declared.parts.ModuleParts.{ModuleParts}
 use Rattle.m51_resolve.specs.Choice.{is_needed}
 use Rattle.m51_resolve.specs.WorkRules.{next_of}
@@ -16,7 +17,7 @@ loop-index-preserved c =
     let chosen = c.loop-index.chosen in
     let found : Some c.in-Some.index ≡ next_of chosen (index_in chosen c.deref.result.now) = c.in-Some.ensures in
     let found_in : Some c.in-Some.index ≡ index_in chosen c.loop-index.left.items =
-    next_taken (nat_lt 255 (length chosen)) (index_in chosen c.deref.result.now) c.in-Some.index found ∙ ap (index_in chosen) c.deref.ensures.value in
+    next_taken (nat_lt MOST_MODULES (length chosen)) (index_in chosen c.deref.result.now) c.in-Some.index found ∙ ap (index_in chosen) c.deref.ensures.value in
     rw (c.in_ok-chosen.ensures, c.in_ok-member.ensures, c.remove.ensures.items)
     (turn (λ m. m.now) chosen c.loop-index.left.items c.remove.result c.in-Some.index _ found_in c.remove.ensures.value c.loop-index.invariant)
 

@@ -1,4 +1,5 @@
 use Rattle.std.proofs.Common.{arith, ◌<◌, ◌≤◌, ◌≡◌, ◌*◌, ◌+◌, ◌++◌, length, length-append}
+use Rattle.m51_cells.specs.declared.limits.TheConstants.{MOST_MODULE_SEGMENTS}
 use Rattle.m51_resolve.proofs.Starts.{flat_all, flat_more, flat_start, valid_more}
 use Rattle.m51_resolve.proofs.flat.all_segments.Goals as goal
 
@@ -10,7 +11,7 @@ pub loop-module-preserved : goal.loop-module-preserved
 loop-module-preserved c =
     let there : c.loop-module.module-index < length c.args.modules.now = omega arith in
     let start : c.len.result ≡ length c.loop-module.items.items = omega arith in
-    let most : length (c.loop-module.items.items ++ c.module-item.result.segments) ≤ 254 * (c.loop-module.module-index + 1) =
+    let most : length (c.loop-module.items.items ++ c.module-item.result.segments) ≤ MOST_MODULE_SEGMENTS * (c.loop-module.module-index + 1) =
     omega (arith, length-append c.loop-module.items.items c.module-item.result.segments, c.loop-module.invariant.most, c.segments.ensures.valid.few_segments) in
     rw (c.in_ok-extend_from_slice.ensures.items, c.segments.ensures.list, c.in_ok-push.ensures.items)
     (record {

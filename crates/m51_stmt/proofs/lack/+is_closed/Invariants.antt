@@ -2,4 +2,4 @@ use Rattle.std.proofs.Common.{length}
 use Rattle.m51_stmt.proofs.lack.+is_closed.Given as goal
 
 abbrev pub decreases-is_closed : goal.decreases-is_closed
-decreases-is_closed l = length l.tokens.now
+decreases-is_closed l = length l.symbols.now

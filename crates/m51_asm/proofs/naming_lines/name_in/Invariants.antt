@@ -1,0 +1,9 @@
+use Rattle.std.proofs.Common.{◌≡◌, drop, map}
+use Rattle.m51_text.specs.Answer.{line_tree}
+use Rattle.m51_asm.specs.Parts.{name_in}
+use Rattle.m51_asm.proofs.naming_lines.name_in.Given as goal
+
+-- the lines so far give no name
+abbrev pub invariant-loop-line : goal.invariant-loop-line
+invariant-loop-line l =
+    name_in l.other (map line_tree (drop l.line-index l.lines)) ≡ name_in l.other (map line_tree l.lines)

@@ -1,0 +1,13 @@
+use Rattle.std.proofs.Common.{ap, ◌∙◌, ℕ}
+use Rattle.std.specs.Global.{Vec}
+use Rattle.std.specs.Map.{lookup}
+use Rattle.std.specs.Str.{bytes_eq}
+use Rattle.m51_asm.specs.Above.{value_in, known}
+use Rattle.m51_asm.proofs.KeptMeanings.{lookup_value}
+use Rattle.m51_asm.proofs.valuation.Values.get.Goals as goal
+
+pub returns : goal.returns
+returns c =
+    c.known.ensures
+    ∙ ap known (c.copied.ensures ∙ c.get.ensures.value ∙ ap (λ n. lookup (λ (k : Vec ℕ). bytes_eq n k.items) c.self.inside.values.entries) c.bytes.ensures.bytes)
+    ∙ lookup_value c.args.name.now c.self.inside.values.entries ∙ ap (λ v. value_in v c.args.name.now) c.self.view_is

@@ -1,0 +1,116 @@
+-- What is kept of the lines above a line, and what is told of the line by it. The facts are those of the loop over the
+-- lines of a text, by the assignment that fits it.
+use Rattle.std.specs.Prelude.{◌≡◌, ℕ, suc, ◌+◌, ◌%◌, ◌==◌, ◌&&◌, ◌||◌, not, Bool, true, nat_lt, if◌then◌else◌, List}
+use Rattle.std.specs.Prelude.{Option}
+use Rattle.std.specs.Prelude.{Some, None, option_map}
+use Rattle.m51_cells.specs.declared.fault.TheConstants.{BAD_FORM, PAST_THE_END, TOO_MANY}
+use Rattle.m51_cells.specs.declared.kind.Base.TheVariants as base
+use Rattle.m51_cells.specs.declared.kind.Kind.{Kind}
+use Rattle.m51_cells.specs.declared.limits.TheConstants.{MOST_MODULE_SEGMENTS, MOST_EXTERNALS}
+use Rattle.m51_cells.specs.Kinds.{is_absolute}
+use Rattle.m51_expr.specs.declared.value.Part.TheVariants.{Whole}
+use Rattle.m51_expr.specs.declared.value.Value.{Value}
+use Rattle.m51_stmt.specs.Statement.{BodyTree, Segment}
+use Rattle.m51_text.specs.Answer.{LineTree}
+use Rattle.m51_asm.specs.declared.placing.Placing.{Placing}
+use Rattle.m51_asm.specs.declared.counts.Counts.{Counts}
+use Rattle.m51_asm.specs.declared.giving.Giving.{Giving}
+use Rattle.m51_asm.specs.declared.stepping.LinePlace.{LinePlace}
+use Rattle.m51_asm.specs.declared.stepping.LineOutcome.{LineOutcome}
+use Rattle.m51_asm.specs.declared.stepping.LineOutcome.TheVariants as outcome
+use Rattle.m51_asm.specs.declared.told.Told.{Told}
+use Rattle.m51_asm.specs.Definitions.{definition_of}
+use Rattle.m51_asm.specs.Assignment.{TextSegment, Assignment, body_at, here_at, above}
+use Rattle.m51_asm.specs.Fitting.{last_absolute, size_at, filled, bank_before, externals_before}
+use Rattle.m51_asm.specs.PlacedFaults.{end_of, segments_before, operand_fault, placed_fault}
+use Rattle.m51_asm.specs.Table.{Table, first_in, first_of}
+use Rattle.m51_asm.specs.ValuesAbove.{value_above}
+use Rattle.m51_asm.specs.Located.{located_value}
+use Rattle.m51_asm.specs.Above.{value_in}
+use Rattle.m51_asm.specs.OpenSegments.{text_segment, last_in}
+use Rattle.m51_asm.specs.Filled.{size_in}
+use Rattle.m51_asm.specs.GivenValues.{expression_given}
+
+-- the table has the first definitions of the text
+abbrev pub IsTableOf : List LineTree → Table → Type 0
+IsTableOf lines table = (name : List ℕ) → first_in table name ≡ option_map first_of (definition_of lines name)
+
+-- what is kept is what the lines above line k give
+pub record IsAt (lines : List LineTree) (a : Assignment) (k : ℕ) (s : Placing) : Type 0 where
+  pub known : (name : List ℕ) → option_map located_value (value_in s.values name) ≡ value_above lines a k name
+  pub sizes : (id : ℕ) → size_in s.filled id ≡ filled lines a id k
+  pub segment : text_segment s.segment ≡ a.segment k
+  pub latest : (kind : Kind) → last_in s.last kind ≡ last_absolute a.segment kind k
+  pub selected : s.bank ≡ bank_before lines a k
+  pub numbered : s.segments ≡ segments_before lines a k
+  pub declared : s.externals ≡ externals_before lines k
+
+-- the place of a statement, as a value, where so much is given to its segment before
+abbrev pub here_of : TextSegment → ℕ → Value
+here_of s before = record {
+  number = (s.base + before) % 65536;
+  class = s.kind;
+  base = base.Segment s.id;
+  part = Whole;
+}
+
+-- what is told of line k is its form, its size, the segment that it leaves open, and the fault of its operand
+pub record IsTold (lines : List LineTree) (a : Assignment) (k : ℕ) (t : Told) : Type 0 where
+  pub form : t.form ≡ a.form k
+  pub size : t.size ≡ size_at lines a k
+  pub next : text_segment t.next ≡ a.segment (suc k)
+  pub operand : t.operand ≡ operand_fault lines (above lines a k) k (body_at lines k)
+
+-- the line numbers a segment: it declares one, or gives one that is absolute its first byte or bit
+abbrev pub numbers_one : TextSegment → ℕ → ℕ → BodyTree → Bool
+numbers_one s before size (Segment name kind reloc overlayable) = true
+numbers_one s before size body = is_absolute s.reloc && (before == 0 && not (size == 0))
+
+-- what is counted down to line k: the sizes of its segment and of the one that it leaves open, segments with a number,
+-- and externals
+pub record IsCounted (lines : List LineTree) (a : Assignment) (k : ℕ) (c : Counts) : Type 0 where
+  pub own : c.own ≡ filled lines a (a.segment k).id (suc k)
+  pub next : c.next ≡ filled lines a (a.segment (suc k)).id (suc k)
+  pub segments : c.segments ≡ segments_before lines a (suc k)
+  pub externals : c.externals ≡ externals_before lines (suc k)
+
+-- so much in a segment is past the end of its kind, or too much
+abbrev pub passes : TextSegment → ℕ → Bool
+passes s size = nat_lt (end_of s.kind) (s.base + size) || nat_lt 65535 size
+
+-- so many segments or externals are too many
+abbrev pub are_too_many : ℕ → ℕ → Bool
+are_too_many segments externals = nat_lt MOST_MODULE_SEGMENTS segments || nat_lt MOST_EXTERNALS externals
+
+-- the first fault of a line that repeats nothing: a place past its end, a misplaced statement, too many segments or
+-- externals, or that of its operand
+abbrev pub fault_by : Bool → Bool → Bool → Option ℕ → Option ℕ
+fault_by past misplaced many operand =
+    if past then Some PAST_THE_END
+    else if misplaced then Some BAD_FORM
+    else if many then Some TOO_MANY
+    else operand
+
+-- what the values of line k follow from, and the bank after it
+pub record IsGiving (lines : List LineTree) (a : Assignment) (k : ℕ) (body : BodyTree) (g : Giving) (after : ℕ)
+    : Type 0 where
+  pub here : located_value g.here ≡ here_at a k
+  pub expression : option_map located_value g.expression ≡ expression_given (above lines a k) body
+  pub line : g.line ≡ k
+  pub externals : g.externals ≡ externals_before lines k
+  pub selected : after ≡ bank_before lines a (suc k)
+
+-- where line k stands: its segment, the one that it leaves open, how much is given to its own before, its form, and the
+-- bank
+pub record IsPlaceOf (lines : List LineTree) (a : Assignment) (k : ℕ) (p : LinePlace) : Type 0 where
+  pub segment : text_segment p.segment ≡ a.segment k
+  pub next : text_segment p.next ≡ a.segment (suc k)
+  pub offset : p.offset ≡ filled lines a (a.segment k).id k
+  pub form : p.form ≡ a.form k
+  pub bank : p.bank ≡ bank_before lines a k
+
+-- what a line comes to: its fault; or none, its place, and what is kept down to it
+abbrev pub IsLineOutcome : List LineTree → Assignment → ℕ → LineOutcome → Type 0
+IsLineOutcome lines a k (outcome.Fault number) = placed_fault lines a k ≡ Some number
+IsLineOutcome lines a k (outcome.Stands placing place) =
+    (placed_fault lines a k ≡ None) × IsAt lines a (suc k) placing × IsPlaceOf lines a k place

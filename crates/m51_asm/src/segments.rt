@@ -1,0 +1,195 @@
+//! The segments of a text, and the one that a line leaves open.
+ghost use Rattle.std.specs.Prelude.{◌≡◌, ◌<◌, ◌&&◌, ◌+◌, map, option_map, unwrap_or, None, IfOk};
+ghost use Rattle.m51_cells.specs.declared.kind.Kind.{Kind};
+ghost use Rattle.m51_cells.specs.Kinds.{is_absolute};
+ghost use Rattle.m51_expr.specs.Tree.{tree_of};
+ghost use Rattle.m51_stmt.specs.Statement.{body_tree};
+ghost use Rattle.m51_text.specs.Answer.{line_tree};
+ghost use Rattle.m51_asm.specs.Assignment.{absolute};
+ghost use Rattle.m51_asm.specs.Fitting.{is_absolute_of, declared_in};
+ghost use Rattle.m51_asm.specs.OpenSegments.{text_segment, declared_how, declared_first, last_with, last_in};
+ghost use Rattle.m51_asm.specs.OpenSegments.{open_behind};
+
+use crate::above::reloc_at;
+use crate::definitions::How;
+use crate::names::FirstDefinition;
+use crate::sizes::number_of;
+use crate::values::Places;
+use m51_cells::{Kind, NoMemory, Reloc, is_absolute, same_kind};
+use m51_stmt::Body;
+use m51_text::Line;
+use std::alloc::Global;
+
+/// A segment of the text.
+#[derive(Clone, Copy, Debug, PartialEq, Eq)]
+pub(crate) struct OpenSegment {
+    /// That of line k, which declares or begins it, is k + 2; that of the opening one is 1.
+    pub(crate) id: usize,
+    pub(crate) kind: Kind,
+    pub(crate) reloc: Reloc,
+    /// The base of an absolute one, for BIT of a bit; 0 else.
+    pub(crate) base: u16,
+}
+
+/// A source begins in an absolute segment of CODE at 0.
+pub(crate) const OPENING: OpenSegment = OpenSegment {
+    id: 1,
+    kind: Kind::Code,
+    reloc: Reloc::Abs,
+    base: 0,
+};
+
+fn absolute(id: usize, kind: Kind, base: u16) -> OpenSegment
+    ensures { text_segment result ≡ absolute id kind base }
+{
+    OpenSegment {
+        id,
+        kind,
+        reloc: Reloc::Abs,
+        base,
+    }
+}
+
+fn declared_how(lines: &[Line], line: usize, how: How) -> Option<OpenSegment>
+    requires { line < 65536 }
+    ensures { option_map text_segment result ≡ declared_how (map line_tree lines.now) line how }
+{
+    match how {
+        How::Segment(kind) => Some(OpenSegment {
+            id: line + 2,
+            kind,
+            reloc: reloc_at(lines, line),
+            base: 0,
+        }),
+        _ => None,
+    }
+}
+
+/// The segment that a SEGMENT above line k declares under a name of this first definition, if one does.
+pub(crate) fn declared_first(
+    lines: &[Line],
+    k: usize,
+    first: Option<FirstDefinition>,
+) -> Option<OpenSegment>
+    requires { k < 65536 }
+    ensures { option_map text_segment result ≡ declared_first (map line_tree lines.now) k first }
+{
+    match first {
+        Some(first) => {
+            if first.line < k {
+                declared_how(lines, first.line, first.how)
+            } else {
+                None
+            }
+        }
+        None => None,
+    }
+}
+
+fn or_segment(segment: Option<OpenSegment>, other: OpenSegment) -> OpenSegment
+    ensures { text_segment result ≡ unwrap_or (option_map text_segment segment) (text_segment other) }
+{
+    match segment {
+        Some(segment) => segment,
+        None => other,
+    }
+}
+
+/// The segment that line k leaves open. The last absolute one of the kind of a CSEG or its kin and the segment that
+/// RSEG names are told.
+pub(crate) fn open_behind<P: Places>(
+    alloc: Global,
+    k: usize,
+    names: &P,
+    last: &LastAbsolute,
+    named: Option<OpenSegment>,
+    segment: OpenSegment,
+    body: &Body,
+) -> Result<OpenSegment, NoMemory>
+    requires { k < 65536 }
+    ensures { IfOk result (λ s. text_segment s
+        ≡ open_behind k (P.meanings names.now) (last_in last.now) (option_map text_segment named)
+        (text_segment segment) (body_tree body.now)) }
+{
+    match body {
+        Body::Rseg(_) => Ok(or_segment(named, segment)),
+        Body::Select(kind, Some(e)) => Ok(absolute(k + 2, *kind, number_of(alloc, names, e)?)),
+        Body::Select(kind, None) => Ok(or_segment(last.of(*kind), absolute(k + 2, *kind, 0))),
+        Body::Org(e) => {
+            if is_absolute(segment.reloc) {
+                Ok(absolute(k + 2, segment.kind, number_of(alloc, names, e)?))
+            } else {
+                Ok(segment)
+            }
+        }
+        _ => Ok(segment),
+    }
+}
+
+/// The last absolute segment of each kind.
+#[derive(Clone, Copy)]
+pub(crate) struct LastAbsolute {
+    code: Option<OpenSegment>,
+    xdata: Option<OpenSegment>,
+    direct: Option<OpenSegment>,
+    idata: Option<OpenSegment>,
+    bits: Option<OpenSegment>,
+    number: Option<OpenSegment>,
+}
+
+// A segment, where it is an absolute one of the kind, or else another.
+fn last_of(segment: OpenSegment, kind: Kind, last: Option<OpenSegment>) -> Option<OpenSegment>
+    ensures { option_map text_segment result
+        ≡ last_with (text_segment segment) (λ k. option_map text_segment last) kind }
+{
+    if is_absolute(segment.reloc) && same_kind(segment.kind, kind) {
+        Some(segment)
+    } else {
+        last
+    }
+}
+
+impl LastAbsolute {
+    /// This one only.
+    pub(crate) fn of_first(segment: OpenSegment) -> LastAbsolute
+        ensures { (kind : Kind) → last_in result kind ≡ last_with (text_segment segment) (λ k. None) kind }
+    {
+        let none = LastAbsolute {
+            code: None,
+            xdata: None,
+            direct: None,
+            idata: None,
+            bits: None,
+            number: None,
+        };
+        none.with(segment)
+    }
+
+    /// The last one of a kind.
+    pub(crate) fn of(&self, kind: Kind) -> Option<OpenSegment>
+        ensures { option_map text_segment result ≡ last_in self.now kind }
+    {
+        match kind {
+            Kind::Code => self.code,
+            Kind::Xdata => self.xdata,
+            Kind::Direct => self.direct,
+            Kind::Idata => self.idata,
+            Kind::Bits => self.bits,
+            Kind::Number => self.number,
+        }
+    }
+
+    /// With one more segment, which may be absolute.
+    pub(crate) fn with(self, segment: OpenSegment) -> LastAbsolute
+        ensures { (kind : Kind) → last_in result kind ≡ last_with (text_segment segment) (last_in self) kind }
+    {
+        LastAbsolute {
+            code: last_of(segment, Kind::Code, self.code),
+            xdata: last_of(segment, Kind::Xdata, self.xdata),
+            direct: last_of(segment, Kind::Direct, self.direct),
+            idata: last_of(segment, Kind::Idata, self.idata),
+            bits: last_of(segment, Kind::Bits, self.bits),
+            number: last_of(segment, Kind::Number, self.number),
+        }
+    }
+}

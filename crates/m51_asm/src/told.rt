@@ -1,0 +1,79 @@
+//! What a line is told by the lines above it: its form, its size, the segment that it leaves open, and the fault of its
+//! operand.
+ghost use Rattle.std.specs.Prelude.{◌≡◌, ◌<◌, map, is_some, option_map, IfOk};
+ghost use Rattle.m51_stmt.specs.Statement.{body_tree};
+ghost use Rattle.m51_text.specs.Answer.{line_tree};
+ghost use Rattle.m51_asm.specs.Fitting.{form_by, size_by};
+ghost use Rattle.m51_asm.specs.LabelledNames.{with_label};
+ghost use Rattle.m51_asm.specs.LineFaults.{operand_fault_by};
+ghost use Rattle.m51_asm.specs.OpenSegments.{text_segment, declared_first, last_in, open_behind, named_by};
+ghost use Rattle.m51_asm.specs.Table.{first_in};
+
+use crate::labelled::{Labelled, form_of};
+use crate::names::Names;
+use crate::operand_faults::operand_fault;
+use crate::segments::{LastAbsolute, OpenSegment, declared_first, open_behind};
+use crate::sizes::size_by;
+use crate::values::Places;
+use m51_cells::{Name, NoMemory};
+use m51_isa::Jump;
+use m51_stmt::Body;
+use m51_text::Line;
+use std::alloc::Global;
+
+/// What is told of a line.
+#[derive(Clone, Copy)]
+pub(crate) struct Told {
+    /// The form of its JMP or CALL.
+    pub(crate) form: Jump,
+    /// How many bytes it gives, in BIT bits.
+    pub(crate) size: u64,
+    /// The segment that it leaves open.
+    pub(crate) next: OpenSegment,
+    /// The fault of its operand, if that must use names defined above and has one.
+    pub(crate) operand: Option<u8>,
+}
+
+/// The segment that the name of an RSEG names, if it is one that is declared above line k.
+pub(crate) fn named_by(lines: &[Line], names: &Names, k: usize, body: &Body) -> Option<OpenSegment>
+    requires { k < 65536 }
+    ensures { option_map text_segment result
+        ≡ named_by (λ name. declared_first (map line_tree lines.now) k (first_in names.now name)) (body_tree body.now) }
+{
+    match body {
+        Body::Rseg(name) => declared_first(lines, k, names.first(name)),
+        _ => None,
+    }
+}
+
+/// What is told of line k, where names stand for what lines above give. The one error is out of memory.
+pub(crate) fn tell<P: Places>(
+    alloc: Global,
+    k: usize,
+    names: &P,
+    label: Option<Name>,
+    last: &LastAbsolute,
+    named: Option<OpenSegment>,
+    segment: OpenSegment,
+    body: &Body,
+) -> Result<Told, NoMemory>
+    requires { k < 65536 }
+    ensures form { IfOk result (λ t. t.form ≡ form_by (with_label (P.meanings names.now) label) (body_tree body.now)) }
+    ensures size { IfOk result (λ t. t.size ≡ size_by (P.meanings names.now) t.form (body_tree body.now)) }
+    ensures next { IfOk result (λ t. text_segment t.next
+        ≡ open_behind k (P.meanings names.now) (last_in last.now) (option_map text_segment named)
+        (text_segment segment) (body_tree body.now)) }
+    ensures operand { IfOk result (λ t. t.operand
+        ≡ operand_fault_by (P.meanings names.now) (is_some named) (body_tree body.now)) }
+{
+    let form = form_of(alloc, &Labelled { names, label }, body)?;
+    let size = size_by(alloc, names, form, body)?;
+    let next = open_behind(alloc, k, names, last, named, segment, body)?;
+    let operand = operand_fault(alloc, names, named.is_some(), body)?;
+    Ok(Told {
+        form,
+        size,
+        next,
+        operand,
+    })
+}

@@ -1,0 +1,218 @@
+//! A monitor and the moves that it is put through.
+ghost use Rattle.std.specs.Prelude.{◌≡◌, ◌≤◌, ℕ, true};
+ghost use Rattle.m51_monitor.specs.Monitored.{HasAddress, HasLevel, Monitored, WasJudged};
+ghost use Rattle.m51_monitor.specs.Rising.{interrupts};
+ghost use Rattle.m51_monitor.specs.Transfers.{moved};
+ghost use Rattle.m51_cases.specs.Taken.{taken_by};
+
+use crate::monitor_layout::monitor;
+use m51_cells::{Cell, Event, NoMemory, Space};
+use m51_flat::{CellStore, Cpu, Effect, Put, Seen, Source, Transfer, reset};
+use m51_monitor::{Monitor, Move};
+use std::alloc::Global;
+
+/// What a step does, but for where it leads.
+#[derive(Clone, Copy)]
+pub(crate) enum Act {
+    /// To the next instruction.
+    Next,
+    /// To the next instruction, after this byte was stored at this address.
+    Store(u8, u8),
+    /// To the next instruction, after the bit of this address was stored.
+    Bit(u8, bool),
+    Jump,
+    /// A call that stores the address from which it is made.
+    Call,
+    Ret,
+    Reti,
+    /// A vectoring that stores the address at which it comes.
+    Vector(Source),
+}
+
+/// An address, and SP there.
+#[derive(Clone, Copy)]
+pub(crate) struct Spot {
+    pub pc: u8,
+    pub sp: u8,
+}
+
+impl Spot {
+    /// The processor there.
+    pub(crate) fn cpu(self) -> Cpu {
+        let mut cpu = reset();
+        cpu.pc = u16::from(self.pc);
+        cpu.regs[1] = self.sp;
+        cpu
+    }
+}
+
+impl Act {
+    // The transfer of control.
+    fn transfer(self) -> Transfer {
+        match self {
+            Act::Next | Act::Store(_, _) | Act::Bit(_, _) => Transfer::Next,
+            Act::Jump => Transfer::Jump,
+            Act::Call => Transfer::Call,
+            Act::Ret => Transfer::Ret,
+            Act::Reti => Transfer::Reti,
+            Act::Vector(source) => Transfer::Vector(source),
+        }
+    }
+
+    // The two writes.
+    fn puts(self, from: u8, sp: u8) -> (Put, Put) {
+        match self {
+            Act::Store(address, value) => (Put::Byte { address, value }, Put::Nothing),
+            Act::Bit(address, value) => (Put::Bit { address, value }, Put::Nothing),
+            Act::Call | Act::Vector(_) => (
+                Put::Byte {
+                    address: sp.wrapping_sub(1),
+                    value: from,
+                },
+                Put::Byte {
+                    address: sp,
+                    value: 0,
+                },
+            ),
+            _ => (Put::Nothing, Put::Nothing),
+        }
+    }
+
+    // The effect that leads there.
+    fn effect(self, from: Spot, to: Spot) -> Effect {
+        let (first, second) = self.puts(from.pc, to.sp);
+        Effect {
+            cpu: to.cpu(),
+            first,
+            second,
+            transfer: self.transfer(),
+            port: None,
+            sbuf: None,
+            cycles: 2,
+        }
+    }
+}
+
+// With so many interrupts in progress the move may be made.
+fn has_level(taken: u8, step: Move) -> bool
+    ensures { (m : Monitored) → interrupts m.records.returns ≡ taken → result ≡ true → HasLevel m step }
+{
+    match step {
+        Move::Interrupt(_, _) => taken < 2,
+        _ => true,
+    }
+}
+
+// The writes of a move that makes a record are bytes.
+fn has_address(effect: &Effect, step: Move) -> bool
+    ensures { result ≡ true → HasAddress effect.now step }
+{
+    match step {
+        Move::Stay | Move::Jump(_) | Move::Return => true,
+        _ => matches!(
+            (&effect.first, &effect.second),
+            (Put::Byte { .. }, Put::Byte { .. })
+        ),
+    }
+}
+
+// The interrupts in progress after the transfer.
+fn taken_by(transfer: Transfer, taken: u8) -> u8
+    requires { taken ≤ 2 }
+    ensures { result ≡ taken_by transfer taken }
+{
+    match transfer {
+        Transfer::Vector(_) => taken + 1,
+        Transfer::Reti => taken.saturating_sub(1),
+        _ => taken,
+    }
+}
+
+// The interrupts in progress after the move that was judged.
+fn taken_after(monitor: &Monitor, taken: u8, effect: &Effect, step: Move) -> u8
+    requires judged { WasJudged monitor.now effect.now step }
+    requires counted { interrupts monitor.now.records.returns ≡ taken }
+    ensures { result ≡ interrupts (moved monitor.now.records effect.now step).returns }
+{
+    let _depth = monitor.depth();
+    taken_by(effect.transfer, taken)
+}
+
+// What a read answers, as one byte.
+fn mark(seen: Seen) -> u8 {
+    match seen {
+        Seen::Outside(_) => b'.',
+        Seen::Unset(_) => b'?',
+        Seen::Value(value) => b'0'.wrapping_add(value),
+    }
+}
+
+/// A monitor, and how many interrupts are in progress.
+#[derive(Drop)]
+pub(crate) struct Run {
+    monitor: Monitor,
+    taken: u8,
+    ghost counted: { interrupts monitor.records.returns ≡ taken },
+}
+
+impl Run {
+    /// At the reset.
+    pub(crate) fn start(alloc: Global) -> Result<Run, NoMemory> {
+        let monitor = monitor(alloc)?;
+        Ok(Run { monitor, taken: 0 })
+    }
+
+    /// What the table says.
+    pub(crate) fn judge(&self, from: Spot, act: Act, to: Spot) -> Result<Move, Event> {
+        self.monitor.judge(&from.cpu(), &act.effect(from, to))
+    }
+
+    // Makes the move that was judged, where its writes are open.
+    fn make(&mut self, from: Spot, effect: &Effect) -> Option<Move> {
+        let Ok(step) = self.monitor.judge(&from.cpu(), effect) else {
+            return None;
+        };
+        if !has_level(self.taken, step)
+            || !has_address(effect, step)
+            || self.monitor.store().shut(&effect.first).is_some()
+            || self.monitor.store().shut(&effect.second).is_some()
+        {
+            return None;
+        }
+        let taken = taken_after(&self.monitor, self.taken, effect, step);
+        self.monitor.commit(effect, step);
+        self.taken = taken;
+        Some(step)
+    }
+
+    /// The move, where it is allowed and its writes are open.
+    pub(crate) fn go(&mut self, from: Spot, act: Act, to: Spot) -> Option<Move> {
+        self.make(from, &act.effect(from, to))
+    }
+
+    /// What the bytes 08H to 0DH, the bits 0 to 2 and the byte 20H hold: `.` is outside, `?` unset, and a digit a
+    /// value.
+    pub(crate) fn marks(&self) -> [u8; 10] {
+        let store = self.monitor.store();
+        [
+            mark(store.byte(0x08)),
+            mark(store.byte(0x09)),
+            mark(store.byte(0x0A)),
+            mark(store.byte(0x0B)),
+            mark(store.byte(0x0C)),
+            mark(store.byte(0x0D)),
+            mark(store.bit(0)),
+            mark(store.bit(1)),
+            mark(store.bit(2)),
+            mark(store.byte(0x20)),
+        ]
+    }
+
+    /// The live segment over a cell of internal RAM.
+    pub(crate) fn segment_at(&self, at: u32) -> Option<u16> {
+        self.monitor.segment_at(Cell {
+            space: Space::Ram,
+            at,
+        })
+    }
+}

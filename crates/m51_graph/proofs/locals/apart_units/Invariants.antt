@@ -1,0 +1,10 @@
+use Rattle.std.proofs.Common.{◌≡◌, ◌≤◌, ◌*◌, ℕ, length, take}
+use Rattle.m51_graph.specs.Bits.{bit}
+use Rattle.m51_graph.specs.Locals.{is_apart}
+use Rattle.m51_graph.proofs.locals.apart_units.Given as goal
+
+abbrev pub invariant-loop-line : goal.invariant-loop-line
+invariant-loop-line l = record {
+  room : length l.titles ≤ 64 * length l.row;
+  bits : (unit : ℕ) → bit l.row unit ≡ is_apart l.titles (take l.line-index l.controls) unit;
+}

@@ -1,0 +1,14 @@
+-- Of the code: edges while they are drawn.
+use Rattle.std.specs.Prelude.{ℕ, List, Option}
+use Rattle.std.specs.Option.{option_map_or}
+use Rattle.m51_module.specs.Walks.{Edges}
+use Rattle.m51_graph.specs.Drawing.{with_edge}
+
+-- edges between units, of which there are so many
+pub record DrawnEdges : Type 0 where
+  pub count : ℕ
+  pub list : Edges
+
+-- with that edge, if there is one, unless it is there
+abbrev pub with_found : Edges → Option (ℕ × ℕ) → Edges
+with_found edges found = option_map_or (with_edge edges) found edges

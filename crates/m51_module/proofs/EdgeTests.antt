@@ -1,0 +1,35 @@
+-- The test for an edge holds exactly where there is one.
+use Rattle.std.proofs.Common.{◌≡◌, ◌⊎◌, inl, inr, ℕ, Bool, true, false, slice_index_or, refl, sym, subst, ◌∙◌}
+use Rattle.std.specs.Prelude.{◌==◌, ◌&&◌, IsTrue, ◌↔◌}
+use Rattle.std.specs.Cmp.Derive.{both_true}
+use Rattle.std.specs.List.{Any}
+use Rattle.std.proofs.lemmas.Bool.{and_parts, cases_Bool, eq-eqb, eqb-true, false≢true}
+use Rattle.std.proofs.lemmas.Bool.Decides.{same_from_decides}
+use Rattle.std.proofs.lemmas.List.Folds.{Any-from_list_any, list_any-from_Any}
+use Rattle.m51_cells.proofs.Small.{pair_is}
+use Rattle.m51_module.specs.Walks.{Edges, HasEdge, has_edge}
+
+pub edge_from_test : (edges : Edges) (from to : ℕ) → has_edge edges from to ≡ true → HasEdge edges from to
+edge_from_test edges from to h = there (Any-from_list_any _ edges h) where
+  there : Any (λ (edge : ℕ × ℕ). ((edge.0 == from) && (edge.1 == to)) ≡ true) edges → HasEdge edges from to
+  there (k, edge, below, at, is) =
+      let parts = and_parts (edge.0 == from) (edge.1 == to) is in
+      let e = pair_is edge from to (eqb-true edge.0 from parts.0) (eqb-true edge.1 to parts.1) in
+      (k, below, subst (λ (p : ℕ × ℕ). slice_index_or edges k p ≡ p) e at)
+
+pub test_from_edge : (edges : Edges) (from to : ℕ) → HasEdge edges from to → has_edge edges from to ≡ true
+test_from_edge edges from to h =
+    list_any-from_Any _ edges (h.0, (from, to), h.1, h.2, both_true (eq-eqb from from refl) (eq-eqb to to refl))
+
+-- so an answer that is true exactly where there is an edge is the test
+pub same_edge_test : (answer : Bool) (edges : Edges) (from to : ℕ) → (IsTrue answer ↔ HasEdge edges from to) → answer ≡ has_edge edges from to
+same_edge_test answer edges from to h =
+    same_from_decides {P = HasEdge edges from to} answer (has_edge edges from to) h (edge_from_test edges from to, test_from_edge edges from to)
+
+-- what the test tells
+pub edge_tells : (edges : Edges) (from to : ℕ)
+    → ((has_edge edges from to ≡ true) × HasEdge edges from to) ⊎ ((has_edge edges from to ≡ false) × (HasEdge edges from to → ⊥))
+edge_tells edges from to = elim (cases_Bool (has_edge edges from to)) as (λ _. ((has_edge edges from to ≡ true) × HasEdge edges from to) ⊎ ((has_edge edges from to ≡ false) × (HasEdge edges from to → ⊥))) [
+  | inl is ↦ inl (is, edge_from_test edges from to is)
+  | inr is_not ↦ inr (is_not, λ h. false≢true (sym is_not ∙ test_from_edge edges from to h))
+]

@@ -1,0 +1,7 @@
+use Rattle.std.proofs.Common.{arith}
+use Rattle.std.proofs.lemmas.Grind.{common_steps}
+use Rattle.m51_monitor.proofs.Topping.{last_split}
+use Rattle.m51_monitor.proofs.judging.topmost.Goals as goal
+
+pub returns : goal.returns
+returns c = last_split c.args.frames.now _ (grind (arith, common_steps))

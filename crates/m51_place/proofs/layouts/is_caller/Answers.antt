@@ -1,0 +1,10 @@
+use Rattle.std.proofs.lemmas.Bool.Decides.{same_from_decides}
+use Rattle.m51_graph.specs.Drawing.{edge_test}
+use Rattle.m51_graph.proofs.Closed.{edge_tells}
+use Rattle.m51_place.proofs.layouts.is_caller.Goals as goal
+
+pub returns : goal.returns
+returns c =
+    let edges = c.args.graph.now.edges in
+    same_from_decides c.edge.result (edge_test edges c.args.caller c.args.unit) c.edge.ensures
+    (edge_tells edges c.args.caller c.args.unit)

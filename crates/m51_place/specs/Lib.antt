@@ -1,0 +1,12 @@
+pub mod Bases
+pub mod Bound
+pub mod Conflicts
+pub mod Fixed
+pub mod Heaviest
+pub mod Laws
+pub mod Naming
+pub mod Order
+pub mod Placement
+pub mod Places
+pub mod Raising
+pub mod Ready

@@ -1,0 +1,32 @@
+-- Where the joined segments are among the placed extents.
+use Rattle.std.specs.Prelude.{◌≡◌, ℕ, ◌+◌, ◌<◌, ◌≤◌, true, List, length, slice_get, slice_index, Some}
+use Rattle.m51_cells.specs.declared.kind.Kind.TheVariants.{Code}
+use Rattle.m51_cells.specs.Kinds.{is_absolute}
+use Rattle.m51_module.specs.declared.parts.LayoutParts.{LayoutParts}
+use Rattle.m51_module.specs.declared.placed.Mark.TheVariants.{Absolute}
+use Rattle.m51_module.specs.declared.placed.Placed.{Placed}
+use Rattle.m51_module.specs.Plan.{IsPlaced}
+use Rattle.m51_resolve.specs.declared.segment.JoinedSegment.{JoinedSegment}
+use Rattle.m51_place.specs.declared.placing.Placing.{Placing}
+
+-- the extent is the segment, an absolute one at its own base; one of program memory ends in it
+pub record IsSegmentAt (j : JoinedSegment) (p : Placed) : Type 0 where
+  pub title : p.title ≡ j.title
+  pub kind : p.kind ≡ j.kind
+  pub reloc : p.reloc ≡ j.reloc
+  pub size : p.size ≡ j.size
+  pub absolute : is_absolute j.reloc ≡ true → (p.mark ≡ Absolute) × (p.base ≡ j.base)
+  pub room : p.kind ≡ Code → p.base + p.size ≤ 65536
+
+-- the extent of that index is the segment
+pub record IsPlacedAs (l : LayoutParts) (index : ℕ) (j : JoinedSegment) : Type 0 where
+  pub placed : Placed
+  pub there : IsPlaced l index placed
+  pub is : IsSegmentAt j placed
+
+-- Each joined segment has an index: that of an extent of the layout, which is the segment.
+pub record ArePlaces (segments : List JoinedSegment) (p : Placing) : Type 0 where
+  pub len : length p.places ≡ length segments
+  pub below : (k : ℕ) → k < length p.places → slice_index p.places k < length p.layout.placed
+  pub each : (number : ℕ) (j : JoinedSegment) → slice_get segments number ≡ Some j
+      → IsPlacedAs p.layout (slice_index p.places number) j

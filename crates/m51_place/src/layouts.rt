@@ -1,0 +1,205 @@
+//! The parts of a layout: what is placed where, and whose it is.
+ghost use Rattle.std.specs.Prelude.{◌≡◌, ◌<◌, ◌≤◌, ◌++◌, if◌then◌else◌, [], ◌∷◌, map, position, IfOk, IfSome, OnOk};
+ghost use Rattle.std.specs.Prelude.{Some, length, slice_get};
+ghost use Rattle.std.specs.List.{All, range_with_len};
+ghost use Rattle.m51_graph.specs.Drawing.{edge_test};
+ghost use Rattle.m51_place.specs.Conflicts.{callers_of, is_argument_at, owners_at, owners_with};
+ghost use Rattle.m51_place.specs.Placement.{is_number, owner_pairs, owners_of_extent, pairs_with, parts_of, place_of};
+ghost use Rattle.m51_place.specs.Ready.{IsNumbered};
+
+use crate::Numbered;
+use m51_cells::{ListOf, NoMemory};
+use m51_graph::Graph;
+use m51_module::{LayoutParts, Placed};
+use std::alloc::Global;
+
+// Whether the extent is the joined segment of that number.
+fn is_number(number: u16, extent: &Numbered) -> bool
+    ensures { result ≡ is_number number extent.now }
+{
+    match extent.number {
+        Some(other) => number == other,
+        None => false,
+    }
+}
+
+// The index of the joined segment of that number among these extents.
+fn first_numbered(located: &[Numbered], number: u16) -> Option<usize>
+    ensures place { result ≡ position (is_number number) located.now }
+    ensures inside { IfSome result (λ place. place < length located.now) }
+{
+    located.iter().position(|extent| is_number(number, extent))
+}
+
+// The same; 0 where it is not there.
+#[tactic(auto, unfolding(crate::specs::Placement::place_of))]
+fn place_of(located: &[Numbered], number: u16) -> u16
+    requires { length located.now < 65536 }
+    ensures { result ≡ place_of located.now number }
+{
+    match first_numbered(located, number) {
+        Some(place) => place as u16,
+        None => 0,
+    }
+}
+
+// The indexes of the joined segments of these numbers.
+fn places_of(alloc: Global, located: &[Numbered], numbers: &[u16]) -> Result<Vec<u16>, NoMemory>
+    requires { length located.now < 65536 }
+    ensures { IfOk result (λ places. places.items ≡ map (place_of located.now) numbers.now) }
+{
+    let mut places = Vec::new(alloc);
+    for number in numbers {
+        places.push(place_of(located, *number))?;
+    }
+    Ok(places)
+}
+
+// The indexes of so many joined segments.
+pub(crate) fn places(
+    alloc: Global,
+    located: &[Numbered],
+    count: usize,
+) -> Result<Vec<u16>, NoMemory>
+    requires few { length located.now < 65536 }
+    requires count { count ≤ 2000 }
+    ensures { IfOk result (λ places. places.items ≡ map (place_of located.now) (range_with_len 0 count)) }
+{
+    let mut places = Vec::new(alloc);
+    for number in 0..count {
+        places.push(place_of(located, number as u16))?;
+    }
+    Ok(places)
+}
+
+// The extents only.
+fn placed_of(alloc: Global, located: &[Numbered]) -> Result<Vec<Placed>, NoMemory>
+    ensures { IfOk result (λ placed. placed.items ≡ map (λ e. e.placed) located.now) }
+{
+    let mut placed = Vec::new(alloc);
+    for extent in located {
+        placed.push(extent.placed)?;
+    }
+    Ok(placed)
+}
+
+// Whether the joined segment is an argument segment.
+fn is_argument(graph: &Graph, number: u16) -> bool
+    requires { number < length graph.now.own }
+    ensures { result ≡ is_argument_at graph.now number }
+{
+    let parts = graph.parts();
+    parts.arguments.as_slice()[usize::from(number)]
+}
+
+// Whether an edge leads from the one unit to the other.
+fn is_caller(graph: &Graph, caller: u16, unit: u16) -> bool
+    requires caller { caller < length graph.now.units }
+    requires unit { unit < length graph.now.units }
+    ensures { result ≡ edge_test graph.now.edges caller unit }
+{
+    graph.edge(caller, unit)
+}
+
+// Adds the unit, if it passes.
+fn add_if(units: &mut Vec<u16>, passes: bool, unit: u16) -> Result<(), NoMemory>
+    ensures { OnOk result (units.new.items ≡ units.old.items ++ (if passes then unit ∷ [] else [])) }
+{
+    if passes {
+        units.push(unit)?;
+    }
+    Ok(())
+}
+
+// The units with an edge to the unit, ascending.
+#[tactic(auto, unfolding(crate::specs::Conflicts::callers_of))]
+fn callers_of(alloc: Global, graph: &Graph, unit: u16) -> Result<Vec<u16>, NoMemory>
+    requires { unit < length graph.now.units }
+    ensures { IfOk result (λ callers. callers.items ≡ callers_of graph.now unit) }
+{
+    let parts = graph.parts();
+    let mut callers = Vec::new(alloc);
+    for caller in 0..parts.units.len() {
+        let calls = is_caller(graph, caller as u16, unit);
+        add_if(&mut callers, calls, caller as u16)?;
+    }
+    Ok(callers)
+}
+
+// The owners of the joined segment of that number.
+fn owners_at(alloc: Global, graph: &Graph, number: u16) -> Result<Vec<u16>, NoMemory>
+    requires { number < length graph.now.own }
+    ensures { IfOk result (λ owners. owners.items ≡ owners_at graph.now number) }
+{
+    let mut owners = Vec::new(alloc);
+    if let Some(own) = graph.owner(number) {
+        owners.push(own)?;
+        if is_argument(graph, number) {
+            let callers = callers_of(alloc, graph, own)?;
+            owners.extend_from_slice(&callers)?;
+        }
+    }
+    Ok(owners)
+}
+
+// The owners of the extent, if it is overlaid.
+fn owners_of_extent(alloc: Global, graph: &Graph, extent: &Numbered) -> Result<Vec<u16>, NoMemory>
+    requires { IsNumbered graph.now extent.now }
+    ensures { IfOk result (λ owners. owners.items ≡ owners_of_extent graph.now extent.now) }
+{
+    match extent.number {
+        Some(number) => owners_at(alloc, graph, number),
+        None => Ok(Vec::new(alloc)),
+    }
+}
+
+// Adds the extent of that index with each of these owners.
+fn add_pairs(pairs: &mut Vec<(u16, u16)>, index: u16, owners: &[u16]) -> Result<(), NoMemory>
+    ensures { OnOk result (pairs.new.items ≡ pairs.old.items ++ pairs_with index owners.now) }
+{
+    for unit in owners {
+        pairs.push((index, *unit))?;
+    }
+    Ok(())
+}
+
+// Each overlaid one of these extents, with its owners.
+fn owner_pairs(
+    alloc: Global,
+    graph: &Graph,
+    located: &[Numbered],
+) -> Result<Vec<(u16, u16)>, NoMemory>
+    requires few { length located.now < 65536 }
+    requires numbered { All (IsNumbered graph.now) located.now }
+    ensures { IfOk result (λ pairs. pairs.items ≡ owner_pairs graph.now 0 located.now) }
+{
+    let mut pairs = Vec::new(alloc);
+    for (index, extent) in located.iter().enumerate() {
+        let owners = owners_of_extent(alloc, graph, extent)?;
+        add_pairs(&mut pairs, index as u16, &owners)?;
+    }
+    Ok(pairs)
+}
+
+// The parts of the layout of what was placed.
+pub(crate) fn parts_of(
+    alloc: Global,
+    graph: &Graph,
+    located: &[Numbered],
+) -> Result<LayoutParts, NoMemory>
+    requires few { length located.now < 65536 }
+    requires numbered { All (IsNumbered graph.now) located.now }
+    ensures { IfOk result (λ parts. parts ≡ parts_of graph.now located.now) }
+{
+    let parts = graph.parts();
+    let placed = placed_of(alloc, located)?;
+    let units = places_of(alloc, located, parts.units.as_slice())?;
+    let edges = parts.edges.as_slice().to_vec(alloc)?;
+    let owners = owner_pairs(alloc, graph, located)?;
+    Ok(LayoutParts {
+        placed: ListOf::of(placed),
+        units: ListOf::of(units),
+        edges: ListOf::of(edges),
+        owners: ListOf::of(owners),
+    })
+}

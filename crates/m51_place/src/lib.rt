@@ -1,0 +1,26 @@
+//! Places segments: the fixed extents first, and then each relocatable segment at the least base that is free.
+#![tactic(auto)]
+
+mod bases;
+mod chaining;
+mod conflicts;
+mod fixed;
+mod laws;
+mod layouts;
+mod naming;
+mod numbered;
+mod ordering;
+mod placing;
+mod ranked;
+mod searching;
+mod sharing;
+#[cfg(test)]
+mod tests;
+
+pub use chaining::heaviest;
+pub use laws::{
+    conflict_is_conflict, least_is_least, order_rises, sharing_is_meeting, weight_is_least,
+};
+pub use numbered::Numbered;
+pub use placing::{Placing, place, place_all};
+pub use ranked::{Group, Rank, Ranked};

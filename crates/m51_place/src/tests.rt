@@ -1,0 +1,233 @@
+//! Layouts of small programs, whose objects are put together here record by record.
+use crate::{heaviest, place};
+use m51_control::read_controls;
+use m51_graph::graph;
+use m51_module::{Layout, Refusal};
+use m51_records::read_module;
+use m51_resolve::resolve;
+use std::alloc::Global;
+use std::test::Fail;
+
+// Kinds and types as objects number them.
+const CODE: u8 = 0;
+
+const DATA: u8 = 2;
+
+const IDATA: u8 = 3;
+
+const ABSOLUTE: u8 = 0;
+
+const UNIT: u8 = 1;
+
+const PAGE: u8 = 5;
+
+// Adds a record: its type, its length, its payload, and a byte that makes the sum of all 0.
+fn add_record(object: &mut Vec<u8>, kind: u8, payload: &[u8]) -> Result<(), Fail> {
+    let len = payload.len().wrapping_add(1);
+    let low = (len % 256) as u8;
+    let high = (len / 256 % 256) as u8;
+    let mut sum = kind.wrapping_add(low).wrapping_add(high);
+    object.extend_from_slice(&[kind, low, high])?;
+    for byte in payload {
+        sum = sum.wrapping_add(*byte);
+        object.push(*byte)?;
+    }
+    object.push(0u8.wrapping_sub(sum))?;
+    Ok(())
+}
+
+// What a segment record says.
+#[derive(Clone, Copy)]
+struct Shape {
+    kind: u8,
+    reloc: u8,
+    mark: u8,
+    base: u8,
+    size: u8,
+}
+
+// Adds a segment.
+fn add_segment(alloc: Global, object: &mut Vec<u8>, shape: Shape, name: &[u8]) -> Result<(), Fail> {
+    let mut payload = Vec::new(alloc);
+    payload.extend_from_slice(&[shape.kind, shape.reloc, shape.mark, shape.base, 0])?;
+    payload.extend_from_slice(&[shape.size, 0, (name.len() % 256) as u8])?;
+    payload.extend_from_slice(name)?;
+    add_record(object, 0x0E, &payload)
+}
+
+// A relocatable segment; the mark 1 is OVERLAYABLE.
+fn relocatable(kind: u8, reloc: u8, mark: u8, size: u8) -> Shape {
+    Shape {
+        kind,
+        reloc,
+        mark,
+        base: 0,
+        size,
+    }
+}
+
+// A plain one of type UNIT.
+fn plain(kind: u8, size: u8) -> Shape {
+    relocatable(kind, UNIT, 0, size)
+}
+
+// An absolute segment of program memory, whose content is SJMP $.
+const RESET: Shape = Shape {
+    kind: CODE,
+    reloc: ABSOLUTE,
+    mark: 0,
+    base: 0,
+    size: 2,
+};
+
+// The start of an object of this version, with the reset as its first segment; the same payload ends it.
+fn begin(alloc: Global) -> Result<Vec<u8>, Fail> {
+    let mut object = Vec::new(alloc);
+    add_record(&mut object, 0x02, b"\x01A\x01")?;
+    add_segment(alloc, &mut object, RESET, b"")?;
+    Ok(object)
+}
+
+fn end(object: &mut Vec<u8>) -> Result<(), Fail> {
+    add_record(object, 0x04, b"\x01A\x01")
+}
+
+// The layout of the object and the control lines, or the refusal.
+fn layout_of(alloc: Global, object: &[u8], lines: &[u8]) -> Result<Result<Layout, Refusal>, Fail> {
+    if object.len() > 100000 || lines.len() > 100000 {
+        return Err(Fail::from("too many bytes"));
+    }
+    let module = match read_module(alloc, object) {
+        Ok((module, _len)) => module,
+        Err(_) => return Err(Fail::from("no object")),
+    };
+    let joined = match resolve(alloc, vec![in alloc; module]?, &[]) {
+        Ok(joined) => joined,
+        Err(_) => return Err(Fail::from("not joined")),
+    };
+    let controls = match read_controls(alloc, lines) {
+        Ok(controls) => controls,
+        Err(_) => return Err(Fail::from("no control lines")),
+    };
+    match graph(alloc, &joined, &controls) {
+        Ok(graph) => Ok(place(alloc, &joined, &graph, &controls)),
+        Err(_) => Err(Fail::from("no graph")),
+    }
+}
+
+// The base of the extent of that title.
+fn base_of(layout: &Result<Layout, Refusal>, title: &[u8]) -> Option<u16> {
+    match layout {
+        Ok(layout) => {
+            for placed in layout.placed() {
+                if placed.title.bytes() == title {
+                    return Some(placed.base);
+                }
+            }
+            None
+        }
+        Err(_) => None,
+    }
+}
+
+#[test]
+fn a_segment_takes_the_least_base_that_is_free(rt: HostRuntime) -> Result<(), Fail> {
+    let mut object = begin(rt.alloc())?;
+    add_segment(rt.alloc(), &mut object, plain(DATA, 4), b"A")?;
+    add_segment(rt.alloc(), &mut object, plain(IDATA, 2), b"?STACK")?;
+    add_segment(rt.alloc(), &mut object, plain(IDATA, 2), b"B")?;
+    let page = relocatable(CODE, PAGE, 0, 2);
+    add_segment(rt.alloc(), &mut object, page, b"P")?;
+    add_segment(rt.alloc(), &mut object, plain(CODE, 2), b"Q")?;
+    end(&mut object)?;
+    let layout = layout_of(rt.alloc(), &object, b"RESERVE(DATA(9-10))\nORDER(CODE, Q)")?;
+    assert_eq!(rt; base_of(&layout, b"RESERVE"), Some(9));
+    assert_eq!(rt; base_of(&layout, b"A"), Some(11));
+    assert_eq!(rt; base_of(&layout, b"B"), Some(15));
+    assert_eq!(rt; base_of(&layout, b"?STACK"), Some(17));
+    assert_eq!(rt; base_of(&layout, b"Q"), Some(2));
+    assert_eq!(rt; base_of(&layout, b"P"), Some(256));
+    Ok(())
+}
+
+// The name of the k-th unit or local: the four letters, and two that count.
+fn name_of(front: &[u8; 4], k: usize) -> [u8; 6] {
+    let high = (k / 16 % 16) as u8;
+    let low = (k % 16) as u8;
+    [
+        front[0],
+        front[1],
+        front[2],
+        front[3],
+        b'A' + high,
+        b'A' + low,
+    ]
+}
+
+// Adds the line by which the one calls two units.
+fn add_line(lines: &mut Vec<u8>, from: &[u8], first: usize) -> Result<(), Fail> {
+    lines.extend_from_slice(b"OVERLAY(")?;
+    lines.extend_from_slice(from)?;
+    lines.extend_from_slice(b" > ")?;
+    lines.extend_from_slice(&name_of(b"?PR?", first))?;
+    lines.extend_from_slice(b", ")?;
+    lines.extend_from_slice(&name_of(b"?PR?", first.wrapping_add(1)))?;
+    lines.extend_from_slice(b")\n")?;
+    Ok(())
+}
+
+// The bytes of the heaviest chain of the layout's only root.
+fn weight(alloc: Global, layout: &Result<Layout, Refusal>) -> Result<u32, Fail> {
+    match layout {
+        Ok(layout) => {
+            let chains = match heaviest(alloc, layout) {
+                Ok(chains) => chains,
+                Err(_) => return Err(Fail::from("out of memory")),
+            };
+            match chains.first() {
+                Some(chain) => Ok(chain.bytes),
+                None => Ok(0),
+            }
+        }
+        Err(_) => Err(Fail::from("refused")),
+    }
+}
+
+#[test]
+fn a_ladder_of_forty_layers_weighs_forty(rt: HostRuntime) -> Result<(), Fail> {
+    let mut object = begin(rt.alloc())?;
+    let mut lines = Vec::new(rt.alloc());
+    add_line(&mut lines, b"@0000", 0)?;
+    for unit in 0..80 {
+        add_segment(
+            rt.alloc(),
+            &mut object,
+            plain(CODE, 1),
+            &name_of(b"?PR?", unit),
+        )?;
+        let local = relocatable(DATA, UNIT, 1, 1);
+        add_segment(rt.alloc(), &mut object, local, &name_of(b"?DT?", unit))?;
+        if unit < 78 {
+            add_line(&mut lines, &name_of(b"?PR?", unit), unit / 2 * 2 + 2)?;
+        }
+    }
+    end(&mut object)?;
+    let layout = layout_of(rt.alloc(), &object, &lines)?;
+    assert_eq!(rt; weight(rt.alloc(), &layout)?, 40);
+    assert_eq!(rt; base_of(&layout, &name_of(b"?DT?", 0)), Some(8));
+    assert_eq!(rt; base_of(&layout, &name_of(b"?DT?", 1)), Some(8));
+    assert_eq!(rt; base_of(&layout, &name_of(b"?DT?", 79)), Some(47));
+    Ok(())
+}
+
+#[test]
+fn fixed_extents_are_refused_before_a_segment_without_room(rt: HostRuntime) -> Result<(), Fail> {
+    let mut object = begin(rt.alloc())?;
+    add_segment(rt.alloc(), &mut object, plain(DATA, 121), b"A")?;
+    end(&mut object)?;
+    let full = layout_of(rt.alloc(), &object, b"")?;
+    assert!(rt; matches!(full, Err(Refusal::L12 { name: _ })));
+    let shared = layout_of(rt.alloc(), &object, b"RESERVE(DATA(0-0))")?;
+    assert!(rt; matches!(shared, Err(Refusal::L9 { one: _, two: _ })));
+    Ok(())
+}

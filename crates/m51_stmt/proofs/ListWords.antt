@@ -1,0 +1,69 @@
+-- The words of printed lists.
+use Rattle.std.proofs.Common.{◌≡◌, ℕ, map, List, [], ◌∷◌, ◌++◌, refl, sym, ap, ◌∙◌, append_assoc, append-nil, subst}
+use Rattle.std.specs.Prelude.{codes}
+use Rattle.m51_expr.specs.declared.symbol.Symbol.{Symbol}
+use Rattle.m51_stmt.specs.Grammar.{IsList, Last, Comma}
+use Rattle.m51_stmt.specs.Printing.{word_text, separated}
+use Rattle.m51_stmt.proofs.LineCuts.{Word, laid, AreCut, symbol}
+use Rattle.m51_stmt.proofs.WordCuts.{sign_word, comma_cut}
+use Rattle.m51_stmt.proofs.PrintedTrees.{one_laid}
+
+abbrev pub comma_word : Word
+comma_word = sign_word 0x2C
+
+-- the words of a list, with commas between its parts
+abbrev pub list_words : {A : Type 0} → (A → List Word → List Word) → List A → List Word
+list_words words [] = []
+list_words words (a ∷ []) = words a []
+list_words words (a ∷ b ∷ more) = words a (comma_word ∷ list_words words (b ∷ more))
+
+-- each of a list is so
+abbrev pub Each : {A : Type 0} → (A → Type 0) → List A → Type 0
+Each P [] = Unit {0}
+Each P (a ∷ more) = P a × Each P more
+
+pub list_laid : {A : Type 0} (words : A → List Word → List Word) (text : A → List ℕ) → ((a : A) (rest : List Word) → laid (words a rest) ≡ text a ++ laid rest) → (xs : List A) → laid (list_words words xs) ≡ separated text xs
+list_laid words text is [] = refl
+list_laid words text is (a ∷ []) = is a [] ∙ simp append-nil
+list_laid words text is (a ∷ b ∷ more) =
+    is a (comma_word ∷ list_words words (b ∷ more))
+    ∙ ap (λ l. text a ++ l) (one_laid (codes ",") (laid (list_words words (b ∷ more))))
+    ∙ ap (λ l. text a ++ (word_text (codes ",") ++ l)) (list_laid words text is (b ∷ more))
+    ∙ sym (append_assoc (text a) (word_text (codes ",")) (separated text (b ∷ more)))
+
+pub list_cut : {A : Type 0} (P : A → Type 0) (words : A → List Word → List Word) → ((a : A) (rest : List Word) → P a → AreCut rest → AreCut (words a rest)) → (xs : List A) → Each P xs → AreCut (list_words words xs)
+list_cut P words is [] h = tt
+list_cut P words is (a ∷ []) h = is a [] h.0 tt
+list_cut P words is (a ∷ b ∷ more) h = is a (comma_word ∷ list_words words (b ∷ more)) h.0 (comma_cut, list_cut P words is (b ∷ more) h.1)
+
+-- a list that has a part, each of which is so
+abbrev pub OneOrMore : {A : Type 0} → (A → Type 0) → List A → Type 0
+OneOrMore P [] = ⊥
+OneOrMore P (a ∷ more) = P a × Each P more
+
+pub some_each : {A : Type 0} (P : A → Type 0) (xs : List A) → OneOrMore P xs → Each P xs
+some_each P [] is = absurd is
+some_each P (a ∷ more) is = is
+
+-- words before any others
+pub record IsPart (words : List Word → List Word) : Type 0 where
+  pub before : (rest : List Word) → map symbol (words rest) ≡ map symbol (words []) ++ map symbol rest
+
+pub one_part : (w : Word) → IsPart (λ rest. w ∷ rest)
+one_part w = record { before = λ rest. refl }
+
+pub two_parts : (g h : List Word → List Word) → IsPart g → IsPart h → IsPart (λ rest. g (h rest))
+two_parts g h p q = record {
+  before = λ rest.
+      p.before (h rest) ∙ ap (λ l. map symbol (g []) ++ l) (q.before rest)
+      ∙ sym (append_assoc (map symbol (g [])) (map symbol (h [])) (map symbol rest))
+      ∙ ap (λ l. l ++ map symbol rest) (sym (p.before (h [])));
+}
+
+-- a printed list is one of the grammar, where each part is
+pub list_said : {A : Type 0} (P : List Symbol → A → Type 0) (Q : A → Type 0) (words : A → List Word → List Word) → ((a : A) → IsPart (λ rest. words a rest)) → ((a : A) → Q a → P (map symbol (words a [])) a) → (xs : List A) → OneOrMore Q xs → IsList P (map symbol (list_words words xs)) xs
+list_said P Q words part says [] is = absurd is
+list_said P Q words part says (a ∷ []) is = Last (says a is.0)
+list_said P Q words part says (a ∷ b ∷ more) is =
+    subst (λ l. IsList P l (a ∷ b ∷ more)) (sym ((part a).before (comma_word ∷ list_words words (b ∷ more))))
+    (Comma (says a is.0) (list_said P Q words part says (b ∷ more) is.1))

@@ -66,7 +66,7 @@ fault_told lines a k s t c body f at told counts is once =
     ∙ sym (ap (λ b. cond b (Some 13) (fault_by (is_past lines a k) (is_misplaced (a.segment k) (body_at lines k)) (is_too_many lines a k)
     (operand_fault lines (above lines a k) k (body_at lines k)))) once)
 
-module _ (lines : List LineTree) (a : Assignment) (f : Fits lines a) (k : ℕ) (line : LineTree) (is : slice_get lines k ≡ Some line)
+module _ (lines : List LineTree) (a : Assignment) (k : ℕ) (line : LineTree) (is : slice_get lines k ≡ Some line)
     (once : is_repeated lines k ≡ false) (s : Placing) (at : IsAt lines a k s) (t : Told) (told : IsTold lines a k t)
     (c : Counts) (counts : IsCounted lines a k c) (g : Giving) (bank : ℕ) (gives : IsGiving lines a k line.stmt.body g bank) (n : Placing) where
   known_next : ((name : List ℕ) → value_in n.values name ≡ given_or g (map brief (definitions_in line.stmt)) name (value_in s.values name))

@@ -40,3 +40,11 @@ pub mod Filled
 pub mod GivenValues
 pub mod Placing
 pub mod FirstFault
+pub mod ValidTexts
+pub mod Passing
+pub mod ValuesAt
+pub mod Numbering
+pub mod ObjectNames
+pub mod Banks
+pub mod Publishing
+pub mod Contents

@@ -100,14 +100,16 @@ pub record IsGiving (lines : List LineTree) (a : Assignment) (k : ℕ) (body : B
   pub externals : g.externals ≡ externals_before lines k
   pub selected : after ≡ bank_before lines a (suc k)
 
--- where line k stands: its segment, the one that it leaves open, how much is given to its own before, its form, and the
--- bank
+-- where line k stands: its segment, the one that it leaves open, how much is given to its own before, its form, the
+-- banks before and after it, and the value of its expression where that defines a name
 pub record IsPlaceOf (lines : List LineTree) (a : Assignment) (k : ℕ) (p : LinePlace) : Type 0 where
   pub segment : text_segment p.segment ≡ a.segment k
   pub next : text_segment p.next ≡ a.segment (suc k)
   pub offset : p.offset ≡ filled lines a (a.segment k).id k
   pub form : p.form ≡ a.form k
   pub bank : p.bank ≡ bank_before lines a k
+  pub selected : p.selected ≡ bank_before lines a (suc k)
+  pub given : option_map located_value p.given ≡ expression_given (above lines a k) (body_at lines k)
 
 -- what a line comes to: its fault; or none, its place, and what is kept down to it
 abbrev pub IsLineOutcome : List LineTree → Assignment → ℕ → LineOutcome → Type 0

@@ -19,7 +19,8 @@ use m51_predefined::{absolute_register, predefined, register_value};
 use m51_stmt::Body;
 use m51_text::Line;
 
-fn is_bitaddressable(reloc: Reloc) -> bool
+/// Whether a type is BITADDRESSABLE.
+pub(crate) fn is_bitaddressable(reloc: Reloc) -> bool
     ensures { result ≡ is_bitaddressable reloc }
 {
     match reloc {
@@ -71,8 +72,8 @@ fn located(value: Value) -> Located
     }
 }
 
-// A name that the text does not define: a register of the bank, or a predefined one.
-fn undefined_value(mod51: bool, bank: u8, name: &Name) -> Option<Located>
+/// The value of a name that the text does not define: a register of the bank, or a predefined one.
+pub(crate) fn undefined_value(mod51: bool, bank: u8, name: &Name) -> Option<Located>
     ensures { option_map located_value result
         ≡ register_or_predefined mod51 bank name.now (absolute_register_of name.now) }
 {

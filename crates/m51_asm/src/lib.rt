@@ -4,7 +4,9 @@
 mod above;
 mod address;
 mod assembling;
+mod banks;
 mod code;
+mod contents;
 mod counting;
 mod counts;
 mod declared;
@@ -22,11 +24,18 @@ mod name_tests;
 mod names;
 mod naming;
 mod naming_lines;
+mod numbering;
 mod numbers;
+mod object_names;
 mod operand_faults;
 mod outcome;
+mod passing;
+#[cfg(test)]
+mod passing_tests;
 mod placing;
+mod predefining;
 mod publics;
+mod publishing;
 mod repeats;
 mod segments;
 mod sizes;
@@ -36,8 +45,10 @@ mod tables;
 #[cfg(test)]
 mod tests;
 mod told;
+mod valid_laws;
 mod valuation;
 mod values;
+mod values_at;
 mod work;
 
 pub use assembling::assemble;
@@ -51,3 +62,4 @@ pub use m51_module::{Fault, Faults, Row, Rows, SourceFile};
 pub use names::{FirstDefinition, Names};
 pub use outcome::Assembled;
 pub use repeats::{Definitions, define_names};
+pub use valid_laws::{answers_are_valid, parts_are_valid};

@@ -1,5 +1,5 @@
 //! What is kept of the lines above a line, and how it grows with the line.
-ghost use Rattle.std.specs.Prelude.{◌≡◌, ◌<◌, suc, Some, List, false, map, slice_get, IfOk};
+ghost use Rattle.std.specs.Prelude.{◌≡◌, ◌<◌, ℕ, suc, Some, List, false, map, slice_get, IfOk};
 ghost use Rattle.m51_stmt.specs.Statement.{body_tree};
 ghost use Rattle.m51_text.specs.Answer.{LineTree, line_tree};
 ghost use Rattle.m51_asm.specs.Assignment.{Assignment, body_at};
@@ -130,8 +130,8 @@ fn in_byte(number: u16) -> Result<u8, NoMemory>
     Ok(number as u8)
 }
 
-// What the values of line k follow from, and the bank after it.
-fn giving_of(
+/// What the values of line k follow from, and the bank after it. The one error is out of memory.
+pub(crate) fn giving_of(
     alloc: Global,
     text: &NamedText<'_>,
     k: usize,
@@ -186,28 +186,23 @@ impl Placing {
         }
     }
 
-    /// What is kept down to line k, where it has no fault. The one error is out of memory.
+    /// What is kept down to a line that has no fault, by what is told of it and by what its values follow from. The one
+    /// error is out of memory.
     pub(crate) fn after(
         self,
         alloc: Global,
-        text: &NamedText<'_>,
-        k: usize,
         line: &Line,
         told: &Told,
         counts: &Counts,
+        giving: &Giving,
+        bank: u8,
     ) -> Result<Placing, NoMemory>
-        requires within { k < 65536 }
-        requires line { slice_get (map line_tree text.now.lines.now) k ≡ Some (line_tree line.now) }
-        requires names { IsTableOf (map line_tree text.now.lines.now) text.now.names.now }
-        requires predefined { text.now.mod51 ≡ mod51 (map line_tree text.now.lines.now) }
-        ensures { IfOk result (λ s. (a : Assignment) → Fits (map line_tree text.now.lines.now) a
-            → is_repeated (map line_tree text.now.lines.now) k ≡ false
-            → IsAt (map line_tree text.now.lines.now) a k self
-            → IsTold (map line_tree text.now.lines.now) a k told.now
-            → IsCounted (map line_tree text.now.lines.now) a k counts.now
-            → IsAt (map line_tree text.now.lines.now) a (suc k) s) }
+        requires { giving.now.line < 65536 }
+        ensures { IfOk result (λ s. (lines : List LineTree) (a : Assignment) (k : ℕ)
+            → slice_get lines k ≡ Some (line_tree line.now) → is_repeated lines k ≡ false
+            → IsAt lines a k self → IsTold lines a k told.now → IsCounted lines a k counts.now
+            → IsGiving lines a k (body_tree line.now.stmt.body) giving.now bank → IsAt lines a (suc k) s) }
     {
-        let given = giving_of(alloc, text, k, &self, &line.stmt.body)?;
         let defined = definitions_in(alloc, &line.stmt)?;
         let Placing {
             values: before,
@@ -219,7 +214,7 @@ impl Placing {
             externals: _,
         } = self;
         let mut values = before;
-        take_in(alloc, &mut values, &given.0, &defined)?;
+        take_in(alloc, &mut values, giving, &defined)?;
         let mut filled = sizes;
         filled.set(segment.id, counts.own)?;
         Ok(Placing {
@@ -227,7 +222,7 @@ impl Placing {
             filled,
             segment: told.next,
             last: last.with(told.next),
-            bank: given.1,
+            bank,
             segments: counts.segments,
             externals: counts.externals,
         })

@@ -10,9 +10,10 @@ ghost use Rattle.m51_asm.specs.OpenSegments.{text_segment};
 ghost use Rattle.m51_asm.specs.Placing.{IsTableOf, IsAt, IsLineOutcome, passes, are_too_many, fault_by};
 
 use crate::counts::{Counts, are_too_many, count, fault_by, is_misplaced, passes};
-use crate::placing::{NamedText, Placing, told_of};
+use crate::placing::{NamedText, Placing, giving_of, told_of};
 use crate::segments::OpenSegment;
 use crate::told::Told;
+use crate::values::Located;
 use m51_cells::NoMemory;
 use m51_isa::Jump;
 use m51_stmt::Body;
@@ -31,6 +32,10 @@ pub(crate) struct LinePlace {
     pub(crate) form: Jump,
     /// The bank of the last USING above.
     pub(crate) bank: u8,
+    /// The bank after it.
+    pub(crate) selected: u8,
+    /// The value of the expression of its EQU or SET or of its address statement, if it has one.
+    pub(crate) given: Option<Located>,
 }
 
 /// What a line comes to.
@@ -88,14 +93,17 @@ pub(crate) fn step(
     match fault {
         Some(number) => Ok(LineOutcome::Fault(number)),
         None => {
+            let given = giving_of(alloc, text, k, &placing, body)?;
             let place = LinePlace {
                 segment,
                 next: told.next,
                 offset: placing.filled.of(segment.id),
                 form: told.form,
                 bank: placing.bank,
+                selected: given.1,
+                given: given.0.expression,
             };
-            let next = placing.after(alloc, text, k, line, &told, &counts)?;
+            let next = placing.after(alloc, line, &told, &counts, &given.0, given.1)?;
             Ok(LineOutcome::Stands(next, place))
         }
     }

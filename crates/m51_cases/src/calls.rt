@@ -39,7 +39,7 @@ pub fn outcome(
     let mut files = Vec::new(alloc);
     let name = Bytes::of(b"a.a51".as_slice().to_vec(alloc)?);
     files.push((name, Bytes::of(source.to_vec(alloc)?)))?;
-    let mut shelf = MemShelf::make(alloc, files, calls.to_vec(alloc)?)?;
+    let mut shelf = MemShelf::make(alloc, files, calls.to_vec(alloc)?, 0, 0)?;
     let mut sink = MemSink::make(alloc, writes.to_vec(alloc)?, 1000)?;
     let words = words_of(alloc, words)?;
     let status = chain(alloc, &words, &mut shelf, &mut sink);
@@ -144,7 +144,7 @@ fn a_hundred_instructions_are_taken_and_one_more_is_refused(rt: HostRuntime) -> 
 
 #[test]
 fn other_words_are_usage(rt: HostRuntime) -> Result<(), Fail> {
-    let cases: [&[&str]; 13] = [
+    let cases: [&[&str]; 19] = [
         &[],
         &["build"],
         &["build", "a.a51"],
@@ -156,7 +156,13 @@ fn other_words_are_usage(rt: HostRuntime) -> Result<(), Fail> {
         &["build", "--steps", "4", "a.asm"],
         &["build", "--steps", "4", "-a.a51"],
         &["build", "--steps", "4", "a.a51", "b.a51"],
-        &["build", "a.a51", "--steps", "4"],
+        &["build", "--steps", "4", "--hex", "a.hex", "a.a51"],
+        &["build", "--steps", "4", "--control", "c", "a.a51"],
+        &["build", "--steps", "4", "--script", "s", "a.a51"],
+        &["build", "--steps", "4", "a.obj"],
+        &["asm", "--out", "a.obj", "a.a51"],
+        &["flat", "--steps", "4", "--script", "s", "a.hex"],
+        &["gen", "--units", "1", "--start", "0", "--steps", "20"],
         &["build", "--steps", "4", ""],
     ];
     for words in cases {

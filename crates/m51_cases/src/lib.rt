@@ -8,6 +8,8 @@ mod devices;
 #[cfg(test)]
 mod faults;
 #[cfg(test)]
+mod libraries;
+#[cfg(test)]
 mod library_edits;
 #[cfg(test)]
 mod monitor_layout;
@@ -21,3 +23,5 @@ mod monitor_table;
 mod objects;
 #[cfg(test)]
 mod outside;
+#[cfg(test)]
+mod words;

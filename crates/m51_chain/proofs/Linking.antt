@@ -1,26 +1,24 @@
 -- What a linked program is: a layout of one unit, the root of the reset, and at most 65,536 bytes of content.
-use Rattle.std.proofs.Common.{◌≡◌, ℕ, zero, suc, ◌+◌, ◌-◌, ◌<◌, ◌≤◌, List, [], ◌∷◌, ◌++◌, Some, slice_get, refl, sym, ap, ◌∙◌, subst, arith, append_assoc, append-nil, length}
-use Rattle.std.specs.List.{All, AllPairs, Contains, filter}
+use Rattle.std.proofs.Common.{◌≡◌, ℕ, suc, ◌+◌, ◌-◌, ◌<◌, ◌≤◌, List, [], ◌∷◌, ◌++◌, Some, slice_get, refl, sym, ap, ◌∙◌, arith, append_assoc, append-nil, length}
+use Rattle.std.specs.List.{All, AllPairs}
 use Rattle.std.proofs.lemmas.List.Elements.{All-head, All-tail, All-contains}
 use Rattle.std.proofs.lemmas.List.Sums.{sum_by-cons}
 use Rattle.std.specs.Prelude.{map}
 use Rattle.m51_module.specs.declared.linked.Run.{Run}
-use Rattle.m51_module.specs.declared.parts.LayoutParts.{LayoutParts}
 use Rattle.m51_module.specs.declared.parts.ModuleParts.{ModuleParts}
 use Rattle.m51_module.specs.declared.placed.Placed.{Placed}
 use Rattle.m51_module.specs.declared.segment.Segment.{Segment}
-use Rattle.m51_module.specs.Plan.{IsRootAt}
 use Rattle.m51_module.specs.Validity.{IsValid}
 use Rattle.m51_linker.specs.declared.linked.Linked.{Linked}
 use Rattle.m51_linker.specs.Image.{IsContent}
 use Rattle.m51_linker.specs.Link.{IsLinked}
 use Rattle.m51_linker.specs.Placement.{ArePlaced, absolute_at, bank_0, fixed_of, relocatable_of}
-use Rattle.m51_linker.specs.Runs.{AreRuns, IsFilled, IsWholeRun}
+use Rattle.m51_linker.specs.Runs.{IsFilled, IsWholeRun}
 use Rattle.m51_linker.specs.Shape.{IsFirstShape}
 use Rattle.m51_linker.proofs.OrderLemmas.{pieces_in_order}
-use Rattle.m51_linker.proofs.SoundLemmas.{IsOne, one_start}
+use Rattle.m51_linker.proofs.SoundLemmas.{one_start}
 use Rattle.m51_linker.proofs.StartLemmas.{piece_start, zero_base}
-use Rattle.m51_chain.specs.Answer.{filled_by}
+use Rattle.m51_chain.specs.Builds.{filled_by}
 use Rattle.m51_chain.specs.Chains.{IsOneUnit}
 
 -- what is placed begins with the earlier extents

@@ -1,14 +1,14 @@
 -- The chain of a layout with one unit.
-use Rattle.std.proofs.Common.{◌≡◌, ◌≢◌, ◌⊎◌, ℕ, ◌<◌, ◌+◌, zero, suc, Bool, true, false, ◌&&◌, if◌then◌else◌, List, [], ◌∷◌, Option, Some, None, refl, length, sym, ap, ◌∙◌, inl, inr, arith, slice_get, zero-add}
+use Rattle.std.proofs.Common.{◌≡◌, ℕ, ◌<◌, ◌+◌, zero, suc, Bool, true, false, ◌&&◌, if◌then◌else◌, List, [], ◌∷◌, Some, refl, length, sym, ap, ◌∙◌, inr, arith, slice_get}
 use Rattle.std.specs.List.{All, Contains}
 use Rattle.m51_cells.proofs.Small.{all_one}
 use Rattle.m51_module.specs.declared.linked.Chain.{Chain}
 use Rattle.m51_module.specs.declared.parts.LayoutParts.{LayoutParts}
 use Rattle.m51_module.specs.declared.placed.Placed.{Placed}
 use Rattle.m51_print.specs.Map.{NamesUnits, map_of}
-use Rattle.m51_module.specs.Plan.{IsRootAt, owners_of}
-use Rattle.m51_module.specs.Walks.{IsWalk, Edges, HasEdge}
-use Rattle.m51_module.specs.Chains.{IsHeaviest, HasNoRoot, ChainsAt, AreHeaviest, data_of, weight_of, weight_along, ComesFirst, is_first, is_overlaid_data}
+use Rattle.m51_module.specs.Plan.{IsRootAt}
+use Rattle.m51_module.specs.Walks.{IsWalk, Edges}
+use Rattle.m51_module.specs.Chains.{IsHeaviest, HasNoRoot, AreHeaviest, data_of, weight_along}
 use Rattle.m51_chain.specs.Chains.{IsOneUnit, one_unit}
 
 none_there : (edges : Edges) (edge : ℕ × ℕ) → edges ≡ [] → Contains edges edge → ⊥

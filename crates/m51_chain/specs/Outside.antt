@@ -1,21 +1,55 @@
--- What contracts see of a shelf at a moment, and a failed call on it.
+-- What contracts see of a shelf at a moment, a failed call on it, and what a call changes.
 use Rattle.std.specs.Prelude.{◌≡◌, ℕ, Bool, false, List, Option}
-use Rattle.m51_cells.specs.Outside.{Rose, one_more}
-use Rattle.m51_chain.specs.Shelf.{Files}
+use Rattle.m51_cells.specs.Outside.{Rose}
+use Rattle.m51_sim.specs.Writing.{SinkState}
+use Rattle.m51_chain.specs.Shelf.{File, Files}
 
--- the files by name and what the open one holds, where the shelf tells them; the name last handed to start, empty
--- before, and whether its file can be read on; how many files were started, how many bytes of the open one were handed
--- out, and how many calls have failed, of which each count stops at the last value of a u64
-pub record ShelfState : Type 0 where
-  pub holds : Option Files
+-- Reading: what the open file holds, where told; the name last handed to start, empty before, and whether its file can
+-- be read on; how many bytes of it were handed out, and how many starts and pieces have failed, of which each count
+-- stops at the last value of a u64; and where told, the files that were started, in order, each with the bytes that
+-- were handed out of it.
+pub record ReadAt : Type 0 where
   pub opened : Option (List ℕ)
   pub named : List ℕ
   pub ready : Bool
-  pub starts : ℕ
   pub taken : ℕ
-  pub read_faults : ℕ
+  pub faults : ℕ
+  pub given : Option (List File)
 
--- the last call on the shelf failed: its count rose, and the file can't be read on
-pub record HasFailed (before after : ShelfState) : Type 0 where
-  pub rose : Rose before.read_faults after.read_faults
+-- Keeping: the files that were kept, where told; the name of the last one that was not, empty before; and how many were
+-- not, which stops likewise.
+pub record KeepAt : Type 0 where
+  pub kept : Option (List File)
+  pub missed : List ℕ
+  pub faults : ℕ
+
+-- the files by name, where told, what was read and what was kept
+pub record ShelfState : Type 0 where
+  pub holds : Option Files
+  pub reads : ReadAt
+  pub keeps : KeepAt
+
+-- the last call that reads has failed: its count rose, and the file can't be read on
+pub record HasFailed (before after : ReadAt) : Type 0 where
+  pub rose : Rose before.faults after.faults
   pub closed : after.ready ≡ false
+
+-- what a call changes: reading, keeping and writing before and after it
+pub record Change : Type 0 where
+  pub reads_before : ReadAt
+  pub reads : ReadAt
+  pub keeps_before : KeepAt
+  pub keeps : KeepAt
+  pub sink_before : SinkState
+  pub sink : SinkState
+
+-- the same by the states of a shelf and of a sink
+abbrev pub change : ShelfState → ShelfState → SinkState → SinkState → Change
+change old new sink_old sink_new = record {
+  reads_before = old.reads;
+  reads = new.reads;
+  keeps_before = old.keeps;
+  keeps = new.keeps;
+  sink_before = sink_old;
+  sink = sink_new;
+}

@@ -1,12 +1,13 @@
 //! The files of the system.
 ghost use Rattle.std.specs.Prelude.{◌≡◌, ◌≤◌, [], None, false, IfOk, IsTrue, OnErr, OnOk, is_ok, length, string_bytes};
 ghost use Rattle.m51_cells.specs.Outside.{HasCause, one_more};
-ghost use Rattle.m51_chain.specs.Shelf.{handed};
+ghost use Rattle.m51_chain.specs.Shelf.{handed, missed_after};
+ghost use Rattle.m51_chain.specs.Stored.{SameReading, SameStore};
 
 use crate::shelf::Shelf;
 use m51_sim::{Failed, MOST_TRIES};
 use std::fs;
-use std::io::{ErrorKind, Read};
+use std::io::{ErrorKind, Read, Write};
 use std::marker::Model;
 use std::rt::Files;
 
@@ -17,10 +18,11 @@ use std::rt::Files;
 pub struct DirShelf<R: Files> {
     rt: R,
     file: Option<R::File>,
-    starts: u64,
     name: Option<String>,
     taken: u64,
     faults: u64,
+    missed: Option<String>,
+    keep_faults: u64,
 }
 
 impl<R: Files> Model for DirShelf<R> {
@@ -30,11 +32,12 @@ impl<R: Files> Model for DirShelf<R> {
     ghost Value = { OpenFile };
 
     ghost view = { λ s. record {
-      starts = s.starts;
       name = name_bytes s.name;
       taken = s.taken;
       ready = is_some s.file;
       faults = s.faults;
+      missed = name_bytes s.missed;
+      keep_faults = s.keep_faults;
     } };
 }
 
@@ -43,15 +46,16 @@ impl<R: Files> DirShelf<R> {
     ///
     /// Source: own choice ("Calls on the outside").
     pub fn make(rt: R) -> DirShelf<R>
-        ensures { result ≡ record { starts = 0; name = []; taken = 0; ready = false; faults = 0 } }
+        ensures { result ≡ record { name = []; taken = 0; ready = false; faults = 0; missed = []; keep_faults = 0 } }
     {
         DirShelf {
             rt,
             file: None,
-            starts: 0,
             name: None,
             taken: 0,
             faults: 0,
+            missed: None,
+            keep_faults: 0,
         }
     }
 }
@@ -77,28 +81,56 @@ fn fill<R: Read>(file: &mut R, into: &mut [u8]) -> Result<usize, Failed>
     Ok(done)
 }
 
+// Writes all bytes. A write that takes none of them is a failure. One that a signal interrupts is made again,
+// `MOST_TRIES` times at most in a call.
+fn write_all<W: Write>(file: &mut W, bytes: &[u8]) -> Result<(), Failed> {
+    let mut done = 0;
+    let mut interrupted = 0;
+    while done < bytes.len() {
+        match file.write(&bytes[done..]) {
+            Ok(0) => return Err(Failed),
+            Ok(count) => done += count,
+            Err(error) if error.kind() == ErrorKind::Interrupted && interrupted < MOST_TRIES => {
+                interrupted += 1;
+            }
+            Err(_) => return Err(Failed),
+        }
+    }
+    Ok(())
+}
+
+// Writes a file of this name with these bytes.
+fn put_file<R: Files>(rt: &R, name: &str, bytes: &[u8]) -> Result<(), Failed> {
+    match fs::create(rt, name) {
+        Ok(mut file) => write_all(&mut file, bytes),
+        Err(_) => Err(Failed),
+    }
+}
+
 impl<R: Files> Shelf for DirShelf<R> {
     ghost state = { λ shelf. record {
       holds = None;
-      opened = None;
-      named = shelf.name;
-      ready = shelf.ready;
-      starts = shelf.starts;
-      taken = shelf.taken;
-      read_faults = shelf.faults;
+      reads = record {
+        opened = None;
+        named = shelf.name;
+        ready = shelf.ready;
+        taken = shelf.taken;
+        faults = shelf.faults;
+        given = None;
+      };
+      keeps = record { kept = None; missed = shelf.missed; faults = shelf.keep_faults };
     } };
 
     fn start(&mut self, name: String) -> Result<(), Failed>
         ensures named { self.new.name ≡ string_bytes name }
         ensures ready { self.new.ready ≡ is_ok result }
-        ensures starts { self.new.starts ≡ one_more self.old.starts }
         ensures taken { self.new.taken ≡ 0 }
         ensures cause { HasCause self.old.faults self.new.faults result }
+        ensures store { SameStore self.old self.new }
         ensures opened { OnOk result (self.new.faults ≡ self.old.faults) }
         ensures counted { OnErr result (self.new.faults ≡ one_more self.old.faults) }
     {
         let opened = fs::open(&self.rt, name.as_str());
-        self.starts = self.starts.saturating_add(1);
         self.name = Some(name);
         self.taken = 0;
         match opened {
@@ -119,9 +151,9 @@ impl<R: Files> Shelf for DirShelf<R> {
         ensures bound { IfOk result (λ count. count ≤ length into.new) }
         ensures named { self.new.name ≡ self.old.name }
         ensures ready { self.new.ready ≡ is_ok result }
-        ensures starts { self.new.starts ≡ self.old.starts }
         ensures taken { self.new.taken ≡ handed self.old.taken result }
         ensures cause { HasCause self.old.faults self.new.faults result }
+        ensures store { SameStore self.old self.new }
         ensures read { OnOk result (self.new.faults ≡ self.old.faults) }
         ensures counted { OnErr result (self.new.faults ≡ one_more self.old.faults) }
     {
@@ -136,6 +168,23 @@ impl<R: Files> Shelf for DirShelf<R> {
             Err(Failed) => {
                 self.file = None;
                 self.faults = self.faults.saturating_add(1);
+                Err(Failed)
+            }
+        }
+    }
+
+    fn keep(&mut self, name: String, bytes: &[u8]) -> Result<(), Failed>
+        ensures missed { self.new.missed ≡ missed_after self.old.missed (string_bytes name) result }
+        ensures cause { HasCause self.old.keep_faults self.new.keep_faults result }
+        ensures reads { SameReading self.old self.new }
+        ensures kept { OnOk result (self.new.keep_faults ≡ self.old.keep_faults) }
+        ensures counted { OnErr result (self.new.keep_faults ≡ one_more self.old.keep_faults) }
+    {
+        match put_file(&self.rt, name.as_str(), bytes) {
+            Ok(()) => Ok(()),
+            Err(Failed) => {
+                self.missed = Some(name);
+                self.keep_faults = self.keep_faults.saturating_add(1);
                 Err(Failed)
             }
         }

@@ -1,18 +1,24 @@
-//! The top call, and the shelf that its files come from.
+//! The top call, and the shelf that its files come from and are kept in.
 #![tactic(auto)]
 
+mod asked;
 mod building;
+mod carrying;
 mod chains;
 mod files;
+mod flat;
 mod folder;
+mod library;
 mod memory;
+mod planning;
 mod reading;
-mod refusals;
+mod refusing;
 mod shelf;
 mod status;
 mod sure;
+mod target;
 mod top;
-mod words;
+mod work;
 
 pub use folder::DirShelf;
 pub use m51_sim::{Failed, MemSink, Sink, StdSink, SureSink};

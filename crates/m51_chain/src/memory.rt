@@ -1,9 +1,13 @@
 //! A shelf in memory, whose failures are listed.
-ghost use Rattle.std.specs.Prelude.{◌≡◌, ◌≤◌, ◌<◌, ◌↔◌, ◌⊎◌, [], false, Some, None, IsTrue, IfOk, OnOk};
+ghost use Rattle.std.specs.Prelude.{◌≡◌, ◌≤◌, ◌<◌, ◌↔◌, ◌⊎◌, ◌+◌, ◌-◌, ◌∷◌, ◌++◌, [], Some, None, IsTrue, IfOk};
+ghost use Rattle.std.specs.Prelude.{IsErr, OnOk};
+ghost use Rattle.std.specs.Prelude.{vec_capacity};
 ghost use Rattle.std.specs.Prelude.{Contains, is_ok, length, string_bytes};
+ghost use Rattle.std.specs.List.{All};
 ghost use Rattle.m51_cells.specs.Outside.{HasCause};
-ghost use Rattle.m51_chain.specs.Shelf.{Opens, IsPiece, handed, file_of, contents_at};
-ghost use Rattle.m51_chain.specs.Memory.{MemoryShelf, Starts, Reads};
+ghost use Rattle.m51_chain.specs.Shelf.{Opens, IsPiece, handed, file_of, contents_at, GrowsIfKept, missed_after};
+ghost use Rattle.m51_chain.specs.Memory.{FailsToKeep, FailsToRead, FailsToStart, IsPlace, SameFiles, made};
+ghost use Rattle.m51_chain.specs.Memory.{store_after, Reads, Starts};
 
 use crate::files::{contents, copy_piece, index_of};
 use crate::shelf::Shelf;
@@ -21,10 +25,13 @@ pub enum Call {
     Start,
     /// A piece of the open file.
     Piece,
+    /// A file to be kept.
+    Keep,
 }
 
-/// Files in memory. It tells what they hold; of two files of one name the first counts. A call fails exactly where its
-/// number, counted from 1 in its kind, is listed, and a start also where the file is not there.
+/// Files in memory. It tells what they hold and what was kept; of two files of one name the first counts, and what is
+/// kept does not show among those that are read. A call fails exactly where its number, counted from 1 in its kind, is
+/// listed, a start also where the file is not there, and a keep also where there is no place or no room for it.
 ///
 /// Source: own choice ("The outside").
 #[derive(Drop)]
@@ -38,13 +45,21 @@ pub struct MemShelf {
     taken: usize,
     ready: bool,
     faults: u64,
+    kept: Vec<(Bytes, Bytes)>,
+    // A place for each file that may still be kept, with room for all bytes that may.
+    places: Vec<Vec<u8>>,
+    room: usize,
+    keeps: u64,
+    missed: Option<String>,
+    keep_faults: u64,
 }
 
 impl Model for MemShelf {
-    ghost use Rattle.std.specs.Prelude.{◌≤◌, length};
+    ghost use Rattle.std.specs.Prelude.{◌≡◌, ◌≤◌, ◌+◌, [], length, vec_capacity};
+    ghost use Rattle.std.specs.List.{All};
     ghost use Rattle.m51_chain.specs.Shelf.{contents_at};
     ghost use Rattle.m51_chain.specs.Stored.{name_bytes};
-    ghost use Rattle.m51_chain.specs.Memory.{MemoryShelf};
+    ghost use Rattle.m51_chain.specs.Memory.{IsPlace, MemoryShelf};
 
     ghost Value = { MemoryShelf };
 
@@ -58,54 +73,60 @@ impl Model for MemShelf {
       taken = s.taken;
       ready = s.ready;
       faults = s.faults;
+      store = record {
+        kept = s.kept.items;
+        places = length s.places.items;
+        room = s.room;
+        calls = s.keeps;
+        missed = name_bytes s.missed;
+        faults = s.keep_faults;
+      };
     } };
 
-    ghost invariant = { λ s. s.taken ≤ length (contents_at s.files.items s.index) };
+    ghost invariant = { λ s. (s.taken ≤ length (contents_at s.files.items s.index))
+        × (length s.kept.items + length s.places.items ≤ vec_capacity s.kept)
+        × All (IsPlace s.room) s.places.items };
 }
 
-impl MemShelf {
-    /// A shelf of these files, by name, before its first call. `fails` lists the calls that fail. It takes no memory,
-    /// and never refuses: the result leaves room for a shelf that does.
-    ///
-    /// Source: own choice ("The outside").
-    pub fn make(
-        _alloc: Global,
-        files: Vec<(Bytes, Bytes)>,
-        fails: Vec<(Call, u32)>,
-    ) -> Result<MemShelf, NoMemory>
-        ensures { IfOk result (λ shelf. shelf ≡ record {
-          files = files.items;
-          fails = fails.items;
-          starts = 0;
-          pieces = 0;
-          name = [];
-          index = length files.items;
-          taken = 0;
-          ready = false;
-          faults = 0;
-        }) }
-    {
-        let index = files.len();
-        Ok(MemShelf {
-            files,
-            fails,
-            starts: 0,
-            pieces: 0,
-            name: None,
-            index,
-            taken: 0,
-            ready: false,
-            faults: 0,
-        })
+// So many places, each with this room.
+fn places_of(alloc: Global, count: u32, room: usize) -> Result<Vec<Vec<u8>>, NoMemory>
+    ensures places { IfOk result (λ places. length places.items ≡ count) }
+    ensures room { IfOk result (λ places. All (IsPlace room) places.items) }
+{
+    let mut places = Vec::new(alloc);
+    for _ in 0..count {
+        places.push(Vec::with_capacity(alloc, room)?)?;
     }
+    Ok(places)
+}
 
-    // Whether a start of that number fails: it is listed, or no file has the name.
-    fn start_fails(&self, number: u64, name: &[u8]) -> bool
-        ensures { IsTrue result
-            ↔ (Contains self.now.fails (Call.Start, number) ⊎ (file_of self.now.files name.now ≡ None)) }
-    {
-        is_listed(&self.fails, Call::Start, number)
-            || index_of(&self.files, name) == self.files.len()
+// Puts a file to those that are kept, in one of the places. It takes no memory.
+fn put_file(
+    kept: &mut Vec<(Bytes, Bytes)>,
+    places: &mut Vec<Vec<u8>>,
+    name: String,
+    bytes: &[u8],
+    room: usize,
+)
+    requires some { 0 < length places.old.items }
+    requires capacity { length kept.old.items + length places.old.items ≤ vec_capacity kept.old }
+    requires places { All (IsPlace room) places.old.items }
+    requires room { length bytes.now ≤ room }
+    ensures kept { kept.new.items ≡ kept.old.items ++ (string_bytes name, bytes.now) ∷ [] }
+    ensures fewer { length places.new.items ≡ length places.old.items - 1 }
+    ensures capacity { vec_capacity kept.old ≤ vec_capacity kept.new }
+    ensures places { All (IsPlace room) places.new.items }
+{
+    let Some(mut place) = places.pop() else {
+        unreachable!()
+    };
+    match place.extend_from_slice(bytes) {
+        Ok(()) => {}
+        Err(_) => unreachable!(),
+    }
+    match kept.push((Bytes::of(name.into_bytes()), Bytes::of(place))) {
+        Ok(()) => {}
+        Err(_) => unreachable!(),
     }
 }
 
@@ -118,15 +139,119 @@ fn is_listed(fails: &[(Call, u32)], call: Call, number: u64) -> bool
         .any(|fail| fail.0 == call && u64::from(fail.1) == number)
 }
 
+// A start of that number fails where it is listed, and where no file has the name.
+fn check_start(
+    fails: &[(Call, u32)],
+    files: &[(Bytes, Bytes)],
+    number: u64,
+    name: &[u8],
+) -> Result<(), Failed>
+    ensures { IsErr result ↔ (Contains fails.now (Call.Start, number) ⊎ (file_of files.now name.now ≡ None)) }
+{
+    if is_listed(fails, Call::Start, number) || index_of(files, name) == files.len() {
+        return Err(Failed);
+    }
+    Ok(())
+}
+
+// A piece of that number fails where it is listed.
+fn check_piece(fails: &[(Call, u32)], number: u64) -> Result<(), Failed>
+    ensures { IsErr result ↔ Contains fails.now (Call.Piece, number) }
+{
+    if is_listed(fails, Call::Piece, number) {
+        return Err(Failed);
+    }
+    Ok(())
+}
+
+// There must be a place, and room for so many bytes.
+fn check_room(places: usize, room: usize, count: usize) -> Result<(), Failed>
+    ensures { IsErr result ↔ ((places ≡ 0) ⊎ (room < count)) }
+{
+    if places == 0 || room < count {
+        return Err(Failed);
+    }
+    Ok(())
+}
+
+// A keep of that number fails where it is listed, and where there is no place or no room for so many bytes.
+fn check_keep(
+    fails: &[(Call, u32)],
+    number: u64,
+    places: usize,
+    room: usize,
+    count: usize,
+) -> Result<(), Failed>
+    ensures { IsErr result ↔ (Contains fails.now (Call.Keep, number) ⊎ ((places ≡ 0) ⊎ (room < count))) }
+{
+    if is_listed(fails, Call::Keep, number) {
+        return Err(Failed);
+    }
+    check_room(places, room, count)
+}
+
+impl MemShelf {
+    /// A shelf of these files, by name, before its first call. `fails` lists the calls that fail; `keeps` and `room`
+    /// are the most files, and the most bytes of all of them, that it keeps. Error: out of memory.
+    ///
+    /// Source: own choice ("The outside").
+    pub fn make(
+        alloc: Global,
+        files: Vec<(Bytes, Bytes)>,
+        fails: Vec<(Call, u32)>,
+        keeps: u32,
+        room: u32,
+    ) -> Result<MemShelf, NoMemory>
+        ensures { IfOk result (λ shelf. shelf ≡ made files.items fails.items keeps room) }
+    {
+        let index = files.len();
+        let kept = Vec::with_capacity(alloc, keeps as usize)?;
+        let places = places_of(alloc, keeps, room as usize)?;
+        Ok(MemShelf {
+            files,
+            fails,
+            starts: 0,
+            pieces: 0,
+            name: None,
+            index,
+            taken: 0,
+            ready: false,
+            faults: 0,
+            kept,
+            places,
+            room: room as usize,
+            keeps: 0,
+            missed: None,
+            keep_faults: 0,
+        })
+    }
+
+    /// The files that were kept, in order.
+    ///
+    /// Source: own choice ("The outside").
+    pub fn kept(&self) -> &[(Bytes, Bytes)]
+        ensures { result.now ≡ self.now.store.kept }
+    {
+        &self.kept
+    }
+}
+
 impl Shelf for MemShelf {
     ghost state = { λ shelf. record {
       holds = Some (file_of shelf.files);
-      opened = Some (contents_at shelf.files shelf.index);
-      named = shelf.name;
-      ready = shelf.ready;
-      starts = shelf.starts;
-      taken = shelf.taken;
-      read_faults = shelf.faults;
+      reads = record {
+        opened = Some (contents_at shelf.files shelf.index);
+        named = shelf.name;
+        ready = shelf.ready;
+        taken = shelf.taken;
+        faults = shelf.faults;
+        given = None;
+      };
+      keeps = record {
+        kept = Some shelf.store.kept;
+        missed = shelf.store.missed;
+        faults = shelf.store.faults;
+      };
     } };
 
     fn start(&mut self, name: String) -> Result<(), Failed>
@@ -136,21 +261,28 @@ impl Shelf for MemShelf {
         ensures ready { self.new.ready ≡ is_ok result }
         ensures taken { self.new.taken ≡ 0 }
         ensures cause { HasCause self.old.faults self.new.faults result }
-        ensures started { Starts self.old self.new (string_bytes name) result }
+        ensures store { self.new.store ≡ self.old.store }
+        ensures failed { IsErr result ↔ FailsToStart self.old (string_bytes name) }
+        ensures started { Starts self.old self.new result }
     {
         let number = self.starts.saturating_add(1);
-        let failed = self.start_fails(number, name.as_bytes());
+        let checked = check_start(&self.fails, &self.files, number, name.as_bytes());
         let index = index_of(&self.files, name.as_bytes());
         self.starts = number;
         self.taken = 0;
         self.index = index;
         self.name = Some(name);
-        self.ready = !failed;
-        if failed {
-            self.faults = self.faults.saturating_add(1);
-            return Err(Failed);
+        match checked {
+            Ok(()) => {
+                self.ready = true;
+                Ok(())
+            }
+            Err(Failed) => {
+                self.ready = false;
+                self.faults = self.faults.saturating_add(1);
+                Err(Failed)
+            }
         }
-        Ok(())
     }
 
     fn piece(&mut self, into: &mut [u8]) -> Result<usize, Failed>
@@ -163,16 +295,49 @@ impl Shelf for MemShelf {
         ensures ready { self.new.ready ≡ is_ok result }
         ensures taken { self.new.taken ≡ handed self.old.taken result }
         ensures cause { HasCause self.old.faults self.new.faults result }
+        ensures store { self.new.store ≡ self.old.store }
+        ensures failed { IsErr result ↔ FailsToRead self.old }
         ensures reads { Reads self.old self.new result }
     {
-        self.pieces = self.pieces.saturating_add(1);
-        if is_listed(&self.fails, Call::Piece, self.pieces) {
-            self.ready = false;
-            self.faults = self.faults.saturating_add(1);
-            return Err(Failed);
+        let number = self.pieces.saturating_add(1);
+        self.pieces = number;
+        match check_piece(&self.fails, number) {
+            Ok(()) => {
+                let count = copy_piece(contents(&self.files, self.index), self.taken, into);
+                self.taken += count;
+                Ok(count)
+            }
+            Err(Failed) => {
+                self.ready = false;
+                self.faults = self.faults.saturating_add(1);
+                Err(Failed)
+            }
         }
-        let count = copy_piece(contents(&self.files, self.index), self.taken, into);
-        self.taken += count;
-        Ok(count)
+    }
+
+    fn keep(&mut self, name: String, bytes: &[u8]) -> Result<(), Failed>
+        ensures kept { GrowsIfKept (Some self.old.store.kept) (Some self.new.store.kept)
+            (string_bytes name, bytes.now) result }
+        ensures missed { self.new.store.missed ≡ missed_after self.old.store.missed (string_bytes name) result }
+        ensures cause { HasCause self.old.store.faults self.new.store.faults result }
+        ensures failed { IsErr result ↔ FailsToKeep self.old (length bytes.now) }
+        ensures store { self.new.store ≡ store_after self.old.store (string_bytes name, bytes.now) result }
+        ensures files { SameFiles self.old self.new }
+    {
+        let number = self.keeps.saturating_add(1);
+        let count = bytes.len();
+        self.keeps = number;
+        match check_keep(&self.fails, number, self.places.len(), self.room, count) {
+            Ok(()) => {
+                put_file(&mut self.kept, &mut self.places, name, bytes, self.room);
+                self.room -= count;
+                Ok(())
+            }
+            Err(Failed) => {
+                self.missed = Some(name);
+                self.keep_faults = self.keep_faults.saturating_add(1);
+                Err(Failed)
+            }
+        }
     }
 }

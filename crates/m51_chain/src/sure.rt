@@ -1,5 +1,5 @@
 //! A shelf in memory that never fails.
-ghost use Rattle.std.specs.Prelude.{◌≡◌, Some, false, [], length};
+ghost use Rattle.std.specs.Prelude.{◌≡◌, None, Some, false, [], length};
 ghost use Rattle.m51_chain.specs.Shelf.{file_or_empty, contents_at};
 
 use crate::files::{contents, copy_piece, index_of};
@@ -9,13 +9,12 @@ use m51_sim::Failed;
 use std::marker::Model;
 
 /// Files in memory that never fail. It tells what they hold; of two files of one name the first counts, and under each
-/// other name there is an empty file.
+/// other name there is an empty file. It forgets what it keeps.
 ///
 /// Source: own choice ("The outside").
 #[derive(Drop)]
 pub struct SureShelf {
     files: Vec<(Bytes, Bytes)>,
-    starts: u64,
     name: Option<String>,
     index: usize,
     taken: usize,
@@ -32,7 +31,6 @@ impl Model for SureShelf {
 
     ghost view = { λ s. record {
       files = s.files.items;
-      starts = s.starts;
       name = name_bytes s.name;
       index = s.index;
       taken = s.taken;
@@ -49,7 +47,6 @@ impl SureShelf {
     pub fn make(files: Vec<(Bytes, Bytes)>) -> SureShelf
         ensures { result ≡ record {
           files = files.items;
-          starts = 0;
           name = [];
           index = length files.items;
           taken = 0;
@@ -59,7 +56,6 @@ impl SureShelf {
         let index = files.len();
         SureShelf {
             files,
-            starts: 0,
             name: None,
             index,
             taken: 0,
@@ -71,17 +67,19 @@ impl SureShelf {
 impl Shelf for SureShelf {
     ghost state = { λ shelf. record {
       holds = Some (file_or_empty shelf.files);
-      opened = Some (contents_at shelf.files shelf.index);
-      named = shelf.name;
-      ready = shelf.ready;
-      starts = shelf.starts;
-      taken = shelf.taken;
-      read_faults = 0;
+      reads = record {
+        opened = Some (contents_at shelf.files shelf.index);
+        named = shelf.name;
+        ready = shelf.ready;
+        taken = shelf.taken;
+        faults = 0;
+        given = None;
+      };
+      keeps = record { kept = None; missed = []; faults = 0 };
     } };
 
     fn start(&mut self, name: String) -> Result<(), Failed> {
         let index = index_of(&self.files, name.as_bytes());
-        self.starts = self.starts.saturating_add(1);
         self.taken = 0;
         self.index = index;
         self.name = Some(name);
@@ -93,5 +91,9 @@ impl Shelf for SureShelf {
         let count = copy_piece(contents(&self.files, self.index), self.taken, into);
         self.taken += count;
         Ok(count)
+    }
+
+    fn keep(&mut self, _name: String, _bytes: &[u8]) -> Result<(), Failed> {
+        Ok(())
     }
 }

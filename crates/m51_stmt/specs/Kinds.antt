@@ -1,5 +1,5 @@
--- The words for kinds and types, and which types a kind allows (the assembler's rules of segments).
-use Rattle.std.specs.Prelude.{ℕ, Bool, true, false, if◌then◌else◌, List, codes, Option, Some, None}
+-- The words for kinds and types (the assembler's rules of segments).
+use Rattle.std.specs.Prelude.{ℕ, if◌then◌else◌, List, codes, Option, Some, None}
 use Rattle.std.specs.Str.{bytes_eq}
 use Rattle.m51_cells.specs.declared.kind.Kind.{Kind}
 use Rattle.m51_cells.specs.declared.kind.Kind.TheVariants as kind
@@ -29,14 +29,3 @@ reloc_of word =
     else if bytes_eq word (codes "INBLOCK") then Some reloc.Inblock
     else if bytes_eq word (codes "PAGE") then Some reloc.Page
     else None
-
--- UNIT is allowed for every kind, PAGE and INPAGE for CODE and XDATA, INBLOCK for CODE, BITADDRESSABLE for DATA.
-abbrev pub allows : Kind → Reloc → Bool
-allows k reloc.Unit = true
-allows kind.Code reloc.Inpage = true
-allows kind.Xdata reloc.Inpage = true
-allows kind.Code reloc.Page = true
-allows kind.Xdata reloc.Page = true
-allows kind.Code reloc.Inblock = true
-allows kind.Direct reloc.Bitaddressable = true
-allows k r = false

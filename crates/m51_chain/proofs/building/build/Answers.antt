@@ -1,18 +1,9 @@
-use Rattle.std.proofs.Common.{◌≡◌, sym, ap, ◌∙◌, refl}
-use Rattle.m51_asm.specs.declared.outcome.Assembled.TheVariants.{Module, Faults}
-use Rattle.m51_asm.specs.Assembled.{assembled_of}
-use Rattle.m51_chain.specs.Answer.{Faulty}
-use Rattle.m51_chain.proofs.Due.{written_faults, module_source}
+use Rattle.std.proofs.Common.{◌∙◌}
+use Rattle.m51_chain.proofs.AskedFor.{built_files, built_reads}
 use Rattle.m51_chain.proofs.building.build.Goals as goal
 
-pub returns-in-Faults-clause-work : goal.returns-in-Faults-clause-work
-returns-in-Faults-clause-work g c =
-    let is : assembled_of c.args.file.now c.args.source.now.bytes ≡ Faults c.in-Faults.faults =
-    ap (λ file. assembled_of file c.args.source.now.bytes) (sym c.requires.named) ∙ sym c.in_ok-faults.ensures ∙ c.in-Faults.is in
-    written_faults _ _ _ _ _ _ (Faulty _ is refl) (rw c.as_slice.ensures at c.refuse_source.ensures.written)
+pub build_one-requires-clause-one : goal.build_one-requires-clause-one
+build_one-requires-clause-one c = built_files c.args.job.now c.requires.built
 
-pub returns-clause-work : goal.returns-clause-work
-returns-clause-work g c =
-    let is : assembled_of c.args.file.now c.args.source.now.bytes ≡ Module c.in-Module.module c.in-Module.field-1 =
-    ap (λ file. assembled_of file c.args.source.now.bytes) (sym c.requires.named) ∙ sym c.in_ok-faults.ensures ∙ c.in-Module.is in
-    module_source _ _ _ _ _ _ _ is c.link.ensures.work
+pub build_one-requires-clause-count : goal.build_one-requires-clause-count
+build_one-requires-clause-count c = c.requires.count ∙ built_reads c.args.job.now c.requires.built

@@ -1,5 +1,5 @@
 use Rattle.std.proofs.Common.{◌≡◌, ◌+◌, drop}
-use Rattle.m51_chain.specs.Answer.{filled_by}
+use Rattle.m51_chain.specs.Builds.{filled_by}
 use Rattle.m51_chain.proofs.building.filled.Given as goal
 
 abbrev pub invariant-loop-run : goal.invariant-loop-run

@@ -1,0 +1,54 @@
+-- What is kept for pass 2 says what names and the place of a line stand for over the segments of the module.
+use Rattle.std.proofs.Common.{◌≡◌, ℕ, ◌+◌, ◌%◌, List, option_map, ap, sym, ◌∙◌}
+use Rattle.m51_cells.specs.declared.kind.Base.TheVariants as base
+use Rattle.m51_expr.specs.declared.value.Part.TheVariants.{Whole}
+use Rattle.m51_text.specs.Answer.{LineTree}
+use Rattle.m51_asm.specs.declared.object_names.ObjectNames.{ObjectNames}
+use Rattle.m51_asm.specs.declared.object_names.PlacedText.{PlacedText}
+use Rattle.m51_asm.specs.declared.stepping.LinePlace.{LinePlace}
+use Rattle.m51_asm.specs.declared.values.Located.{Located}
+use Rattle.m51_asm.specs.Assignment.{Assignment, here_at}
+use Rattle.m51_asm.specs.Fitting.{filled, Fits}
+use Rattle.m51_asm.specs.Located.{located_value}
+use Rattle.m51_asm.specs.OpenSegments.{text_segment}
+use Rattle.m51_asm.specs.Placing.{here_of, IsPlaceOf}
+use Rattle.m51_asm.specs.Table.{Table, first_in}
+use Rattle.m51_asm.specs.Above.{Valuation, value_in}
+use Rattle.m51_asm.specs.ObjectMeanings.{object_meanings, final}
+use Rattle.m51_asm.specs.ValuesAt.{IsSetAt, IsKnownAt}
+use Rattle.m51_asm.specs.Numbering.{number_at}
+use Rattle.m51_asm.specs.ObjectNames.{kept_value, IsReady, AreNamesAt}
+use Rattle.m51_asm.proofs.TextValues.{value_is}
+
+-- the place of a line that is placed
+pub place_is : (lines : List LineTree) (a : Assignment) (k : ℕ) (p : LinePlace) → Fits lines a → IsPlaceOf lines a k p
+    → here_of (text_segment p.segment) p.offset ≡ here_at a k
+place_is lines a k p f place =
+    (λ i. here_of (place.segment i) (place.offset i))
+    ∙ ap (λ n. record { number = n % 65536; class = (a.segment k).kind; base = base.Segment (a.segment k).id; part = Whole }) (sym (f.places k))
+
+-- what is kept for a line says what names stand for there
+pub names_are : (lines : List LineTree) (a : Assignment) (k : ℕ) (t : PlacedText) → IsReady lines a t → (set : Valuation) → IsSetAt lines a k set
+    → (p : LinePlace) → IsPlaceOf lines a k p → (n : ObjectNames) → n.values.names.now ≡ t.text.names.now → n.values.kept.now ≡ t.end.now.values
+    → n.values.set.now ≡ set → n.values.mod51 ≡ t.text.mod51 → n.values.bank ≡ p.bank → n.numbering.now ≡ t.numbering.now
+    → located_value n.place ≡ here_of (text_segment p.segment) p.offset → AreNamesAt lines a k n
+unfolding final
+names_are lines a k t h set sets p stands n names kept same mod51 bank numbering here = record {
+  values = value;
+  meanings =
+      λ i. object_meanings (λ name. value name i) ((here ∙ place_is lines a k p h.fits stands) i)
+      (λ id. (ap (λ m. number_at m.numbers id) numbering ∙ h.numbered.each id) i)
+      ((ap (λ m. m.segments) numbering ∙ h.numbered.segments) i);
+}
+  where
+    known : IsKnownAt lines a k n.values.names.now n.values.kept.now n.values.set.now n.values.mod51 n.values.bank
+    known = record {
+      names = λ name. ap (λ t. first_in t name) names ∙ h.names name;
+      values = λ name. ap (λ v. option_map located_value (value_in v name)) kept ∙ h.placed.at.known name;
+      sets = λ name. ap (λ v. option_map located_value (value_in v name)) same ∙ sets name;
+      predefined = mod51 ∙ h.predefined;
+      selected = bank ∙ stands.bank;
+    }
+
+    value : (name : List ℕ) → kept_value n.values name ≡ a.value k name
+    value = value_is lines a h.fits k n.values.names.now n.values.kept.now n.values.set.now n.values.mod51 n.values.bank known

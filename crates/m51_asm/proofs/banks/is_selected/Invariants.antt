@@ -1,0 +1,11 @@
+use Rattle.std.proofs.Common.{◌≡◌, map}
+use Rattle.m51_text.specs.Answer.{line_tree}
+use Rattle.m51_asm.specs.Assignment.{Assignment}
+use Rattle.m51_asm.specs.Parts.{is_selected}
+use Rattle.m51_asm.specs.Passing.{ArePlaces}
+use Rattle.m51_asm.proofs.banks.is_selected.Given as goal
+
+-- whether one of the lines so far selects it
+abbrev pub invariant-loop-k : goal.invariant-loop-k
+invariant-loop-k l =
+    (a : Assignment) → ArePlaces (map line_tree l.lines) a l.places → l.selected ≡ is_selected (map line_tree l.lines) a l.bank l.k

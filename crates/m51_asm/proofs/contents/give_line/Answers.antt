@@ -1,0 +1,38 @@
+use Rattle.std.proofs.Common.{◌≡◌, ◌++◌, ◌∷◌, [], ap, sym, ◌∙◌}
+use Rattle.m51_stmt.specs.Statement.{body_tree}
+use Rattle.m51_text.specs.Answer.{line_tree}
+use Rattle.m51_content.specs.Outcomes.{or_next}
+use Rattle.m51_asm.specs.Fitting.{Fits}
+use Rattle.m51_asm.specs.ContentFaults.{if_fault}
+use Rattle.m51_asm.specs.ObjectNames.{object_names, AreNamesAt}
+use Rattle.m51_asm.specs.Publishing.{published_by, publics_among, fault_among}
+use Rattle.m51_asm.specs.Located.{located_value}
+use Rattle.m51_asm.proofs.FinalNames.{names_are}
+use Rattle.m51_asm.proofs.PublishedNames.{published_is}
+use Rattle.m51_asm.proofs.GivenLines.{next_given}
+use Rattle.m51_asm.proofs.contents.give_line.Goals as goal
+
+pub returns : goal.returns
+returns c = λ lines a k ready is stands h.
+    let t = c.args.text.now in
+    let line = line_tree c.args.line.now in
+    let body = body_tree c.args.line.now.stmt.body in
+    let n = c.names_of-names.result in
+    let e = c.names_of-names.ensures in
+    let names : AreNamesAt lines a k n =
+    names_are lines a k t ready c.args.before.set h.sets c.args.place.now stands n e.names e.kept e.set e.mod51 e.bank e.numbering
+    (ap located_value e.place ∙ c.here_of-here.ensures) in
+    let of = published_by t n in
+    let told = c.in_ok-told.ensures in
+    next_given lines a k line is c.args.before _ h (object_names n) c.args.place.now.form names.meanings stands.form of
+    (λ i name. published_is lines a t ready k n names name i) c.row_at.result c.in_ok-told.told.content
+    (c.in_ok-take_set.ensures lines a k is stands h.sets)
+    (ap (λ l. l.made) told)
+    (c.in_ok-unpublished.ensures.publics ∙ ap (λ ns. c.args.before.publics ++ publics_among of ns) c.published_names.ensures)
+    (c.in_ok-push_fault.ensures
+    ∙ ap (λ o. c.args.before.faults ++ if_fault line o [])
+    (c.or_next.ensures ∙ (λ i. or_next ((ap (λ l. l.fault) told) i) ((c.in_ok-unpublished.ensures.fault ∙ ap (fault_among of) c.published_names.ensures) i))))
+    c.in_ok-push.ensures.ok
+    (c.row_at.ensures lines a k ready.fits stands)
+    c.in_ok-push-2.ensures.ok
+    (ap (λ l. l.content) told)

@@ -1,0 +1,43 @@
+use Rattle.std.proofs.Common.{◌≡◌, ◌<◌, suc, ◌∷◌, [], ◌++◌, map, length, refl, ap, sym, subst, ◌∙◌, add-one, arith}
+use Rattle.std.proofs.lemmas.List.{length-map}
+use Rattle.m51_stmt.specs.Statement.{body_tree}
+use Rattle.m51_text.specs.Answer.{line_tree}
+use Rattle.m51_asm.specs.Assignment.{opening, body_of, body_at}
+use Rattle.m51_asm.specs.OpenSegments.{text_segment}
+use Rattle.m51_asm.specs.ObjectSegments.{size_of}
+use Rattle.m51_asm.specs.Numbering.{segment_filled, segment_added, as_list, next_number, IsNumberedTo}
+use Rattle.m51_asm.proofs.ReadLines.{line_at, place_at}
+use Rattle.m51_asm.proofs.NumberedSegments.{numbered_first, numbered_more, numbered_all, numbered_as, added_is}
+use Rattle.m51_asm.proofs.numbering.number_segments.Goals as goal
+
+pub loop-k-init : goal.loop-k-init
+loop-k-init c = λ a f placed.
+    let lines = map line_tree c.args.lines.now in
+    let o = c.segment_filled-first.result in
+    let is : o ≡ segment_filled opening (size_of lines a 1) =
+    c.segment_filled-first.ensures ∙ ap (segment_filled opening) (c.in_ok-size_of.ensures ∙ placed.at.sizes 1) in
+    numbered_as lines a 0 (as_list o) _ (0 ∷ next_number 0 o ∷ []) _ (numbered_first lines a o is)
+    (c.in_ok-add.ensures.segments ∙ ap (λ s. s ++ as_list o) c.new-segments.ensures)
+    (c.in_ok-add.ensures.numbers
+    ∙ (λ i. (c.in_ok-push.ensures.ok ∙ ap (λ ns. ns ++ 0 ∷ []) c.new-numbers.ensures) i ++ next_number (length (c.new-segments.ensures i)) o ∷ []))
+
+pub loop-k-preserved : goal.loop-k-preserved
+loop-k-preserved c = λ a f placed.
+    let lines = map line_tree c.args.lines.now in
+    let k = c.loop-k.k in
+    let within : k < length c.args.lines.now = omega arith in
+    let room : k < length c.args.places.now = omega arith in
+    let said = line_at c.args.lines.now k c.index-lines-k.result within c.index-lines-k.is in
+    let o = c.in_ok-added.added in
+    let is : o ≡ segment_added (size_of lines a) k (a.segment (suc k)) (body_at lines k) =
+    c.in_ok-added.ensures
+    ∙ added_is lines a k _ _ _ placed.at.sizes (place_at lines a c.args.places.now k _ room placed.each).next (ap body_of (sym said)) in
+    rw add-one (numbered_as lines a (suc k) (c.loop-k.segments ++ as_list o) _ (c.loop-k.numbers ++ next_number (length c.loop-k.segments) o ∷ []) _
+    (numbered_more lines a k c.loop-k.segments c.loop-k.numbers (c.loop-k.invariant a f placed) o is)
+    c.in_ok-add-2.ensures.segments c.in_ok-add-2.ensures.numbers)
+
+pub returns : goal.returns
+returns c = λ a f placed.
+    let lines = map line_tree c.args.lines.now in
+    let same : c.loop-k.k ≡ length lines = omega (arith, length-map c.args.lines.now line_tree) in
+    numbered_all lines a _ (subst (λ n. IsNumberedTo lines a n c.loop-k.segments c.loop-k.numbers) same (c.loop-k.invariant a f placed))

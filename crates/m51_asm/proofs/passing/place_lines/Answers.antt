@@ -1,0 +1,43 @@
+use Rattle.std.proofs.Common.{◌≡◌, ◌<◌, map, length, ap, sym, subst, ◌∙◌, add-one, arith}
+use Rattle.std.proofs.lemmas.List.{length-map}
+use Rattle.m51_text.specs.Answer.{line_tree}
+use Rattle.m51_asm.specs.Placing.{IsLineOutcome}
+use Rattle.m51_asm.specs.Passing.{ArePlaces, IsPassedTo}
+use Rattle.m51_asm.proofs.ReadLines.{line_at}
+use Rattle.m51_asm.proofs.PassedLines.{reached, no_places, passed_more}
+use Rattle.m51_asm.proofs.passing.place_lines.Goals as goal
+
+pub loop-k-init : goal.loop-k-init
+loop-k-init c = λ a f.
+    let lines = map line_tree c.args.text.now.lines.now in
+    record {
+      free = λ j b. absurd (omega (arith, b));
+      counted = ap length c.new-places.ensures;
+      each = subst (ArePlaces lines a) (sym c.new-places.ensures) (no_places lines a);
+      at = c.start-placing.ensures lines a f;
+    }
+
+pub returns-then-is_reached : goal.returns-then-is_reached
+returns-then-is_reached c = λ a f.
+    reached (map line_tree c.args.text.now.lines.now) a c.args.repeated c.loop-k.k c.requires.repeated (c.loop-k.invariant a f).free
+    (sym c.is_reached.ensures ∙ c.if-is_reached.true)
+
+pub step-requires-clause-line : goal.step-requires-clause-line
+step-requires-clause-line c =
+    let within : c.loop-k.k < length c.args.text.now.lines.now = omega arith in
+    line_at c.args.text.now.lines.now c.loop-k.k c.index-lines-k.result within c.index-lines-k.is
+
+pub loop-k-preserved : goal.loop-k-preserved
+loop-k-preserved c = λ a f.
+    let lines = map line_tree c.args.text.now.lines.now in
+    let k = c.loop-k.k in
+    let h = c.loop-k.invariant a f in
+    let told = subst (λ o. IsLineOutcome lines a k o) c.in-Stands.is (c.in_ok-number.ensures a f h.at) in
+    rw add-one (passed_more lines a k c.loop-k.places _ c.in-Stands.place c.loop-k.placing c.in-Stands.next h
+    c.in_ok-push-in-Stands.ensures.ok told.0 told.1 told.2)
+
+pub returns : goal.returns
+returns c = λ a f.
+    let lines = map line_tree c.args.text.now.lines.now in
+    let same : c.loop-k.k ≡ length lines = omega (arith, length-map c.args.text.now.lines.now line_tree) in
+    subst (λ n. IsPassedTo lines a n c.loop-k.places c.loop-k.placing) same (c.loop-k.invariant a f)

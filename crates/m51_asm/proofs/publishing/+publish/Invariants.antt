@@ -1,0 +1,5 @@
+use Rattle.std.proofs.Common.{length}
+use Rattle.m51_asm.proofs.publishing.+publish.Given as goal
+
+abbrev pub decreases-publish : goal.decreases-publish
+decreases-publish l = length l.list.now

@@ -1,0 +1,47 @@
+-- The segments of the module of a text and the numbers of ids, as the code makes them line by line.
+use Rattle.std.specs.Prelude.{◌≡◌, ℕ, zero, suc, ◌+◌, ◌==◌, if◌then◌else◌, List, [], ◌∷◌, map, length, slice_get}
+use Rattle.std.specs.Prelude.{unwrap_or, Option, Some, None}
+use Rattle.m51_module.specs.declared.segment.Segment.{Segment}
+use Rattle.m51_stmt.specs.Statement.{BodyTree, Segment as Declares}
+use Rattle.m51_text.specs.Answer.{LineTree}
+use Rattle.m51_asm.specs.declared.numbering.Numbering.{Numbering}
+use Rattle.m51_asm.specs.Assignment.{TextSegment, Assignment}
+use Rattle.m51_asm.specs.ObjectSegments.{relocatable, absolute_of, kept_before, object_segments, number_in}
+use Rattle.m51_asm.specs.ObjectSegments.{segment_number}
+
+-- the number of an id in a list of numbers by id, 0 past its end
+abbrev pub number_at : List ℕ → ℕ → ℕ
+number_at numbers id = unwrap_or (slice_get numbers id) 0
+
+-- the segment of the module that an absolute segment of this size is
+abbrev pub segment_filled : TextSegment → ℕ → Option Segment
+segment_filled s zero = None
+segment_filled s (suc more) = Some (absolute_of s (suc more)).segment
+
+-- the segment of the module that line k declares or begins, by the segment that it leaves open and the sizes of all
+abbrev pub segment_added : (ℕ → ℕ) → ℕ → TextSegment → BodyTree → Option Segment
+segment_added size k next (Declares name kind reloc overlayable) =
+    Some (relocatable (k + 2) name kind reloc overlayable (size (k + 2))).segment
+segment_added size k next body = if next.id == k + 2 then segment_filled next (size next.id) else None
+
+-- the segment as a list
+abbrev pub as_list : Option Segment → List Segment
+as_list None = []
+as_list (Some s) = s ∷ []
+
+-- the number of a segment that is added after so many
+abbrev pub next_number : ℕ → Option Segment → ℕ
+next_number count None = 0
+next_number count (Some s) = suc count
+
+-- these are the segments of the first k lines, and the numbers of the ids so far
+pub record IsNumberedTo (lines : List LineTree) (a : Assignment) (k : ℕ) (segments : List Segment) (numbers : List ℕ)
+    : Type 0 where
+  pub same : segments ≡ map (λ s. s.segment) (kept_before lines a k)
+  pub counted : length numbers ≡ k + 2
+  pub each : (id : ℕ) → number_at numbers id ≡ number_in (kept_before lines a k) id
+
+-- these are the segments of the module, and this is the number of each id
+pub record IsNumbering (lines : List LineTree) (a : Assignment) (n : Numbering) : Type 0 where
+  pub segments : n.segments ≡ object_segments lines a
+  pub each : (id : ℕ) → number_at n.numbers id ≡ segment_number lines a id

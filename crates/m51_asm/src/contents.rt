@@ -1,0 +1,146 @@
+//! Pass 2 over the lines of a text: what each gives, and the faults of their content.
+ghost use Rattle.std.specs.Prelude.{◌≡◌, ◌++◌, ℕ, suc, Some, List, [], length, slice_get, OnOk, IfOk};
+ghost use Rattle.m51_text.specs.Answer.{LineTree, line_tree};
+ghost use Rattle.m51_asm.specs.Assignment.{Assignment};
+ghost use Rattle.m51_asm.specs.ContentFaults.{if_fault};
+ghost use Rattle.m51_asm.specs.Fitting.{Fits};
+ghost use Rattle.m51_asm.specs.Placing.{IsPlaceOf};
+ghost use Rattle.m51_asm.specs.AnswerRows.{row_of, place_of};
+ghost use Rattle.m51_asm.specs.ObjectNames.{IsReady};
+ghost use Rattle.m51_asm.specs.Contents.{nothing_given, IsGivenTo};
+
+use crate::object_names::{PlacedText, names_of};
+use crate::placing::here_of;
+use crate::publishing::{or_next, publish, published_names};
+use crate::stepping::LinePlace;
+use crate::valuation::Values;
+use crate::values_at::take_set;
+use m51_cells::{ListOf, NoMemory};
+use m51_content::{Content, LineContent, line_content, place_of, row_of};
+use m51_module::{Fault, Faults, Publics, Row, Rows};
+use m51_text::Line;
+use std::alloc::Global;
+
+/// What is kept of the lines above a line.
+#[derive(Drop)]
+pub(crate) struct Contents {
+    /// The values that their SET statements give.
+    pub(crate) set: Values,
+    /// How many fixups they make.
+    pub(crate) made: usize,
+    pub(crate) faults: Faults,
+    pub(crate) publics: Publics,
+    pub(crate) rows: Rows,
+    /// The bytes and references of each.
+    pub(crate) given: ListOf<Content>,
+}
+
+// The fault of a line, if it has one, after others.
+fn push_fault(faults: &mut Faults, line: &Line, fault: Option<u8>) -> Result<(), NoMemory>
+    ensures { OnOk result (faults.new ≡ faults.old ++ if_fault (line_tree line.now) fault []) }
+{
+    match fault {
+        Some(number) => faults.push(Fault {
+            file: line.file,
+            line: line.line,
+            number,
+        }),
+        None => Ok(()),
+    }
+}
+
+// The row of a line.
+fn row_at(line: &Line, place: &LinePlace, content: &Content) -> Row
+    ensures { (lines : List LineTree) (a : Assignment) (k : ℕ) → Fits lines a → IsPlaceOf lines a k place.now
+        → result ≡ row_of (line_tree line.now) (place_of a k (line_tree line.now)) content.now }
+{
+    let here = here_of(place.segment, place.offset);
+    let at = place_of(&line.stmt, u64::from(here.number));
+    row_of(line.file, line.line, at, content)
+}
+
+// Before the first line.
+fn nothing_given(alloc: Global) -> Contents
+    ensures { result ≡ nothing_given }
+{
+    Contents {
+        set: Values::new(alloc),
+        made: 0,
+        faults: ListOf::new(alloc),
+        publics: ListOf::new(alloc),
+        rows: ListOf::new(alloc),
+        given: ListOf::new(alloc),
+    }
+}
+
+// What is kept with a line more.
+fn give_line(
+    alloc: Global,
+    text: &PlacedText<'_>,
+    line: &Line,
+    place: &LinePlace,
+    before: Contents,
+) -> Result<Contents, NoMemory>
+    ensures { IfOk result (λ after. (lines : List LineTree) (a : Assignment) (k : ℕ) → IsReady lines a text.now
+        → slice_get lines k ≡ Some (line_tree line.now) → IsPlaceOf lines a k place.now
+        → IsGivenTo lines a k before → IsGivenTo lines a (suc k) after) }
+{
+    let Contents {
+        set: values,
+        made: before_line,
+        faults: above,
+        publics: public,
+        rows: listed,
+        given: all,
+    } = before;
+    let mut set = values;
+    let mut faults = above;
+    let mut publics = public;
+    let mut rows = listed;
+    let mut given = all;
+    let named = text.text;
+    let end = text.end;
+    let here = here_of(place.segment, place.offset);
+    let names = names_of(
+        named.names,
+        &end.values,
+        &set,
+        text.numbering,
+        named.mod51,
+        place.bank,
+        here,
+    );
+    let told = line_content(alloc, &names, place.form, &line.stmt.body, before_line)?;
+    let unpublished = publish(text, &names, &mut publics, published_names(&line.stmt.body))?;
+    let LineContent {
+        content,
+        fault,
+        made,
+    } = told;
+    push_fault(&mut faults, line, or_next(fault, unpublished))?;
+    rows.push(row_at(line, place, &content))?;
+    given.push(content)?;
+    take_set(alloc, &mut set, line, place)?;
+    Ok(Contents {
+        set,
+        made,
+        faults,
+        publics,
+        rows,
+        given,
+    })
+}
+
+/// What all lines of a text give. The one error is out of memory.
+pub(crate) fn give_lines(alloc: Global, text: &PlacedText<'_>) -> Result<Contents, NoMemory>
+    requires { length text.now.places.now ≡ length text.now.text.lines.now }
+    ensures { IfOk result (λ all. (lines : List LineTree) (a : Assignment) → IsReady lines a text.now
+        → IsGivenTo lines a (length lines) all) }
+{
+    let mut contents = nothing_given(alloc);
+    let named = text.text;
+    for (k, line) in named.lines.iter().enumerate() {
+        contents = give_line(alloc, text, line, &text.places[k], contents)?;
+    }
+    Ok(contents)
+}

@@ -1,0 +1,51 @@
+-- The map of a memory.
+use Rattle.std.proofs.Common.{◌≡◌, ℕ, ◌+◌, ◌/◌, ◌%◌, Bool, true, false, cond, Option, Some, None, refl, sym, ap, ◌∙◌, arith, rules}
+use Rattle.std.specs.Prelude.{◌==◌, nat_eq, nat_lt, slice_index}
+use Rattle.std.specs.Int.{bit_at}
+use Rattle.std.proofs.lemmas.Bool.{lt-ltb}
+use Rattle.m51_flat.specs.declared.state.Put.{Put}
+use Rattle.m51_flat.specs.declared.state.Put.TheVariants.{Nothing, Byte, Bit, Xbyte}
+use Rattle.m51_flat.specs.States.{CellState, Holds, Absent, States, ram_written, state_over, states_after, xram_written}
+use Rattle.m51_flat.specs.Reads.{CellMap}
+use Rattle.m51_flat.specs.Flat.{FlatBytes, filled_cells, flat_cells}
+use Rattle.m51_flat.specs.Causes.{IsWhole}
+use Rattle.m51_alu.specs.Arithmetic.{bit_of}
+use Rattle.m51_board.specs.FlatMachine.{filled_map, map_after, replaced}
+use Rattle.m51_board.specs.Boards.{map_of, value_of, values_of}
+
+-- maps with the same values are one
+pub same_map : (m k : CellMap) → ((n : ℕ) → m.ram n ≡ k.ram n) → ((n : ℕ) → m.xram n ≡ k.xram n) → m ≡ k
+same_map m k p q i = record { ram = λ n. p n i; xram = λ n. q n i }
+
+held_inside : (inside : Bool) (v : ℕ) → inside ≡ true → cond inside (Holds v) Absent ≡ Holds (value_of (cond inside (Holds v) Absent))
+held_inside true v e = refl
+held_inside false v e = absurd (cc e)
+
+-- a memory holds its map, and none of its cells is barred
+pub flat_whole : (m : FlatBytes) → IsWhole (flat_cells m) (λ cell. false) (map_of m)
+flat_whole m = record {
+  ram = λ n h. held_inside (nat_lt n 2048) (bit_at (slice_index m.ram (n / 8)) (n % 8)) (lt-ltb n 2048 h);
+  xram = λ n h. held_inside (nat_lt n 65536) (slice_index m.xram n) (lt-ltb n 65536 h);
+  open_ = λ c. refl;
+}
+
+replaced_value : (o : Option ℕ) (old : CellState) → value_of (state_over o old) ≡ replaced o (value_of old)
+replaced_value None old = refl
+replaced_value (Some v) old = refl
+
+-- a put into memory is a put into its map
+pub put_map : (put : Put) (old new : FlatBytes) → flat_cells new ≡ states_after put (flat_cells old) → map_of new ≡ map_after put (map_of old)
+put_map put old new e =
+    ap values_of e ∙ same_map (values_of (states_after put (flat_cells old))) (map_after put (map_of old)) (λ n. replaced_value (ram_written put n) ((flat_cells old).ram n)) (λ n. replaced_value (xram_written put n) ((flat_cells old).xram n))
+
+inside_value : (inside : Bool) (v : ℕ) → value_of (cond inside (Holds v) Absent) ≡ cond inside v 0
+inside_value true v = refl
+inside_value false v = refl
+
+-- memory with the fill everywhere has its map
+pub filled_of : (fill : ℕ) (memory : FlatBytes) → flat_cells memory ≡ filled_cells fill → map_of memory ≡ filled_map fill
+filled_of fill memory e =
+    ap values_of e
+    ∙ same_map (values_of (filled_cells fill)) (filled_map fill)
+    (λ n. inside_value (nat_lt n 2048) (bit_at fill (n % 8)))
+    (λ n. inside_value (nat_lt n 65536) fill)

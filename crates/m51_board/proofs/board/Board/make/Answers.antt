@@ -1,0 +1,13 @@
+use Rattle.std.proofs.Common.{sym, ap}
+use Rattle.m51_board.specs.Boards.{ChipState}
+use Rattle.m51_board.proofs.Beginning.{is_started, start_order}
+use Rattle.m51_board.proofs.board.Board.make.Goals as goal
+
+pub invariant_of-result : goal.invariant_of-result
+invariant_of-result c =
+    start_order c.args.layout c.fill.result c.in_ok-monitor.monitor c.stand.ensures.sound c.stand.ensures.records c.in_ok-monitor.ensures c.make.result.cpu
+    (ap (λ (chip : ChipState). chip.cpu) c.make.ensures)
+
+pub returns : goal.returns
+returns c =
+    is_started c.args.layout c.fill.result c.in_ok-monitor.monitor c.stand.ensures.sound c.stand.ensures.records c.in_ok-monitor.ensures c.args.image c.args.script c.make.result (sym c.fill.ensures) c.make.ensures

@@ -1,0 +1,10 @@
+use Rattle.std.proofs.Common.{◌≡◌, ◌≤◌}
+use Rattle.m51_board.proofs.Going.{IsGoing}
+use Rattle.m51_board.proofs.runs.run.Given as goal
+
+abbrev pub invariant-loop-done : goal.invariant-loop-done
+invariant-loop-done g l = record {
+  fixed : g.B.Steps.fixed l.board ≡ g.B.Steps.fixed l.fn.board;
+  later : (g.S.Sink.state l.fn.out).faults ≤ (g.S.Sink.state l.out).faults;
+  going : IsGoing (g.S.Sink.state l.fn.out).text (g.S.Sink.state l.out).text (g.B.Steps.machine (g.B.Steps.fixed l.fn.board)) (g.B.Steps.state l.fn.board) l.done (g.B.Steps.state l.board);
+}

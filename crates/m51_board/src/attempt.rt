@@ -1,0 +1,16 @@
+//! What a step is.
+use m51_flat::Source;
+use m51_isa::Instr;
+
+/// What a step is.
+#[derive(Drop)]
+pub(crate) enum Attempt {
+    // The vectoring of an interrupt of this source.
+    Vectoring(Source),
+    // A machine cycle without an instruction.
+    Idling,
+    // This instruction.
+    Executing(Instr),
+    // The reserved opcode, which is no instruction.
+    Refusing,
+}

@@ -1,0 +1,269 @@
+//! A board whose program keeps to its units, and whose segments have stores of their own.
+ghost use Rattle.std.specs.Prelude.{◌≡◌, ◌≤◌, ℕ, IfErr, IfOk, List, length};
+ghost use Rattle.m51_cells.specs.declared.limits.TheConstants.{MOST_STEPS};
+ghost use Rattle.m51_cells.specs.Outside.{Rose};
+ghost use Rattle.m51_module.specs.Plan.{IsRootAt};
+ghost use Rattle.m51_module.specs.declared.parts.LayoutParts.{LayoutParts};
+ghost use Rattle.m51_monitor.specs.Monitored.{live_in};
+ghost use Rattle.m51_monitor.specs.Related.{OneLive};
+ghost use Rattle.m51_print.specs.Lines.{HasText, titles_of};
+ghost use Rattle.m51_script.specs.declared.script.Script.{Script as ScriptState};
+ghost use Rattle.m51_board.specs.Boards.{IsInOrder, IsStarted, StandsForState, memory_of, separate_of, state_with};
+ghost use Rattle.m51_board.specs.Cycles.{AreFew, inputs_of, with_extra};
+ghost use Rattle.m51_board.specs.Report.{IsReport};
+ghost use Rattle.m51_board.specs.Run.{Ended, IsAdvance, IsStep, IsToldStep, step_told, tally_of, told_by};
+ghost use Rattle.m51_board.specs.Runs.{record_of};
+ghost use Rattle.m51_board.specs.SeparateMachine.{separate_machine};
+
+use crate::chip::Chip;
+use crate::cycles::Timed;
+use crate::judging::{commit, judge, stand};
+use crate::runs::{Entries, RunEnd, Step, Steps, Tally, Told, count_run, run};
+use crate::sink::Sink;
+use m51_cells::{Event, NoMemory};
+use m51_module::{Image, Layout, Placed};
+use m51_monitor::Monitor;
+use m51_script::Script;
+use std::alloc::Global;
+use std::marker::Model;
+
+/// A board that runs a linked program: each segment of data memory has a store of its own, and control keeps to the
+/// units and edges of the layout. Only `make` takes memory.
+///
+/// Source: own choice ("Boards").
+#[derive(Drop)]
+pub struct Board {
+    chip: Chip,
+    monitor: Monitor,
+}
+
+impl Model for Board {
+    ghost use Rattle.m51_board.specs.Boards.{BoardState, IsInOrder};
+
+    ghost Value = { BoardState };
+
+    ghost view = { λ b. record { chip = b.chip; monitor = b.monitor } };
+
+    ghost invariant = { λ b. IsInOrder b.monitor b.chip.cpu };
+}
+
+impl Board {
+    /// A board with this layout, which has a root at 0000H, this image and this script, after a reset: plain segments
+    /// and the common store have the script's fill, and overlaid segments are unset. Want of memory is the one refusal.
+    ///
+    /// Source: own choice ("Boards").
+    pub fn make(
+        alloc: Global,
+        layout: Layout,
+        image: Image,
+        script: Script,
+    ) -> Result<Board, NoMemory>
+        requires { (unit : ℕ) × IsRootAt layout 0 unit }
+        ensures { IfOk result (IsStarted layout image script) }
+    {
+        let monitor = Monitor::start(alloc, layout, script.fill())?;
+        stand(&monitor);
+        Ok(Board {
+            chip: Chip::make(image, script),
+            monitor,
+        })
+    }
+
+    /// One step. One that is stopped changes nothing, and the next step answers the same.
+    ///
+    /// Source: own choice ("Runs").
+    pub fn step(&mut self) -> Step
+        ensures step { IsStep (separate_machine self.old.monitor.layout self.old.chip.image
+            (inputs_of self.old.chip.script) (separate_of self.old)) result
+            (separate_of self.old) (separate_of self.new) }
+        ensures layout { self.new.monitor.layout ≡ self.old.monitor.layout }
+        ensures image { self.new.chip.image ≡ self.old.chip.image }
+        ensures script { self.new.chip.script ≡ self.old.chip.script }
+    {
+        let answer = advance_alone(&mut self.monitor, &mut self.chip);
+        step_told(answer)
+    }
+
+    /// One step with further frames, which come after the script's of their cycle, and its entries. Of one cycle there
+    /// are at most seven.
+    ///
+    /// Source: own choice ("Frames of other boards").
+    pub fn step_on(&mut self, extra: &[Timed]) -> Told
+        requires { AreFew extra.now }
+        ensures step { IsToldStep (separate_machine self.old.monitor.layout self.old.chip.image
+            (with_extra extra.now (inputs_of self.old.chip.script)) (separate_of self.old)) result
+            (separate_of self.old) (separate_of self.new) }
+        ensures layout { self.new.monitor.layout ≡ self.old.monitor.layout }
+        ensures image { self.new.chip.image ≡ self.old.chip.image }
+        ensures script { self.new.chip.script ≡ self.old.chip.script }
+    {
+        let answer = advance(&mut self.monitor, &mut self.chip, extra);
+        told_by(answer)
+    }
+
+    /// At most `n` steps, 1 to 10,000,000, with a line for each entry and the last line.
+    ///
+    /// WriteFault: the sink has failed. The board stands after the step whose line is not whole, or after the last step
+    /// where that line is the last. It may be run on.
+    ///
+    /// Source: own choice ("Runs").
+    pub fn run<S: Sink>(&mut self, n: u32, out: &mut S) -> RunEnd
+        requires { (1 ≤ n) × (n ≤ MOST_STEPS) }
+        ensures ended { Ended (S.state out.old).text (S.state out.new).text (titles_of self.old.monitor.layout.placed)
+            (separate_machine self.old.monitor.layout self.old.chip.image (inputs_of self.old.chip.script)) n
+            (separate_of self.old) (separate_of self.new) result }
+        ensures report { (l : LayoutParts) (image : List ℕ) (script : ScriptState) → IsStarted l image script self.old
+            → IsReport l image script n (S.state out.old).text (S.state out.new).text result }
+        ensures layout { self.new.monitor.layout ≡ self.old.monitor.layout }
+        ensures image { self.new.chip.image ≡ self.old.chip.image }
+        ensures script { self.new.chip.script ≡ self.old.chip.script }
+        ensures later { (S.state out.old).faults ≤ (S.state out.new).faults }
+        ensures fault { result ≡ RunEnd.WriteFault → Rose (S.state out.old).faults (S.state out.new).faults }
+    {
+        run(self, n, out)
+    }
+
+    /// The numbers of at most `n` steps, 1 to 10,000,000, which are performed as `run` performs them.
+    ///
+    /// Source: own choice ("Runs").
+    pub fn tally(&mut self, n: u32) -> Tally
+        requires { (1 ≤ n) × (n ≤ MOST_STEPS) }
+        ensures tally { result ≡ tally_of (record_of (separate_machine self.old.monitor.layout self.old.chip.image
+            (inputs_of self.old.chip.script)) n (separate_of self.old)) }
+        ensures last { separate_of self.new ≡ (record_of (separate_machine self.old.monitor.layout self.old.chip.image
+            (inputs_of self.old.chip.script)) n (separate_of self.old)).last }
+        ensures layout { self.new.monitor.layout ≡ self.old.monitor.layout }
+        ensures image { self.new.chip.image ≡ self.old.chip.image }
+        ensures script { self.new.chip.script ≡ self.old.chip.script }
+    {
+        count_run(self, n)
+    }
+
+    /// The layout that `make` was given.
+    ///
+    /// Source: own choice ("Boards").
+    pub fn layout(&self) -> &Layout
+        ensures { result.now ≡ self.now.monitor.layout }
+    {
+        self.monitor.layout()
+    }
+
+    /// The number of the machine cycle in which the next step starts.
+    ///
+    /// Source: own choice ("Runs").
+    pub fn cycle(&self) -> u64
+        ensures { result ≡ self.now.chip.cycle }
+    {
+        self.chip.cycle()
+    }
+
+    /// Nothing: what holds of a board at every moment. Its memory stands for the separate stores that contracts see,
+    /// the units of its records form walks from roots of which none runs twice, PC lies in the current unit, SP is not
+    /// below that of the topmost record, the interrupts that have records were taken at the levels in progress, and at
+    /// most one live segment covers a cell.
+    ///
+    /// Source: own choice ("Boards").
+    pub fn stands(&self)
+        ensures state { StandsForState self.now }
+        ensures one { OneLive self.now.monitor.layout (live_in self.now.monitor.layout self.now.monitor.records) }
+    {
+        stand(&self.monitor);
+    }
+}
+
+// What an advance tells of its step.
+fn step_told(answer: Result<Entries, Event>) -> Step
+    ensures { result ≡ step_told answer }
+{
+    match answer {
+        Ok(_) => Step::Done,
+        Err(event) => Step::Stopped(event),
+    }
+}
+
+// The same, with the entries of a step that is performed.
+fn told_by(answer: Result<Entries, Event>) -> Told
+    ensures { result ≡ told_by answer }
+{
+    match answer {
+        Ok(Entries { port, sent }) => Told {
+            step: Step::Done,
+            port,
+            sent,
+        },
+        Err(event) => Told {
+            step: Step::Stopped(event),
+            port: None,
+            sent: None,
+        },
+    }
+}
+
+// Performs a step and gives what it tells, or gives the event that stops it.
+fn advance(monitor: &mut Monitor, chip: &mut Chip, extra: &[Timed]) -> Result<Entries, Event>
+    requires order { IsInOrder monitor.old chip.old.cpu }
+    requires few { AreFew extra.now }
+    ensures order { IsInOrder monitor.new chip.new.cpu }
+    ensures layout { monitor.new.layout ≡ monitor.old.layout }
+    ensures image { chip.new.image ≡ chip.old.image }
+    ensures script { chip.new.script ≡ chip.old.script }
+    ensures step { IsAdvance (separate_machine monitor.old.layout chip.old.image
+        (with_extra extra.now (inputs_of chip.old.script)) (state_with chip.old (memory_of monitor.old))) result
+        (state_with chip.old (memory_of monitor.old)) (state_with chip.new (memory_of monitor.new)) }
+    ensures text { IfErr result (HasText (length monitor.old.layout.placed)) }
+{
+    stand(monitor);
+    match judge(monitor, chip) {
+        Ok(allowed) => {
+            commit(monitor, &allowed);
+            Ok(chip.pass(&allowed.effect, extra))
+        }
+        Err(event) => Err(event),
+    }
+}
+
+// The same with the script's frames only.
+fn advance_alone(monitor: &mut Monitor, chip: &mut Chip) -> Result<Entries, Event>
+    requires order { IsInOrder monitor.old chip.old.cpu }
+    ensures order { IsInOrder monitor.new chip.new.cpu }
+    ensures layout { monitor.new.layout ≡ monitor.old.layout }
+    ensures image { chip.new.image ≡ chip.old.image }
+    ensures script { chip.new.script ≡ chip.old.script }
+    ensures step { IsAdvance (separate_machine monitor.old.layout chip.old.image (inputs_of chip.old.script)
+        (state_with chip.old (memory_of monitor.old))) result
+        (state_with chip.old (memory_of monitor.old)) (state_with chip.new (memory_of monitor.new)) }
+    ensures text { IfErr result (HasText (length monitor.old.layout.placed)) }
+{
+    advance(monitor, chip, &[])
+}
+
+impl Steps for Board {
+    ghost use Rattle.std.specs.Prelude.{ℕ, List};
+    ghost use Rattle.m51_board.specs.Boards.{Loaded, separate_of};
+    ghost use Rattle.m51_board.specs.Cycles.{inputs_of};
+    ghost use Rattle.m51_board.specs.SeparateMachine.{Separate, separate_machine};
+
+    ghost Memory = { Separate };
+
+    ghost Fixed = { Loaded };
+
+    ghost fixed = { λ b. record { layout = b.monitor.layout; image = b.chip.image; script = b.chip.script } };
+
+    ghost machine = { λ loaded. separate_machine loaded.layout loaded.image (inputs_of loaded.script) };
+
+    ghost state = { separate_of };
+
+    ghost extents = { λ loaded. loaded.layout.placed };
+
+    fn advance(&mut self) -> Result<Entries, Event> {
+        advance_alone(&mut self.monitor, &mut self.chip)
+    }
+
+    fn cycle(&self) -> u64 {
+        self.chip.cycle()
+    }
+
+    fn placed(&self) -> &[Placed] {
+        self.monitor.layout().placed()
+    }
+}

@@ -1,0 +1,238 @@
+//! An image, a script, the processor, the devices, and the number of the machine cycle.
+ghost use Rattle.std.specs.Prelude.{◌≡◌, length, slice_index};
+ghost use Rattle.m51_flat.specs.Reset.{reset_cpu};
+ghost use Rattle.m51_timers_uart.specs.Tick.{reset_periph};
+ghost use Rattle.m51_board.specs.Cycles.{AreFew, cycles_passed, inputs_of, with_extra};
+ghost use Rattle.m51_board.specs.Effects.{attempt_by, attempt_of, begun_with, changed_by, executing, idle_effect};
+ghost use Rattle.m51_board.specs.Effects.{instr_at, latch_address, port_entry};
+
+use crate::attempt::Attempt;
+use crate::cycles::{Passing, Timed, pass_cycles};
+use crate::runs::Entries;
+use m51_cells::Entry;
+use m51_flat::addresses::{P0, P1, P2, P3, PCON};
+use m51_flat::flags::IDL;
+use m51_flat::{Cpu, Effect, Pins, Put, Source, Transfer, reset};
+use m51_irq::choose;
+use m51_isa::{Instr, decode};
+use m51_module::Image;
+use m51_script::Script;
+use m51_timers_uart::Periph;
+use std::marker::Model;
+
+/// What both boards have beside their memories.
+#[derive(Drop)]
+pub(crate) struct Chip {
+    image: Image,
+    script: Script,
+    cpu: Cpu,
+    periph: Periph,
+    cycle: u64,
+}
+
+impl Model for Chip {
+    ghost use Rattle.m51_board.specs.Boards.{ChipState};
+
+    ghost Value = { ChipState };
+
+    ghost view = { λ c. record {
+      image = c.image;
+      script = c.script;
+      cpu = c.cpu;
+      periph = c.periph;
+      cycle = c.cycle;
+    } };
+}
+
+impl Chip {
+    // With this image and script, after a reset.
+    pub(crate) fn make(image: Image, script: Script) -> Chip
+        ensures { result ≡ record {
+          image = image;
+          script = script;
+          cpu = reset_cpu;
+          periph = reset_periph ((inputs_of script).pins 0);
+          cycle = 0;
+        } }
+    {
+        let periph = Periph::reset(&script.pins_at(0));
+        Chip {
+            image,
+            script,
+            cpu: reset(),
+            periph,
+            cycle: 0,
+        }
+    }
+
+    // The processor.
+    pub(crate) fn cpu(&self) -> &Cpu
+        ensures { result.now ≡ self.now.cpu }
+    {
+        &self.cpu
+    }
+
+    // The address of the next instruction.
+    pub(crate) fn pc(&self) -> u16
+        ensures { result ≡ self.now.cpu.pc }
+    {
+        self.cpu.pc
+    }
+
+    // The number of the machine cycle.
+    pub(crate) fn cycle(&self) -> u64
+        ensures { result ≡ self.now.cycle }
+    {
+        self.cycle
+    }
+
+    // The bytes of the image.
+    pub(crate) fn bytes(&self) -> &[u8]
+        ensures list { result.now ≡ self.now.image }
+        ensures whole { length result.now ≡ 65536 }
+    {
+        self.image.bytes()
+    }
+
+    // The levels that the outside gives the pins.
+    pub(crate) fn pins(&self) -> Pins
+        ensures { result ≡ (inputs_of self.now.script).pins self.now.cycle }
+    {
+        self.script.pins_at(self.cycle)
+    }
+
+    // What the next step is.
+    #[tactic(auto, unfolding(crate::specs::Effects::attempt_of))]
+    pub(crate) fn attempt(&self) -> Attempt
+        ensures { result ≡ attempt_of self.now.image self.now.cpu }
+    {
+        self.attempt_by(choose(&self.cpu))
+    }
+
+    // The same, where it is known which interrupt is to be taken.
+    fn attempt_by(&self, taken: Option<Source>) -> Attempt
+        ensures { result ≡ attempt_by self.now.image self.now.cpu taken }
+    {
+        match taken {
+            Some(source) => Attempt::Vectoring(source),
+            None => {
+                if self.cpu.flag(PCON, IDL) {
+                    Attempt::Idling
+                } else {
+                    self.fetch()
+                }
+            }
+        }
+    }
+
+    // The instruction at the program counter, or the reserved opcode.
+    #[tactic(auto, unfolding(crate::specs::Effects::instr_at))]
+    fn fetch(&self) -> Attempt
+        ensures { result ≡ executing (instr_at self.now.image self.now.cpu.pc) }
+    {
+        let pc = self.cpu.pc;
+        match decode([
+            self.byte(pc),
+            self.byte(pc.wrapping_add(1)),
+            self.byte(pc.wrapping_add(2)),
+        ]) {
+            None => Attempt::Refusing,
+            Some(instr) => Attempt::Executing(instr),
+        }
+    }
+
+    // The byte of the image at an address.
+    fn byte(&self, address: u16) -> u8
+        ensures { result ≡ slice_index self.now.image address }
+    {
+        self.image.bytes()[usize::from(address)]
+    }
+
+    // Performs the step of an effect, but for its puts: its changes, and then its cycles.
+    pub(crate) fn pass(&mut self, effect: &Effect, extra: &[Timed]) -> Entries
+        requires { AreFew extra.now }
+        ensures image { self.new.image ≡ self.old.image }
+        ensures script { self.new.script ≡ self.old.script }
+        ensures port { result.port ≡ port_entry self.old.cycle effect.now }
+        ensures passed { record {
+          cpu = self.new.cpu;
+          periph = self.new.periph;
+          cycle = self.new.cycle;
+          sent = result.sent;
+        } ≡ cycles_passed (with_extra extra.now (inputs_of self.old.script)) effect.now.cycles
+            (changed_by self.old.cycle self.old.periph effect.now) }
+    {
+        let mut passing = Passing {
+            cpu: effect.cpu,
+            periph: begun(self.periph, effect),
+            cycle: self.cycle,
+            sent: None,
+        };
+        pass_cycles(&self.script, extra, effect.cycles, &mut passing);
+        let port = port_entry(self.cycle, effect);
+        let Passing {
+            cpu,
+            periph,
+            cycle,
+            sent,
+        } = passing;
+        self.cpu = cpu;
+        self.periph = periph;
+        self.cycle = cycle;
+        Entries { port, sent }
+    }
+}
+
+// A machine cycle without an instruction.
+pub(crate) fn idle(cpu: &Cpu) -> Effect
+    ensures { result ≡ idle_effect cpu.now }
+{
+    let mut cpu = *cpu;
+    cpu.held = false;
+    Effect {
+        cpu,
+        first: Put::Nothing,
+        second: Put::Nothing,
+        transfer: Transfer::Next,
+        port: None,
+        sbuf: None,
+        cycles: 1,
+    }
+}
+
+// The devices after a byte was written to SBUF, if one was.
+fn begun(periph: Periph, effect: &Effect) -> Periph
+    ensures { result ≡ begun_with effect.now.cpu effect.now.sbuf periph }
+{
+    let mut periph = periph;
+    if let Some(byte) = effect.sbuf {
+        periph.begin(&effect.cpu, byte);
+    }
+    periph
+}
+
+// The address of the latch of a port.
+fn latch_address(port: u8) -> u8
+    ensures { result ≡ latch_address port }
+{
+    match port {
+        0 => P0,
+        1 => P1,
+        2 => P2,
+        _ => P3,
+    }
+}
+
+// The entry of a step that starts in this cycle, if it wrote the latch of a port.
+fn port_entry(cycle: u64, effect: &Effect) -> Option<Entry>
+    ensures { result ≡ port_entry cycle effect.now }
+{
+    match effect.port {
+        None => None,
+        Some(port) => Some(Entry::Port {
+            cycle,
+            port,
+            value: effect.cpu.latch(latch_address(port)),
+        }),
+    }
+}

@@ -1,0 +1,28 @@
+//! Boards that run an image, and the sinks that take the lines of their records.
+#![tactic(auto)]
+
+mod attempt;
+mod board;
+mod chip;
+mod cycles;
+mod flat_board;
+mod judging;
+mod laws;
+mod memory;
+mod runs;
+mod sink;
+mod stdout;
+mod sure;
+
+pub use board::Board;
+pub use cycles::Timed;
+pub use flat_board::FlatBoard;
+pub use laws::flat_runs_agree;
+pub use memory::MemSink;
+pub use runs::{RunEnd, Step, Tally, Told};
+pub use sink::{Failed, Sink, write_whole};
+pub use stdout::{MOST_TRIES, StdSink};
+pub use sure::SureSink;
+
+#[cfg(test)]
+mod tests;

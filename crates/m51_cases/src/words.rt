@@ -1,0 +1,110 @@
+//! What words ask for.
+use m51_words::{Job, WordsError, job_of};
+use std::alloc::Global;
+use std::test::Fail;
+
+// The words of a text, with blanks between them. A word `''` is the empty one.
+fn words_in(alloc: Global, text: &str) -> Result<Vec<String>, Fail> {
+    let mut words = Vec::new(alloc);
+    for word in text.split(' ') {
+        words.push(String::from_str(alloc, if word == "''" { "" } else { word })?)?;
+    }
+    Ok(words)
+}
+
+// The verb that a text asks for.
+fn verb_of(alloc: Global, text: &str) -> Result<&'static str, Fail> {
+    let words = words_in(alloc, text)?;
+    Ok(match job_of(alloc, &words) {
+        Ok(Job::Build(_)) => "build",
+        Ok(Job::Asm(_)) => "asm",
+        Ok(Job::Library(_)) => "lib",
+        Ok(Job::Flat(_)) => "flat",
+        Ok(Job::Gen(_)) => "gen",
+        Err(WordsError::Usage) => "usage",
+        Err(WordsError::Memory) => "memory",
+    })
+}
+
+const ASKED: &str = "build --steps 5 a.a51
+build a.a51 --steps=5 b.OBJ --hex out c.Lib d.inc
+build --steps 5 -- a.a51
+build --steps 00000005 .a51
+build --steps 10000000 --hex= a.a51
+build --control c --script s --hex - --steps 1 a.A51
+build --steps 5 a.inc
+asm --out x a.a51 b.inc
+asm b.inc --out= a.A51
+lib build l a b
+lib add l a
+lib replace '' a
+lib delete l m n
+lib raise l m
+lib extract l m
+lib list l
+lib list help
+lib -- list -x
+flat --steps 1 x
+flat --script s --steps 1 x.a51
+gen --units 100 --start 4294967295 --steps 10000000
+gen --units 1 --start 0000000000 --steps 1";
+
+const REFUSED: &str = "build
+build --steps 0 a.a51
+build --steps 000000005 a.a51
+build --steps 10000001 a.a51
+build --steps +5 a.a51
+build --steps 5
+build --steps 5 a.txt
+build --steps 5 ''
+build --steps 5 --steps 6 a.a51
+build --steps -- 5 a.a51
+build --steps 5 --hex -x a.a51
+build --steps 5 -x a.a51
+build --step 5 a.a51
+build --STEPS 5 a.a51
+build --help
+build -h
+BUILD --steps 5 a.a51
+asm --out x a.a51 b.a51
+asm --out x b.inc
+asm --out x a.a51 b.obj
+asm a.a51
+lib
+lib list
+lib list l x
+lib build l
+lib build l ''
+lib extract l
+lib extract l m n
+lib delete l
+lib delete l 9
+lib raise l
+lib raise l ''
+lib extract l 9
+lib lists l
+lib list --help
+flat --steps 1 x y
+flat --steps 1
+flat --steps 1 ''
+gen --units 101 --start 1 --steps 1
+gen --units 0 --start 1 --steps 1
+gen --units 01 --start 1 --steps 1
+gen --units 1 --start 4294967296 --steps 1
+gen --units 1 --start 00000000001 --steps 1
+gen --units 1 --start 1 --steps 1 x
+gen --units 1 --start 1
+run
+''";
+
+#[test]
+fn words_are_those_of_simple_commands(rt: HostRuntime) -> Result<(), Fail> {
+    for line in ASKED.lines() {
+        let verb = verb_of(rt.alloc(), line)?;
+        assert!(rt; line.starts_with(verb));
+    }
+    for line in REFUSED.lines() {
+        assert_eq!(rt; verb_of(rt.alloc(), line)?, "usage");
+    }
+    Ok(())
+}

@@ -1,0 +1,57 @@
+-- Plans for work, and for what the shelf did.
+use Rattle.std.proofs.Common.{◌≡◌, ℕ, List, Option, Some, None, Result, Ok, Err, refl, ap, ◌∙◌}
+use Rattle.std.specs.Prelude.{IfOk}
+use Rattle.m51_cells.specs.declared.memory.NoMemory.{NoMemory}
+use Rattle.m51_words.specs.declared.job.Job.{Job}
+use Rattle.m51_words.specs.Files.{name_kept}
+use Rattle.m51_chain.specs.declared.work.Finished.{Finished}
+use Rattle.m51_chain.specs.declared.work.Ending.{Ending}
+use Rattle.m51_chain.specs.declared.work.Ending.TheVariants as ending
+use Rattle.m51_chain.specs.declared.work.Plan.{Plan}
+use Rattle.m51_chain.specs.declared.work.Reason.{Reason}
+use Rattle.m51_chain.specs.declared.work.Reason.TheVariants as reason
+use Rattle.m51_chain.specs.declared.work.Stop.{Stop}
+use Rattle.m51_chain.specs.declared.work.Stop.TheVariants as stop
+use Rattle.m51_cells.specs.declared.event.Event.{Event}
+use Rattle.m51_chain.specs.Due.{IsPlanned}
+use Rattle.m51_chain.specs.Expected.{HasOutcome, MayKeep}
+use Rattle.m51_chain.specs.Outcome.{Comes, answer_of, named_answer, outcome_of, refused, status_at, status_by, status_of}
+use Rattle.m51_chain.specs.Verbs.{IsOutcome}
+
+may_by : (event : Option Event) (keeps : Option (List ℕ)) → MayKeep (status_by event) keeps
+may_by None keeps = tt
+may_by (Some event) keeps = tt
+
+may_end : (e : Ending) (keeps : Option (List ℕ)) → MayKeep (status_at e) keeps
+unfolding status_at
+may_end ending.Ran keeps = tt
+may_end ending.Event keeps = tt
+may_end (ending.Run board steps) keeps = may_by _ keeps
+may_end (ending.FlatRun board steps) keeps = may_by _ keeps
+
+may_refuse : (why : Reason) → MayKeep (status_of why) None
+may_refuse reason.Source = refl
+may_refuse reason.Link = refl
+may_refuse reason.Object = refl
+may_refuse reason.Script = refl
+may_refuse reason.Limit = refl
+
+-- the plan for work has the outcome of the work
+pub work_outcome : (job : Job) (contents : List (List ℕ)) (name : Option (List ℕ)) (work : Result Finished Stop) (result : Result Plan NoMemory) → name ≡ name_kept job
+    → Comes (IsOutcome job contents) work → IsPlanned name work result → IfOk result (λ plan. HasOutcome job contents (answer_of plan))
+work_outcome job contents name (Ok done) (Ok plan) is comes planned = record {
+  outcome = outcome_of done;
+  work = comes;
+  keeps = may_end done.ending done.keeps;
+  is = planned ∙ ap (λ n. named_answer n (outcome_of done)) is;
+}
+work_outcome job contents name (Ok done) (Err none) is comes planned = tt
+work_outcome job contents name (Err (stop.Refused why text)) (Ok plan) is comes planned = record {
+  outcome = refused why text;
+  work = comes;
+  keeps = may_refuse why;
+  is = planned ∙ ap (λ n. named_answer n (refused why text)) is;
+}
+work_outcome job contents name (Err (stop.Refused why text)) (Err none) is comes planned = tt
+work_outcome job contents name (Err stop.Memory) (Ok plan) is comes planned = absurd planned
+work_outcome job contents name (Err stop.Memory) (Err none) is comes planned = tt

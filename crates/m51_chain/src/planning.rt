@@ -1,0 +1,176 @@
+//! Planning: from words to what is to be kept and written.
+ghost use Rattle.std.specs.Prelude.{◌≡◌, ◌⊎◌, ◌≤◌, IfOk, None, length, option_map, true};
+ghost use Rattle.std.specs.List.{All};
+ghost use Rattle.m51_cells.specs.declared.limits.TheConstants.{MOST_FILES, MOST_FILE_BYTES};
+ghost use Rattle.m51_words.specs.Files.{file_count, name_kept, names_read};
+ghost use Rattle.m51_words.specs.Texts.{texts};
+ghost use Rattle.m51_chain.specs.Asked.{asked_of, is_built};
+ghost use Rattle.m51_chain.specs.Due.{IsDue, IsDueFor, IsPlanned, ReadsOnly};
+ghost use Rattle.m51_chain.specs.Expected.{HasOutcome};
+ghost use Rattle.m51_chain.specs.Outcome.{Comes, answer_of, file_of, status_of, under};
+ghost use Rattle.m51_chain.specs.Reading.{ReadsSome};
+ghost use Rattle.m51_chain.specs.Verbs.{IsOutcome};
+
+use crate::asked::asked_of;
+use crate::building::build;
+use crate::flat::run_flat;
+use crate::library::operate;
+use crate::reading::{Unread, read_all};
+use crate::refusing::{refuse_long_file, refuse_many_files, refuse_unread_file, refuse_words};
+use crate::shelf::Shelf;
+use crate::status::Status;
+use crate::target::Target;
+use crate::work::{Finished, Kept, Plan, Reason, Stop};
+use m51_cells::{Bytes, MOST_FILES, NoMemory};
+use m51_words::{Job, WordsError, file_count, name_kept, names_read};
+use std::alloc::Global;
+
+// What the verb makes of the contents of its files.
+fn work(alloc: Global, job: &Job, contents: &[Bytes]) -> Result<Finished, Stop>
+    requires built { is_built job.now ≡ true }
+    requires count { length contents.now ≡ length (names_read job.now) }
+    requires within { All (λ bytes. length bytes ≤ MOST_FILE_BYTES) contents.now }
+    ensures { Comes (IsOutcome job.now contents.now) result }
+{
+    match job {
+        Job::Build(job) => build(alloc, job, contents),
+        Job::Asm(_) => unreachable!(),
+        Job::Library(job) => operate(alloc, job, contents),
+        Job::Flat(job) => run_flat(alloc, job, contents),
+        Job::Gen(_) => unreachable!(),
+    }
+}
+
+// The status of a reason.
+fn status_of(why: Reason) -> Status
+    ensures { result ≡ status_of why }
+{
+    match why {
+        Reason::Source => Status::Source,
+        Reason::Link => Status::Link,
+        Reason::Object => Status::Object,
+        Reason::Script => Status::Script,
+        Reason::Limit => Status::Limit,
+    }
+}
+
+// The bytes under the name, where both are there.
+fn under(target: Option<Target>, bytes: Option<Bytes>) -> Option<Kept>
+    ensures { option_map file_of result ≡ under target bytes }
+{
+    match (target, bytes) {
+        (Some(target), Some(bytes)) => Some(Kept { target, bytes }),
+        _ => None,
+    }
+}
+
+// The plan for what the work comes to, where the file that is kept has this name.
+fn planned(target: Option<Target>, work: Result<Finished, Stop>) -> Result<Plan, NoMemory>
+    ensures { IsPlanned target work result }
+{
+    match work {
+        Ok(
+            Finished {
+                keeps,
+                text,
+                ending,
+            },
+        ) => Ok(Plan::Accepted {
+            keeps: under(target, keeps),
+            text,
+            ending,
+        }),
+        Err(Stop::Refused { why, text }) => Ok(Plan::Refused {
+            status: status_of(why),
+            text,
+        }),
+        Err(Stop::Memory) => Err(NoMemory),
+    }
+}
+
+// The file that a job keeps, with the text where it could not be kept.
+fn target_of(alloc: Global, job: &Job) -> Result<Option<Target>, NoMemory>
+    ensures { IfOk result (λ target. target ≡ name_kept job.now) }
+{
+    match name_kept(alloc, job)? {
+        Some(name) => Ok(Some(Target::of(alloc, name)?)),
+        None => Ok(None),
+    }
+}
+
+// The plan for a job whose files were read whole. What is to be written where the file could not be kept is made before
+// the work, of which the board is the last that takes memory.
+fn work_planned(alloc: Global, job: &Job, contents: &[Bytes]) -> Result<Plan, NoMemory>
+    requires built { is_built job.now ≡ true }
+    requires count { length contents.now ≡ length (names_read job.now) }
+    requires within { All (λ bytes. length bytes ≤ MOST_FILE_BYTES) contents.now }
+    ensures { IfOk result (λ plan. HasOutcome job.now contents.now (answer_of plan)) }
+{
+    let target = target_of(alloc, job)?;
+    planned(target, work(alloc, job, contents))
+}
+
+// The plan for a job.
+fn plan_job<F: Shelf>(alloc: Global, job: &Job, files: &mut F) -> Result<Plan, NoMemory>
+    requires built { is_built job.now ≡ true }
+    ensures due { IfOk result (λ plan. IsDueFor job.now (F.state files.old).holds
+        (F.state files.old).reads (F.state files.new).reads (answer_of plan)) }
+    ensures later { (F.state files.old).reads.faults ≤ (F.state files.new).reads.faults }
+    ensures reads { ((F.state files.new).reads ≡ (F.state files.old).reads)
+        ⊎ ((file_count job.now ≤ MOST_FILES)
+        × ReadsSome (names_read job.now) (F.state files.old).reads (F.state files.new).reads) }
+    ensures holds { (F.state files.new).holds ≡ (F.state files.old).holds }
+    ensures keeps { (F.state files.new).keeps ≡ (F.state files.old).keeps }
+{
+    if file_count(job) > MOST_FILES {
+        return refuse_many_files(alloc);
+    }
+    plan_few(alloc, job, files)
+}
+
+// The plan for a job whose number of file words is no more than the most.
+fn plan_few<F: Shelf>(alloc: Global, job: &Job, files: &mut F) -> Result<Plan, NoMemory>
+    requires built { is_built job.now ≡ true }
+    requires few { file_count job.now ≤ MOST_FILES }
+    ensures due { IfOk result (λ plan. IsDueFor job.now (F.state files.old).holds
+        (F.state files.old).reads (F.state files.new).reads (answer_of plan)) }
+    ensures later { (F.state files.old).reads.faults ≤ (F.state files.new).reads.faults }
+    ensures reads { ((F.state files.new).reads ≡ (F.state files.old).reads)
+        ⊎ ReadsSome (names_read job.now) (F.state files.old).reads (F.state files.new).reads }
+    ensures holds { (F.state files.new).holds ≡ (F.state files.old).holds }
+    ensures keeps { (F.state files.new).keeps ≡ (F.state files.old).keeps }
+{
+    let names = names_read(alloc, job)?;
+    match read_all(alloc, names.as_slice(), files) {
+        Ok(contents) => work_planned(alloc, job, contents.as_slice()),
+        Err(Unread::TooLong) => refuse_long_file(alloc),
+        Err(Unread::Failed { index }) => refuse_unread_file(
+            alloc,
+            names.as_slice()[index].as_str(),
+        ),
+        Err(Unread::Memory) => Err(NoMemory),
+    }
+}
+
+// What is to be kept and written for these words: the words are read, then their files, and then the verb does its
+// work.
+pub(crate) fn plan<F: Shelf>(
+    alloc: Global,
+    words: &[String],
+    files: &mut F,
+) -> Result<Plan, NoMemory>
+    ensures due { IfOk result (λ plan. IsDue (texts words.now) (F.state files.old).holds
+        (F.state files.old).reads (F.state files.new).reads (answer_of plan)) }
+    ensures usage { asked_of (texts words.now) ≡ None → files.new ≡ files.old }
+    ensures later { (F.state files.old).reads.faults ≤ (F.state files.new).reads.faults }
+    ensures reads { ((F.state files.new).reads ≡ (F.state files.old).reads)
+        ⊎ ReadsOnly (texts words.now) (F.state files.old).reads (F.state files.new).reads }
+    ensures holds { (F.state files.new).holds ≡ (F.state files.old).holds }
+    ensures keeps { (F.state files.new).keeps ≡ (F.state files.old).keeps }
+{
+    match asked_of(alloc, words) {
+        Ok(job) => plan_job(alloc, &job, files),
+        Err(WordsError::Usage) => refuse_words(alloc),
+        Err(WordsError::Memory) => Err(NoMemory),
+    }
+}

@@ -1,0 +1,243 @@
+//! Refusals, before the work of a verb and by it, with their texts.
+ghost use Rattle.std.specs.Prelude.{◌≡◌, ◌++◌, IfOk, Some, decimal, option_map};
+ghost use Rattle.m51_hex.specs.Reading.{refusal_of as hex_refusal};
+ghost use Rattle.m51_module.specs.Library.{refusal_of as library_refusal};
+ghost use Rattle.m51_records.specs.Fields.{refusal_of as object_refusal};
+ghost use Rattle.m51_words.specs.Texts.{lent};
+ghost use Rattle.m51_chain.specs.Outcome.{answer_of, stopped, usage_answer, many_answer, long_answer, unread_answer};
+ghost use Rattle.m51_chain.specs.Refusals.{joined, object_words, library_outcome, object_outcome, edit_outcome};
+ghost use Rattle.m51_chain.specs.Refusals.{hex_words, hex_outcome, file_refused, edit_refused, full};
+
+use crate::status::Status;
+use crate::work::{Plan, Reason, Stop};
+use m51_cells::{Bytes, Name, NoMemory, hex2};
+use m51_hex::HexError;
+use m51_module::{LibError, ObjError};
+use std::alloc::Global;
+
+// These texts, one after the other.
+fn joined(alloc: Global, parts: &[&[u8]]) -> Result<Bytes, NoMemory>
+    ensures { IfOk result (λ bytes. bytes ≡ joined (lent parts.now)) }
+{
+    let mut bytes = Vec::new(alloc);
+    for part in parts {
+        bytes.extend_from_slice(part)?;
+    }
+    Ok(Bytes::of(bytes))
+}
+
+// A copy of a text.
+fn bytes_of(alloc: Global, text: &[u8]) -> Result<Bytes, NoMemory>
+    ensures { IfOk result (λ bytes. bytes ≡ text.now) }
+{
+    Ok(Bytes::of(text.to_vec(alloc)?))
+}
+
+// The words are faulty.
+pub(crate) fn refuse_words(alloc: Global) -> Result<Plan, NoMemory>
+    ensures { IfOk result (λ plan. answer_of plan ≡ usage_answer) }
+{
+    let text = bytes_of(
+        alloc,
+        b"usage: m51 build [--control F] [--script F] [--hex F] --steps N FILE..\n",
+    )?;
+    Ok(Plan::Refused {
+        status: Status::Usage,
+        text,
+    })
+}
+
+// There are more than 64 file words.
+pub(crate) fn refuse_many_files(alloc: Global) -> Result<Plan, NoMemory>
+    ensures { IfOk result (λ plan. answer_of plan ≡ many_answer) }
+{
+    let text = bytes_of(alloc, b"LIMIT FILES 64\n")?;
+    Ok(Plan::Refused {
+        status: Status::Limit,
+        text,
+    })
+}
+
+// A file has more bytes than the most.
+pub(crate) fn refuse_long_file(alloc: Global) -> Result<Plan, NoMemory>
+    ensures { IfOk result (λ plan. answer_of plan ≡ long_answer) }
+{
+    let text = bytes_of(alloc, b"LIMIT BYTES 1048576\n")?;
+    Ok(Plan::Refused {
+        status: Status::Limit,
+        text,
+    })
+}
+
+// The file of this name could not be read.
+pub(crate) fn refuse_unread_file(alloc: Global, file: &str) -> Result<Plan, NoMemory>
+    ensures { IfOk result (λ plan. answer_of plan ≡ unread_answer file.now) }
+{
+    let text = format!(in alloc; "READ FAULT {file}\n")?;
+    Ok(Plan::Refused {
+        status: Status::ReadFault,
+        text: bytes_of(alloc, text.as_bytes())?,
+    })
+}
+
+// A file is refused, for this.
+fn refuse_file(alloc: Global, file: &str, words: &[u8]) -> Result<Stop, NoMemory>
+    ensures { IfOk result (λ stop. stopped stop ≡ Some (file_refused file.now words.now)) }
+{
+    let text = joined(alloc, &[b"OBJECT ", file.as_bytes(), b": ", words, b"\n"])?;
+    Ok(Stop::Refused {
+        why: Reason::Object,
+        text,
+    })
+}
+
+// An edit is refused, for this.
+fn refuse_edit_for(alloc: Global, words: &[u8]) -> Result<Stop, NoMemory>
+    ensures { IfOk result (λ stop. stopped stop ≡ Some (edit_refused words.now)) }
+{
+    let text = joined(alloc, &[b"LIBRARY ", words, b"\n"])?;
+    Ok(Stop::Refused {
+        why: Reason::Object,
+        text,
+    })
+}
+
+// A library is full.
+fn refuse_full(alloc: Global) -> Result<Stop, NoMemory>
+    ensures { IfOk result (λ stop. stopped stop ≡ Some full) }
+{
+    let text = bytes_of(alloc, b"LIMIT MODULES 255\n")?;
+    Ok(Stop::Refused {
+        why: Reason::Limit,
+        text,
+    })
+}
+
+// A rule and a number.
+fn numbered(alloc: Global, rule: &str, number: u32) -> Result<Bytes, NoMemory>
+    ensures { IfOk result (λ words. words ≡ rule.now ++ decimal number) }
+{
+    let text = format!(in alloc; "{rule}{number}")?;
+    bytes_of(alloc, text.as_bytes())
+}
+
+// A wrong checksum.
+fn checksum_words(alloc: Global, record_no: u32, found: u8, needed: u8) -> Result<Bytes, NoMemory>
+    ensures { IfOk result (λ words. words ≡ object_words (ObjError.O2 record_no found needed)) }
+{
+    let rule = numbered(alloc, "O2 RECORD ", record_no)?;
+    let found = hex2(found);
+    let needed = hex2(needed);
+    joined(
+        alloc,
+        &[rule.as_slice(), b" FOUND ", &found, b" NEEDED ", &needed],
+    )
+}
+
+// What is wrong with an object, and where.
+fn object_words(alloc: Global, error: &ObjError) -> Result<Bytes, NoMemory>
+    ensures { IfOk result (λ words. words ≡ object_words error.now) }
+{
+    match error {
+        ObjError::O1 { at } => numbered(alloc, "O1 AT ", *at),
+        ObjError::O2 {
+            record_no,
+            found,
+            needed,
+        } => checksum_words(alloc, *record_no, *found, *needed),
+        ObjError::O3 { at } => numbered(alloc, "O3 AT ", *at),
+        ObjError::O4 { at } => numbered(alloc, "O4 AT ", *at),
+        ObjError::O5 { at } => numbered(alloc, "O5 AT ", *at),
+        ObjError::Memory => Ok(Bytes::new(alloc)),
+    }
+}
+
+// The object of this name is refused.
+pub(crate) fn refuse_object(alloc: Global, file: &str, error: &ObjError) -> Result<Stop, NoMemory>
+    ensures { IfOk result (λ stop. stopped stop ≡ option_map (object_outcome file.now) (object_refusal error.now)) }
+{
+    match error {
+        ObjError::Memory => Ok(Stop::Memory),
+        _ => {
+            let words = object_words(alloc, error)?;
+            refuse_file(alloc, file, words.as_slice())
+        }
+    }
+}
+
+// A file is refused at a name.
+fn refuse_file_at(alloc: Global, file: &str, rule: &[u8], name: &Name) -> Result<Stop, NoMemory>
+    ensures { IfOk result (λ stop. stopped stop ≡ Some (file_refused file.now (rule.now ++ name.now))) }
+{
+    let words = joined(alloc, &[rule, name.bytes()])?;
+    refuse_file(alloc, file, words.as_slice())
+}
+
+// The library of this name is refused.
+pub(crate) fn refuse_library(alloc: Global, file: &str, error: &LibError) -> Result<Stop, NoMemory>
+    ensures { IfOk result (λ stop. stopped stop ≡ option_map (library_outcome file.now) (library_refusal error.now)) }
+{
+    match error {
+        LibError::B1 { name } => refuse_file_at(alloc, file, b"B1 ", name),
+        LibError::B2 { name } => refuse_file_at(alloc, file, b"B2 ", name),
+        LibError::B3 { name } => refuse_file_at(alloc, file, b"B3 ", name),
+        LibError::Full => refuse_full(alloc),
+        LibError::Object(error) => {
+            let words = object_words(alloc, error)?;
+            refuse_file(alloc, file, words.as_slice())
+        }
+        LibError::Memory => Ok(Stop::Memory),
+    }
+}
+
+// An edit is refused at a name.
+fn refuse_edit_at(alloc: Global, rule: &[u8], name: &Name) -> Result<Stop, NoMemory>
+    ensures { IfOk result (λ stop. stopped stop ≡ Some (edit_refused (rule.now ++ name.now))) }
+{
+    let words = joined(alloc, &[rule, name.bytes()])?;
+    refuse_edit_for(alloc, words.as_slice())
+}
+
+// An edit of a library is refused.
+pub(crate) fn refuse_edit(alloc: Global, error: &LibError) -> Result<Stop, NoMemory>
+    ensures { IfOk result (λ stop. stopped stop ≡ option_map edit_outcome (library_refusal error.now)) }
+{
+    match error {
+        LibError::B1 { name } => refuse_edit_at(alloc, b"B1 ", name),
+        LibError::B2 { name } => refuse_edit_at(alloc, b"B2 ", name),
+        LibError::B3 { name } => refuse_edit_at(alloc, b"B3 ", name),
+        LibError::Full => refuse_full(alloc),
+        LibError::Object(error) => {
+            let words = object_words(alloc, error)?;
+            refuse_edit_for(alloc, words.as_slice())
+        }
+        LibError::Memory => Ok(Stop::Memory),
+    }
+}
+
+// What is wrong with a HEX file, and in which line.
+fn hex_words(alloc: Global, error: &HexError) -> Result<Bytes, NoMemory>
+    ensures { IfOk result (λ words. words ≡ hex_words error.now) }
+{
+    match error {
+        HexError::H1 { line } => numbered(alloc, "H1 LINE ", *line),
+        HexError::H2 { line } => numbered(alloc, "H2 LINE ", *line),
+        HexError::H3 { line } => numbered(alloc, "H3 LINE ", *line),
+        HexError::H4 { line } => numbered(alloc, "H4 LINE ", *line),
+        HexError::H5 => bytes_of(alloc, b"H5"),
+        HexError::Memory => Ok(Bytes::new(alloc)),
+    }
+}
+
+// The HEX file of this name is refused.
+pub(crate) fn refuse_hex(alloc: Global, file: &str, error: &HexError) -> Result<Stop, NoMemory>
+    ensures { IfOk result (λ stop. stopped stop ≡ option_map (hex_outcome file.now) (hex_refusal error.now)) }
+{
+    match error {
+        HexError::Memory => Ok(Stop::Memory),
+        _ => {
+            let words = hex_words(alloc, error)?;
+            refuse_file(alloc, file, words.as_slice())
+        }
+    }
+}

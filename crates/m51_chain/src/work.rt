@@ -1,0 +1,99 @@
+//! What the work of a verb comes to, and what is to be kept and written.
+use crate::status::Status;
+use crate::target::Target;
+use m51_cells::{Bytes, NoMemory};
+use m51_sim::{Board, FlatBoard};
+use m51_words::Steps;
+use std::alloc::AllocFailed;
+
+// Why the work of a verb is refused.
+#[derive(Clone, Copy, Debug, PartialEq, Eq)]
+pub(crate) enum Reason {
+    // A source has faults.
+    Source,
+    // The link is refused.
+    Link,
+    // An object, a library or a HEX file is refused.
+    Object,
+    // A control file or a script is refused.
+    Script,
+    // A quantity passed its limit.
+    Limit,
+}
+
+// How accepted work ends.
+#[derive(Drop)]
+pub(crate) enum Ending {
+    // Without an event.
+    Ran,
+    // By an event of a run whose record is not written.
+    Event,
+    // With a run, whose record is written.
+    Run { board: Board, steps: Steps },
+    // With a run on one memory, whose record is written.
+    FlatRun { board: FlatBoard, steps: Steps },
+}
+
+// What the work of a verb comes to, where it is accepted.
+#[derive(Drop)]
+pub(crate) struct Finished {
+    // The bytes of the file that is kept.
+    pub keeps: Option<Bytes>,
+    // The text that is written first.
+    pub text: Bytes,
+    pub ending: Ending,
+}
+
+// Why the work of a verb stops.
+#[derive(Drop)]
+pub(crate) enum Stop {
+    // It is refused, with a text.
+    Refused { why: Reason, text: Bytes },
+    // Out of memory.
+    Memory,
+}
+
+impl From<NoMemory> for Stop {
+    ghost use Rattle.std.specs.Prelude.{◌≡◌};
+    ghost use Rattle.m51_chain.specs.declared.work.Stop.TheVariants.{Memory};
+
+    ghost from_gives = { λ _ stop. stop ≡ Memory };
+
+    fn from(_error: NoMemory) -> Stop {
+        Stop::Memory
+    }
+}
+
+impl<T: Drop> From<AllocFailed<T>> for Stop {
+    ghost use Rattle.std.specs.Prelude.{◌≡◌};
+    ghost use Rattle.m51_chain.specs.declared.work.Stop.TheVariants.{Memory};
+
+    ghost from_gives = { λ _ stop. stop ≡ Memory };
+
+    fn from(_error: AllocFailed<T>) -> Stop {
+        Stop::Memory
+    }
+}
+
+// What is to be kept and written.
+#[derive(Drop)]
+pub(crate) enum Plan {
+    // A refusal: a status, and its text.
+    Refused {
+        status: Status,
+        text: Bytes,
+    },
+    // The file that is kept, the text that is written first, and how it ends.
+    Accepted {
+        keeps: Option<Kept>,
+        text: Bytes,
+        ending: Ending,
+    },
+}
+
+// A file that is to be kept.
+#[derive(Drop)]
+pub(crate) struct Kept {
+    pub target: Target,
+    pub bytes: Bytes,
+}

@@ -1,0 +1,13 @@
+pub mod Outcomes
+pub mod Content
+pub mod Lines
+pub mod Counting
+pub mod Growing
+pub mod PublicNames
+pub mod Pieces
+pub mod Within
+pub mod Gathering
+pub mod Rows
+pub mod Sizes
+pub mod ContentLaws
+pub mod GatheringLaws

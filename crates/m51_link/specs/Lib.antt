@@ -1,0 +1,10 @@
+pub mod Broken
+pub mod Fields
+pub mod Growing
+pub mod Image
+pub mod Link
+pub mod Memory
+pub mod Ready
+pub mod Runs
+pub mod Stretches
+pub mod Targets

@@ -1,0 +1,62 @@
+//! Puts the content of modules where it is placed.
+ghost use Rattle.std.specs.Prelude.{◌≡◌, IfOk, Some, map, slice_get, vec_len};
+ghost use Rattle.std.specs.Option.{option_map_or};
+ghost use Rattle.m51_link.specs.Image.{content_of, module_content, placed_piece};
+ghost use Rattle.m51_link.specs.Memory.{AreBytes, AreWritten};
+ghost use Rattle.m51_link.specs.Ready.{ArePlaced};
+
+use crate::addresses::address_of;
+use crate::memory::{empty_memory, put};
+use m51_cells::NoMemory;
+use m51_module::Module;
+use m51_place::Placing;
+use m51_resolve::Joined;
+use std::alloc::Global;
+
+// Puts the pieces of these parts, which are those of the module.
+fn fill_pieces(
+    memory: &mut Vec<Option<u8>>,
+    joined: &Joined,
+    placing: &Placing,
+    module: u8,
+    parts: &Module,
+)
+    requires placed { ArePlaced joined.now placing.now }
+    requires there { slice_get joined.now «module» ≡ Some parts.now }
+    requires whole { vec_len memory.old ≡ 65536 }
+    ensures { AreWritten (map (placed_piece joined.now placing.now «module») parts.now.pieces)
+        memory.old.items memory.new.items }
+{
+    for piece in parts.pieces() {
+        let at = address_of(joined, placing, module, piece.segment, piece.offset);
+        put(memory, at, piece.bytes.as_slice());
+    }
+}
+
+// Puts the content of the module.
+fn fill_module(memory: &mut Vec<Option<u8>>, joined: &Joined, placing: &Placing, module: u8)
+    requires placed { ArePlaced joined.now placing.now }
+    requires whole { vec_len memory.old ≡ 65536 }
+    ensures { AreWritten (module_content joined.now placing.now «module») memory.old.items memory.new.items }
+{
+    match joined.modules().get(usize::from(module)) {
+        Some(parts) => fill_pieces(memory, joined, placing, module, parts),
+        None => {}
+    }
+}
+
+// The content of the modules, by address.
+pub(crate) fn content_of(
+    alloc: Global,
+    joined: &Joined,
+    placing: &Placing,
+) -> Result<Vec<Option<u8>>, NoMemory>
+    requires { ArePlaced joined.now placing.now }
+    ensures { IfOk result (λ memory. AreBytes (content_of joined.now placing.now) memory.items) }
+{
+    let mut memory = empty_memory(alloc)?;
+    for module in 0..joined.modules().len() {
+        fill_module(&mut memory, joined, placing, module as u8);
+    }
+    Ok(memory)
+}

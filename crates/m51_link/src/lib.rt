@@ -1,0 +1,21 @@
+//! The linker: from modules, libraries and control lines to a layout and an image, or to the first rule that fails.
+#![tactic(auto)]
+
+mod addresses;
+mod checking;
+mod fields;
+mod filling;
+mod fixups;
+mod linked;
+mod linking;
+mod memory;
+mod patching;
+mod running;
+
+pub use checking::Spot;
+pub use fields::Field;
+pub use linked::Linked;
+pub use linking::link;
+
+#[cfg(test)]
+mod tests;

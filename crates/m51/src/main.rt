@@ -28,6 +28,6 @@ fn main(rt: HostRuntime) -> ExitCode {
     let mut files = DirShelf::make(&rt);
     let mut out = StdSink::make(&rt);
     let status = chain(rt.alloc(), &words, &mut files, &mut out);
-    // The variants of `Status` stand in the order of their numbers.
+    // The variants of `Status` are in the order of their numbers.
     ExitCode::from(status as u8)
 }

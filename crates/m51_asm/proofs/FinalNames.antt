@@ -1,18 +1,17 @@
 -- What is kept for pass 2 says what names and the place of a line stand for over the segments of the module.
-use Rattle.std.proofs.Common.{◌≡◌, ℕ, ◌+◌, ◌%◌, List, option_map, ap, sym, ◌∙◌}
+use Rattle.std.proofs.Common.{◌≡◌, ℕ, ◌%◌, List, option_map, ap, sym, ◌∙◌}
 use Rattle.m51_cells.specs.declared.kind.Base.TheVariants as base
 use Rattle.m51_expr.specs.declared.value.Part.TheVariants.{Whole}
 use Rattle.m51_text.specs.Answer.{LineTree}
 use Rattle.m51_asm.specs.declared.object_names.ObjectNames.{ObjectNames}
 use Rattle.m51_asm.specs.declared.object_names.PlacedText.{PlacedText}
 use Rattle.m51_asm.specs.declared.stepping.LinePlace.{LinePlace}
-use Rattle.m51_asm.specs.declared.values.Located.{Located}
 use Rattle.m51_asm.specs.Assignment.{Assignment, here_at}
-use Rattle.m51_asm.specs.Fitting.{filled, Fits}
+use Rattle.m51_asm.specs.Fitting.{Fits}
 use Rattle.m51_asm.specs.Located.{located_value}
 use Rattle.m51_asm.specs.OpenSegments.{text_segment}
 use Rattle.m51_asm.specs.Placing.{here_of, IsPlaceOf}
-use Rattle.m51_asm.specs.Table.{Table, first_in}
+use Rattle.m51_asm.specs.Table.{first_in}
 use Rattle.m51_asm.specs.Above.{Valuation, value_in}
 use Rattle.m51_asm.specs.ObjectMeanings.{object_meanings, final}
 use Rattle.m51_asm.specs.ValuesAt.{IsSetAt, IsKnownAt}

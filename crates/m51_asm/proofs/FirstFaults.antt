@@ -7,7 +7,8 @@ use Rattle.m51_asm.specs.ContentFaults.{fault_of_line, content_faults}
 use Rattle.m51_asm.specs.Answer.{Faults, fault_or, first_fault, placed_or_fault, content_or_faults, answer_of_lines}
 use Rattle.m51_asm.specs.FirstFault.{AreFree, IsFirstFault}
 
-moved : (n k : ℕ) → suc n + k ≡ n + suc k
+-- a number further on
+pub moved : (n k : ℕ) → suc n + k ≡ n + suc k
 moved n k = omega arith
 
 no_fault : (fault : ℕ → Option ℕ) (lines : List LineTree) (n : ℕ) → ((j : ℕ) → j < length lines → fault (n + j) ≡ None)

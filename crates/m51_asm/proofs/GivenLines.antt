@@ -1,5 +1,5 @@
 -- Pass 2 line by line: what is kept grows with a line as the definitions say.
-use Rattle.std.proofs.Common.{◌≡◌, ℕ, zero, suc, ◌+◌, ◌%◌, ◌||◌, Bool, cond, is_some, List, [], ◌∷◌, ◌++◌, append_assoc, map, drop, length, length-append, Option, Some, None, Ok, Err, refl, ap, sym, subst, ◌∙◌, slice_get, arith}
+use Rattle.std.proofs.Common.{◌≡◌, ℕ, zero, suc, ◌%◌, ◌||◌, cond, is_some, List, [], ◌∷◌, ◌++◌, append_assoc, map, drop, length, length-append, Option, Some, None, Ok, Err, refl, ap, sym, subst, ◌∙◌, slice_get, arith}
 use Rattle.m51_isa.specs.declared.generics.Jump.{Jump}
 use Rattle.m51_expr.specs.Meanings.{Meanings}
 use Rattle.m51_module.specs.declared.source.Fault.{Fault}
@@ -9,6 +9,7 @@ use Rattle.m51_text.specs.Answer.{LineTree}
 use Rattle.m51_content.specs.Outcomes.{made_with, made_with_all, or_next, leftmost_fault}
 use Rattle.m51_content.specs.declared.content.Content.{Content}
 use Rattle.m51_content.specs.Content.{outcomes_by, content_by}
+use Rattle.m51_content.proofs.CountedParts.{or_nothing}
 use Rattle.m51_content.specs.PublicNames.{Published, public_outcome, if_public}
 use Rattle.m51_asm.specs.declared.contents.Contents.{Contents}
 use Rattle.m51_asm.specs.Assignment.{Assignment, body_of, body_at}
@@ -25,7 +26,8 @@ use Rattle.m51_asm.specs.Placing.{here_of, IsPlaceOf}
 use Rattle.m51_asm.proofs.FinalNames.{place_is}
 use Rattle.m51_content.specs.Rows.{has_place, place_in, row_in}
 use Rattle.m51_asm.specs.ValuesAt.{IsSetAt}
-use Rattle.m51_asm.specs.Publishing.{publics_among, fault_among, published_names}
+use Rattle.m51_asm.specs.Publishing.{publics_among, fault_among}
+use Rattle.m51_asm.specs.Repeats.{publics_in}
 use Rattle.m51_asm.specs.Contents.{nothing_given, AreContents, IsGivenTo}
 use Rattle.m51_asm.proofs.PassedLines.{pushed_each}
 use Rattle.m51_asm.proofs.PublishedNames.{publics_fault}
@@ -37,10 +39,6 @@ drop_at (y ∷ xs) zero x e =
     let same : y ≡ x = cc e in
     ap (λ z. z ∷ xs) same
 drop_at (y ∷ xs) (suc k) x e = drop_at xs k x e
-
-or_nothing : (fault : Option ℕ) → or_next fault None ≡ fault
-or_nothing (Some number) = refl
-or_nothing None = refl
 
 module _ (lines : List LineTree) (a : Assignment) (k made : ℕ) where
   public_made : (p : Published) → made_with made (public_outcome p) ≡ made
@@ -58,7 +56,7 @@ module _ (lines : List LineTree) (a : Assignment) (k made : ℕ) where
   made_is body = refl
 
   fault_is : (body : BodyTree)
-      → or_next (leftmost_fault made (outcomes_by (final lines a k) (a.form k) body)) (fault_among (published lines a k) (published_names body))
+      → or_next (leftmost_fault made (outcomes_by (final lines a k) (a.form k) body)) (fault_among (published lines a k) (publics_in body))
       ≡ leftmost_fault made (line_outcomes_by lines a k body)
   fault_is (Public names) = publics_fault lines a k made names
   fault_is body = or_nothing (leftmost_fault made (outcomes_by (final lines a k) (a.form k) body))
@@ -67,7 +65,7 @@ same_publics : (lines : List LineTree) (a : Assignment) (k : ℕ) (names : List 
 same_publics lines a k [] = refl
 same_publics lines a k (name ∷ names) = ap (if_public (published lines a k name)) (same_publics lines a k names)
 
-publics_are : (lines : List LineTree) (a : Assignment) (k : ℕ) (body : BodyTree) → publics_among (published lines a k) (published_names body) ≡ publics_by lines a k body
+publics_are : (lines : List LineTree) (a : Assignment) (k : ℕ) (body : BodyTree) → publics_among (published lines a k) (publics_in body) ≡ publics_by lines a k body
 publics_are lines a k (Public names) = same_publics lines a k names
 publics_are lines a k body = refl
 
@@ -85,13 +83,13 @@ module _ (lines : List LineTree) (a : Assignment) (k : ℕ) (line : LineTree) (i
       ∙ made_is lines a k (made_before lines a k) (body_at lines k)
 
   faults_next : after.faults
-      ≡ before.faults ++ if_fault line (or_next (leftmost_fault before.made (outcomes_by names form line.stmt.body)) (fault_among of (published_names line.stmt.body))) []
+      ≡ before.faults ++ if_fault line (or_next (leftmost_fault before.made (outcomes_by names form line.stmt.body)) (fault_among of (publics_in line.stmt.body))) []
       → after.faults ++ faults_from (content_fault lines a) (suc k) (drop (suc k) lines) ≡ content_faults lines a
   unfolding content_fault line_outcomes
   faults_next e =
       ap (λ fs. fs ++ faults_from (content_fault lines a) (suc k) (drop (suc k) lines))
       (e ∙ ap (λ o. before.faults ++ if_fault line o [])
-      ((λ i. or_next (leftmost_fault (h.made i) (outcomes_by (same i) (jumps i) (body_of (sym is i)))) (fault_among (publish i) (published_names (body_of (sym is i)))))
+      ((λ i. or_next (leftmost_fault (h.made i) (outcomes_by (same i) (jumps i) (body_of (sym is i)))) (fault_among (publish i) (publics_in (body_of (sym is i)))))
       ∙ fault_is lines a k (made_before lines a k) (body_at lines k)))
       ∙ append_assoc before.faults (if_fault line (content_fault lines a k) []) (faults_from (content_fault lines a) (suc k) (drop (suc k) lines))
       ∙ ap (λ fs. before.faults ++ fs)
@@ -107,10 +105,10 @@ module _ (lines : List LineTree) (a : Assignment) (k : ℕ) (line : LineTree) (i
       ∙ ap (λ ls. before.rows ++ rows_from lines a k ls) (sym (drop_at lines k line is))
       ∙ h.rows
 
-  publics_next : after.publics ≡ before.publics ++ publics_among of (published_names line.stmt.body) → after.publics ≡ publics_before lines a (suc k)
+  publics_next : after.publics ≡ before.publics ++ publics_among of (publics_in line.stmt.body) → after.publics ≡ publics_before lines a (suc k)
   unfolding publics_before
   publics_next e =
-      e ∙ (λ i. h.publics i ++ publics_among (publish i) (published_names (body_of (sym is i))))
+      e ∙ (λ i. h.publics i ++ publics_among (publish i) (publics_in (body_of (sym is i))))
       ∙ ap (λ ps. publics_before lines a k ++ ps) (publics_are lines a k (body_at lines k))
 
   content_next : (c : Content) → c ≡ content_by names form line.stmt.body → c ≡ content_at lines a k
@@ -123,8 +121,8 @@ module _ (lines : List LineTree) (a : Assignment) (k : ℕ) (line : LineTree) (i
       (pushed_each (λ j x. x ≡ content_at lines a j) before.given c h.each (subst (λ n. c ≡ content_at lines a n) (sym h.counted) is_content))
 
   pub next_given : (row : Row) (c : Content) → IsSetAt lines a (suc k) after.set → after.made ≡ made_with_all before.made (outcomes_by names form line.stmt.body)
-      → after.publics ≡ before.publics ++ publics_among of (published_names line.stmt.body)
-      → after.faults ≡ before.faults ++ if_fault line (or_next (leftmost_fault before.made (outcomes_by names form line.stmt.body)) (fault_among of (published_names line.stmt.body))) []
+      → after.publics ≡ before.publics ++ publics_among of (publics_in line.stmt.body)
+      → after.faults ≡ before.faults ++ if_fault line (or_next (leftmost_fault before.made (outcomes_by names form line.stmt.body)) (fault_among of (publics_in line.stmt.body))) []
       → after.rows ≡ before.rows ++ row ∷ [] → row ≡ row_of line (place_of a k line) c → after.given ≡ before.given ++ c ∷ []
       → c ≡ content_by names form line.stmt.body → IsGivenTo lines a (suc k) after
   next_given row c sets made publics faults rows row_is given content = record {

@@ -141,7 +141,7 @@ all_good : (ls : List TextLine) → AllByRecursion GoodTree (statements_of ls)
 all_good [] = tt
 all_good (l ∷ ls) = one_good l (said l.bytes) (statements_of ls) refl (all_good ls)
 
-found_are : (faults : List Fault) (ls found : List LineTree) → faults_or_lines faults ls ≡ Lines found → ls ≡ found
+pub found_are : (faults : List Fault) (ls found : List LineTree) → faults_or_lines faults ls ≡ Lines found → ls ≡ found
 found_are [] ls found h = cc h
 found_are (fault ∷ faults) ls found h = absurd (cc h)
 

@@ -22,7 +22,7 @@ use Rattle.m51_coding.specs.Items.{item_field, field_of_width, number_bytes}
 use Rattle.m51_coding.proofs.BitNumbers.{linked_is}
 use Rattle.m51_stmt.proofs.ListWords.{Each}
 use Rattle.m51_stmt.proofs.PrintedLists.{IsItem}
-use Rattle.m51_asm.specs.Fitting.{item_size, items_size}
+use Rattle.m51_content.specs.Sizes.{item_size, items_size}
 use Rattle.m51_asm.specs.Content.{ReferenceAt, Content, item_outcome, item_given, item_content, later, followed_by, joined}
 use Rattle.m51_asm.proofs.Members.{Every, Pairs, in_cons, no_element, in_map, every_append, pairs_append, pairs_map, pairs_weaker}
 use Rattle.m51_asm.proofs.RowFields.{width}

@@ -1,12 +1,4 @@
-pub mod Breaks
-pub mod Options
 pub mod Written
-pub mod Named
-pub mod Declaring
-pub mod Codings
-pub mod Keeping
-pub mod Valid
-pub mod Ending
 pub mod OneAssignment
 pub mod AnAssignment
 pub mod NamedEntries
@@ -57,3 +49,5 @@ pub mod FinalNames
 pub mod SelectedBanks
 pub mod PublishedNames
 pub mod GivenLines
+pub mod GatheredLines
+pub mod AnsweredLines

@@ -1,5 +1,5 @@
 -- The segments of a module and the numbers of ids, line by line.
-use Rattle.std.proofs.Common.{◌≡◌, ℕ, zero, suc, ◌+◌, ◌<◌, ◌≤◌, ◌==◌, Bool, true, false, cond, List, [], ◌∷◌, ◌++◌, map, length, length-append, Option, Some, None, option_map, is_some, ◌&&◌, refl, ap, sym, subst, ◌∙◌, slice_get, unwrap_or, arith, eq-eqb, append-nil}
+use Rattle.std.proofs.Common.{◌≡◌, ℕ, zero, suc, ◌+◌, ◌≤◌, ◌==◌, Bool, true, false, cond, List, [], ◌∷◌, ◌++◌, map, length, length-append, Option, Some, None, option_map, is_some, ◌&&◌, refl, ap, sym, ◌∙◌, arith, eq-eqb, append-nil}
 use Rattle.std.proofs.lemmas.Bool.{eqb-true, eqb-false, ne_eqb}
 use Rattle.std.proofs.lemmas.List.{map-append, length-map}
 use Rattle.m51_module.specs.declared.segment.Segment.{Segment}
@@ -9,7 +9,7 @@ use Rattle.m51_asm.specs.declared.numbering.Numbering.{Numbering}
 use Rattle.m51_asm.specs.Assignment.{TextSegment, Assignment, opening, body_at}
 use Rattle.m51_asm.specs.Repeats.{or_here}
 use Rattle.m51_asm.proofs.DefinedLines.{or_none}
-use Rattle.m51_asm.specs.ObjectSegments.{Kept, size_of, relocatable, absolute_of, if_filled, begun_by, kept_by, kept_before, kept, object_segments, from_one, place_in, local_number, number_in, segment_number}
+use Rattle.m51_asm.specs.ObjectSegments.{Kept, size_of, if_filled, kept_by, kept_before, kept, from_one, place_in, number_in}
 use Rattle.m51_asm.specs.Numbering.{number_at, segment_filled, segment_added, as_list, next_number, IsNumberedTo, IsNumbering}
 
 -- a segment of this id, or none

@@ -1,7 +1,6 @@
 -- Pass 1 line by line: where it stops, and how one line more is passed.
-use Rattle.std.proofs.Common.{◌≡◌, ℕ, zero, suc, ◌+◌, ◌<◌, ◌≤◌, nat_le, true, false, List, [], ◌∷◌, ◌++◌, length, Option, Some, None, refl, ap, sym, subst, ◌∙◌, slice_get, arith, add-one, below_more, length-append}
+use Rattle.std.proofs.Common.{◌≡◌, ℕ, zero, suc, ◌<◌, ◌≤◌, true, false, List, [], ◌∷◌, ◌++◌, length, Option, Some, None, refl, ap, sym, subst, ◌∙◌, slice_get, arith, add-one, below_more, length-append}
 use Rattle.std.proofs.lemmas.Bool.{leb-false, leb-true}
-use Rattle.std.proofs.lemmas.Bool.Decides.{leb_tells}
 use Rattle.m51_cells.specs.declared.fault.TheConstants.{DEFINED_TWICE}
 use Rattle.m51_text.specs.Answer.{LineTree}
 use Rattle.m51_asm.specs.declared.placing.Placing.{Placing}

@@ -5,7 +5,7 @@ use Rattle.m51_cells.specs.declared.kind.Base.{Base}
 use Rattle.m51_cells.specs.declared.kind.Base.TheVariants as base
 use Rattle.m51_expr.specs.declared.value.Value.{Value}
 use Rattle.m51_stmt.specs.Statement.{BodyTree, Segment as Declares}
-use Rattle.m51_text.specs.Answer.{LineTree, line_tree}
+use Rattle.m51_text.specs.Answer.{LineTree}
 use Rattle.m51_content.specs.Outcomes.{or_next, leftmost_fault}
 use Rattle.m51_content.specs.PublicNames.{Published, public_outcome}
 use Rattle.m51_content.specs.PublicNames as content
@@ -13,14 +13,14 @@ use Rattle.m51_asm.specs.declared.object_names.ObjectNames.{ObjectNames}
 use Rattle.m51_asm.specs.declared.object_names.PlacedText.{PlacedText}
 use Rattle.m51_asm.specs.declared.stepping.LinePlace.{LinePlace}
 use Rattle.m51_asm.specs.Definitions.{Definition, Label, SegmentOf, EquOf, SetOf, AddressOf, ExternOf, definition_of}
-use Rattle.m51_asm.specs.Assignment.{TextSegment, Assignment, opening, body_of, body_at, reloc_by, above}
+use Rattle.m51_asm.specs.Assignment.{Assignment, body_of, body_at, reloc_by, above}
 use Rattle.m51_asm.specs.Fitting.{segment_by, segment_behind, last_absolute, Fits}
 use Rattle.m51_asm.specs.Table.{first_of}
 use Rattle.m51_asm.specs.ObjectSegments.{segment_number, segment_of, declared_or}
 use Rattle.m51_asm.specs.ObjectMeanings.{object_base, object_value, final}
 use Rattle.m51_asm.specs.OpenSegments.{text_segment}
 use Rattle.m51_asm.specs.PublicNames.{public_of_value, public_valued, public_by, published}
-use Rattle.m51_asm.specs.ObjectNames.{kept_value, IsReady, AreNamesAt}
+use Rattle.m51_asm.specs.ObjectNames.{IsReady, AreNamesAt}
 use Rattle.m51_asm.specs.Publishing.{definer_of, declared_as, next_of, counted_from, counted_by, segment_in, published_from, published_by, fault_of_public, fault_among}
 
 -- the public of a value over the numbers of the module

@@ -1,5 +1,5 @@
 -- Which banks the lines of a text select.
-use Rattle.std.proofs.Common.{◌≡◌, ℕ, suc, ◌||◌, Bool, List, refl, ap, sym, ◌∙◌}
+use Rattle.std.proofs.Common.{◌≡◌, ℕ, suc, ◌||◌, Bool, List, refl, ap, ◌∙◌}
 use Rattle.m51_expr.specs.Meanings.{Meanings}
 use Rattle.m51_stmt.specs.Statement.{BodyTree, Using}
 use Rattle.m51_text.specs.Answer.{LineTree}

@@ -1,5 +1,5 @@
 -- What names stand for at a line, by the values that the whole text gives and by what its SET statements gave.
-use Rattle.std.proofs.Common.{◌≡◌, ℕ, suc, ◌≤◌, Bool, true, false, cond, List, [], ◌∷◌, ◌++◌, length, take, Option, Some, None, refl, ap, sym, ◌∙◌, slice_get, option_map, arith}
+use Rattle.std.proofs.Common.{◌≡◌, ℕ, suc, Bool, true, false, cond, List, [], ◌∷◌, ◌++◌, length, Option, Some, None, refl, ap, sym, ◌∙◌, slice_get, option_map, arith}
 use Rattle.std.proofs.lemmas.List.{take_all}
 use Rattle.std.proofs.lemmas.Slice.Eq.{bytes_eq-Decides}
 use Rattle.std.specs.Str.{bytes_eq}
@@ -13,16 +13,16 @@ use Rattle.m51_text.specs.Answer.{LineTree}
 use Rattle.m51_predefined.specs.Predefined.{absolute_register_of}
 use Rattle.m51_asm.specs.declared.stepping.LinePlace.{LinePlace}
 use Rattle.m51_asm.specs.declared.values.Located.{Located}
-use Rattle.m51_asm.specs.Definitions.{Definition, Defined, Label, SegmentOf, EquOf, SetOf, AddressOf, ExternOf, externals_from, defined_by, label_defined, definitions_in, found_in, definition_of}
-use Rattle.m51_asm.specs.Assignment.{Assignment, body_of, defined_of, value_or_none, here_at, above}
-use Rattle.m51_asm.specs.Fitting.{bank_before, last_set, set_by, externals_before, undefined_value, register_or_predefined, value_by, named_value, mod51, Fits}
+use Rattle.m51_asm.specs.Definitions.{Definition, Defined, Label, SegmentOf, EquOf, SetOf, AddressOf, ExternOf, externals_from, defined_by, label_defined, found_in, definition_of}
+use Rattle.m51_asm.specs.Assignment.{Assignment, body_of, defined_of, value_or_none, above}
+use Rattle.m51_asm.specs.Fitting.{bank_before, last_set, set_by, undefined_value, register_or_predefined, named_value, mod51, Fits}
 use Rattle.m51_asm.specs.Located.{located_value}
-use Rattle.m51_asm.specs.Table.{Table, first_in, first_of}
+use Rattle.m51_asm.specs.Table.{Table, first_of}
 use Rattle.m51_asm.specs.ValuesAbove.{defined_value, value_above}
 use Rattle.m51_asm.specs.Above.{Valuation, value_in}
 use Rattle.m51_asm.specs.GivenValues.{expression_given}
 use Rattle.m51_asm.specs.Placing.{IsPlaceOf}
-use Rattle.m51_asm.specs.ValuesAt.{value_by_first, value_at, IsKeptOfAll, IsSetAt, if_put, PutsIf, set_in, IsKnownAt}
+use Rattle.m51_asm.specs.ValuesAt.{value_by_first, value_at, IsSetAt, if_put, PutsIf, set_in, IsKnownAt}
 
 -- what all lines give to a name is what its definition in the text gives
 defined_in_all : (lines : List LineTree) (a : Assignment) (name : List ℕ)

@@ -4,6 +4,8 @@ use Rattle.m51_module.specs.declared.parts.ModuleParts.{ModuleParts}
 use Rattle.m51_module.specs.declared.source.Row.{Row}
 use Rattle.m51_module.specs.declared.source.SourceFile.{SourceFile}
 use Rattle.m51_module.specs.declared.source.Fault.{Fault}
+use Rattle.m51_asm.specs.declared.outcome.Assembled.{Assembled}
+use Rattle.m51_asm.specs.declared.outcome.Assembled.TheVariants as assembled
 use Rattle.m51_text.specs.Answer.{LineTree, TextTree, Lines, Faults as TextFaults, text_of}
 use Rattle.m51_asm.specs.Assignment.{Assignment}
 use Rattle.m51_asm.specs.Fitting.{Fits}
@@ -49,3 +51,8 @@ IsAnswerOf file (Lines lines) answer = (a : Assignment) → Fits lines a → ans
 -- the answer for a source with these includes
 abbrev pub IsAnswer : SourceFile → List SourceFile → AnswerTree → Type 0
 IsAnswer source includes answer = IsAnswerOf source.name (text_of source includes) answer
+
+-- what a call gives, as an answer
+abbrev pub tree_of : Assembled → AnswerTree
+tree_of (assembled.Module parts rows) = Gives parts rows
+tree_of (assembled.Faults faults) = Faults faults

@@ -1,15 +1,4 @@
-pub mod Lines
-pub mod Numbers
 pub mod Naming
-pub mod Instruction
-pub mod Statement
-pub mod Declarations
-pub mod Coding
-pub mod Code
-pub mod Work
-pub mod Module
-pub mod Assembled
-pub mod Kept
 pub mod Definitions
 pub mod Assignment
 pub mod Fitting
@@ -48,3 +37,4 @@ pub mod ObjectNames
 pub mod Banks
 pub mod Publishing
 pub mod Contents
+pub mod Gathering

@@ -4,7 +4,7 @@ use Rattle.m51_cells.specs.declared.kind.Base.{Base}
 use Rattle.m51_cells.specs.declared.kind.Base.TheVariants as base
 use Rattle.m51_module.specs.declared.symbol.Public.{Public}
 use Rattle.m51_expr.specs.declared.value.Value.{Value}
-use Rattle.m51_stmt.specs.Statement.{BodyTree, Segment as Declares, Public as Publishes}
+use Rattle.m51_stmt.specs.Statement.{BodyTree, Segment as Declares}
 use Rattle.m51_text.specs.Answer.{LineTree, line_tree}
 use Rattle.m51_content.specs.declared.publics.Definer.{Definer}
 use Rattle.m51_content.specs.declared.publics.Definer.TheVariants as by
@@ -86,8 +86,3 @@ fault_of_public (Err number) = Some number
 abbrev pub fault_among : (List ℕ → Published) → List (List ℕ) → Option ℕ
 fault_among of [] = None
 fault_among of (name ∷ names) = or_next (fault_of_public (of name)) (fault_among of names)
-
--- the names of a PUBLIC
-abbrev pub published_names : BodyTree → List (List ℕ)
-published_names (Publishes names) = names
-published_names body = []

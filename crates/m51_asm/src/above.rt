@@ -1,4 +1,4 @@
-//! What names and the place of a line stand for, by what the lines above it gave.
+//! What names and the place of a line mean, by what the lines above it gave.
 ghost use Rattle.std.specs.Prelude.{◌≡◌, ◌<◌, map, option_map, slice_get};
 ghost use Rattle.m51_cells.specs.declared.kind.Reloc.{Reloc};
 ghost use Rattle.m51_cells.specs.Kinds.{is_absolute};
@@ -92,7 +92,7 @@ pub(crate) fn undefined_value(mod51: bool, bank: u8, name: &Name) -> Option<Loca
     }
 }
 
-/// What is kept of the lines above a line: with it names stand for what they stand for there.
+/// What is kept of the lines above a line: it gives the meaning of names there.
 #[derive(Clone, Copy)]
 pub(crate) struct Above<'a> {
     pub(crate) lines: &'a [Line],

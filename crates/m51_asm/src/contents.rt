@@ -10,14 +10,16 @@ ghost use Rattle.m51_asm.specs.ObjectNames.{IsReady};
 ghost use Rattle.m51_asm.specs.Contents.{nothing_given, IsGivenTo};
 
 use crate::object_names::{PlacedText, names_of};
+use crate::outcome::fault_of_line;
 use crate::placing::here_of;
-use crate::publishing::{or_next, publish, published_names};
+use crate::publishing::{or_next, publish};
+use crate::repeats::publics_in;
 use crate::stepping::LinePlace;
 use crate::valuation::Values;
 use crate::values_at::take_set;
 use m51_cells::{ListOf, NoMemory};
 use m51_content::{Content, LineContent, line_content, place_of, row_of};
-use m51_module::{Fault, Faults, Publics, Row, Rows};
+use m51_module::{Faults, Publics, Row, Rows};
 use m51_text::Line;
 use std::alloc::Global;
 
@@ -39,14 +41,10 @@ pub(crate) struct Contents {
 fn push_fault(faults: &mut Faults, line: &Line, fault: Option<u8>) -> Result<(), NoMemory>
     ensures { OnOk result (faults.new ≡ faults.old ++ if_fault (line_tree line.now) fault []) }
 {
-    match fault {
-        Some(number) => faults.push(Fault {
-            file: line.file,
-            line: line.line,
-            number,
-        }),
-        None => Ok(()),
+    if let Some(number) = fault {
+        faults.push(fault_of_line(line, number))?;
     }
+    Ok(())
 }
 
 // The row of a line.
@@ -111,7 +109,7 @@ fn give_line(
         here,
     );
     let told = line_content(alloc, &names, place.form, &line.stmt.body, before_line)?;
-    let unpublished = publish(text, &names, &mut publics, published_names(&line.stmt.body))?;
+    let unpublished = publish(text, &names, &mut publics, publics_in(&line.stmt.body))?;
     let LineContent {
         content,
         fault,
@@ -131,7 +129,7 @@ fn give_line(
     })
 }
 
-/// What all lines of a text give. The one error is out of memory.
+/// What all lines of a text give. The only error is out of memory.
 pub(crate) fn give_lines(alloc: Global, text: &PlacedText<'_>) -> Result<Contents, NoMemory>
     requires { length text.now.places.now ≡ length text.now.text.lines.now }
     ensures { IfOk result (λ all. (lines : List LineTree) (a : Assignment) → IsReady lines a text.now

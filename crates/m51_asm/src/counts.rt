@@ -134,7 +134,7 @@ pub(crate) fn passes(segment: OpenSegment, size: u64) -> bool
     end_of(segment.kind) < u128::from(segment.base) + u128::from(size) || 65535 < size
 }
 
-/// Whether a statement may not stand in its segment.
+/// Whether a statement is not allowed in its segment.
 pub(crate) fn is_misplaced(segment: OpenSegment, body: &Body) -> bool
     ensures { result ≡ is_misplaced (text_segment segment) (body_tree body.now) }
 {

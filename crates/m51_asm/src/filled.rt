@@ -59,7 +59,7 @@ impl Filled {
         }
     }
 
-    /// Says how much is given to a segment now. The one error is out of memory.
+    /// Says how much is given to a segment now. The only error is out of memory.
     pub(crate) fn set(&mut self, id: usize, size: u64) -> Result<(), NoMemory>
         ensures { OnOk result (Sets self.old self.new id size) }
     {

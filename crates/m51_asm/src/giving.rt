@@ -24,7 +24,7 @@ pub(crate) struct Giving {
     pub(crate) externals: u64,
 }
 
-/// The value of the expression of a definition or an address statement, if it has one. The one error is out of memory.
+/// The value of the expression of a definition or an address statement, if it has one. The only error is out of memory.
 pub(crate) fn expression_given<P: Places>(
     alloc: Global,
     names: &P,
@@ -94,7 +94,7 @@ fn given_by(giving: &Giving, how: How) -> Result<Option<Located>, NoMemory>
     }
 }
 
-/// Takes in the values of the definitions of a line, of which the first one of a name counts. The one error is out of
+/// Takes in the values of the definitions of a line, of which the first one of a name counts. The only error is out of
 /// memory.
 pub(crate) fn take_in(
     alloc: Global,

@@ -1,4 +1,4 @@
-//! What names stand for with the label of a line, and the form of its JMP or CALL.
+//! What names mean with the label of a line, and the form of its JMP or CALL.
 ghost use Rattle.std.specs.Prelude.{◌≡◌, option_map, IfOk};
 ghost use Rattle.std.specs.Str.{bytes_eq};
 ghost use Rattle.m51_expr.specs.Tree.{tree_of};
@@ -16,7 +16,7 @@ use m51_isa::{Jump, Verb};
 use m51_stmt::Body;
 use std::alloc::Global;
 
-/// What names stand for, with the label of the line.
+/// What names mean, with the label of the line.
 #[derive(Clone, Copy)]
 pub(crate) struct Labelled<'a, P> {
     pub(crate) names: &'a P,
@@ -96,7 +96,7 @@ fn form_of_verb<P: Places>(
     }
 }
 
-/// The form of the JMP or CALL of a line; any other line counts as long. The one error is out of memory.
+/// The form of the JMP or CALL of a line; any other line counts as long. The only error is out of memory.
 pub(crate) fn form_of<P: Places>(alloc: Global, names: &P, body: &Body) -> Result<Jump, NoMemory>
     ensures { IfOk result (λ form. form ≡ form_by (P.meanings names.now) (body_tree body.now)) }
 {

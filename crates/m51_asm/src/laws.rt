@@ -54,7 +54,7 @@ pub fn values_grow()
     ensures { ValuesGrow }
 {}
 
-/// At a line a name stands for the value that lines above give it, or where the text does not define it for what it is
+/// At a line a name has the value that lines above give it, or if the text does not define it the one that it has
 /// without a definition.
 ///
 /// Source: own choice ("The assignment of a text").
@@ -62,7 +62,7 @@ pub fn values_are_seen()
     ensures { ValuesAreSeen }
 {}
 
-/// What is kept of the lines above a line says what names stand for there, as the assignment that fits does.
+/// What is kept of the lines above a line says what names mean there, as the assignment that fits does.
 ///
 /// Source: own choice ("The assignment of a text").
 pub fn what_is_kept_means()
@@ -78,7 +78,7 @@ pub fn segments_follow()
     ensures operands { OperandIsTold }
 {}
 
-/// By the first line that has a fault by what stands above it the answer is told: that fault, or where no line has one
+/// The first line that has a fault by what is above it gives the answer: that fault, or if no line has one
 /// what the content gives.
 ///
 /// Source: own choice ("The assignment of a text").
@@ -87,7 +87,7 @@ pub fn first_faults_are_answers()
     ensures content { ContentIsAnswer }
 {}
 
-/// The form of a JMP or CALL is told by the lines above it and by the label of its own line.
+/// The form of a JMP or CALL follows from the lines above it and the label of its own line.
 ///
 /// Source: own choice ("The assignment of a text").
 pub fn forms_are_told()

@@ -2,30 +2,25 @@
 #![tactic(auto)]
 
 mod above;
-mod address;
+mod answering;
 mod assembling;
 mod banks;
-mod code;
 mod contents;
 mod counting;
 mod counts;
-mod declared;
 mod definitions;
 mod filled;
+mod gathering;
 mod giving;
-mod instruction;
 mod labelled;
 mod laws;
 mod line_values;
-mod lines;
-mod module;
 #[cfg(test)]
 mod name_tests;
 mod names;
 mod naming;
 mod naming_lines;
 mod numbering;
-mod numbers;
 mod object_names;
 mod operand_faults;
 mod outcome;
@@ -39,9 +34,10 @@ mod publishing;
 mod repeats;
 mod segments;
 mod sizes;
-mod statement;
 mod stepping;
 mod tables;
+#[cfg(test)]
+mod test_lines;
 #[cfg(test)]
 mod tests;
 mod told;
@@ -49,7 +45,6 @@ mod valid_laws;
 mod valuation;
 mod values;
 mod values_at;
-mod work;
 
 pub use assembling::assemble;
 pub use definitions::How;

@@ -45,7 +45,7 @@ fn push_by(externals: &mut ExternalList, body: &Body) -> Result<(), NoMemory>
     }
 }
 
-/// The externals of a text, in the order of EXTRN. The one error is out of memory.
+/// The externals of a text, in the order of EXTRN. The only error is out of memory.
 pub(crate) fn externals(alloc: Global, lines: &[Line]) -> Result<ExternalList, NoMemory>
     ensures { IfOk result (λ list. list ≡ externals (map line_tree lines.now)) }
 {

@@ -165,7 +165,7 @@ fn add(
     Ok(())
 }
 
-/// The segments of the module of a text whose lines are placed, and their numbers. The one error is out of memory.
+/// The segments of the module of a text whose lines are placed, and their numbers. The only error is out of memory.
 pub(crate) fn number_segments(
     alloc: Global,
     lines: &[Line],

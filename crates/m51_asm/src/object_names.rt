@@ -1,4 +1,4 @@
-//! What the names of a text and the place of a line stand for over the segments of the module, for pass 2.
+//! What the names of a text and the place of a line mean over the segments of the module, for pass 2.
 ghost use Rattle.std.specs.Prelude.{◌≡◌, option_map};
 ghost use Rattle.m51_module.specs.Validity.{numbered};
 ghost use Rattle.m51_asm.specs.Located.{origin_base, located_value};
@@ -83,14 +83,14 @@ fn has_bits(segment: Option<Segment>) -> bool
 #[derive(Clone, Copy)]
 pub(crate) struct PlacedText<'a> {
     pub(crate) text: NamedText<'a>,
-    /// Where each line stands.
+    /// Where each line is.
     pub(crate) places: &'a [LinePlace],
     /// What is kept of all lines.
     pub(crate) end: &'a Placing,
     pub(crate) numbering: &'a Numbering,
 }
 
-/// What the names of a text and the place of a line stand for over the segments of the module.
+/// What the names of a text and the place of a line mean over the segments of the module.
 #[derive(Clone, Copy)]
 pub(crate) struct ObjectNames<'a> {
     pub(crate) values: ValuesAt<'a>,
@@ -122,7 +122,7 @@ impl<'a> Lookup for ObjectNames<'a> {
     }
 }
 
-/// What names and a place stand for, by these parts of what is kept.
+/// What names and a place mean, by these parts of what is kept.
 pub(crate) fn names_of<'a>(
     names: &'a Names,
     kept: &'a Values,

@@ -118,7 +118,7 @@ fn number_fault<P: Places>(alloc: Global, names: &P, e: &Expr) -> Result<Option<
 }
 
 /// The fault of the operand of a line that must use names defined above. Whether the name of an RSEG is a segment that
-/// is declared above is told.
+/// is declared above is an argument.
 pub(crate) fn operand_fault<P: Places>(
     alloc: Global,
     names: &P,

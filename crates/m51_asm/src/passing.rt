@@ -1,4 +1,4 @@
-//! Pass 1 over the lines of a text: the first one that has a fault by what stands above it, or where each line stands.
+//! Pass 1 over the lines of a text: the first one that has a fault by what is above it, or where each line is.
 ghost use Rattle.std.specs.Prelude.{◌≡◌, ◌≤◌, length, map, IfOk};
 ghost use Rattle.m51_text.specs.Answer.{line_tree};
 ghost use Rattle.m51_asm.specs.Assignment.{Assignment};
@@ -12,12 +12,12 @@ use crate::stepping::{LineOutcome, LinePlace, step};
 use m51_cells::{DEFINED_TWICE, ListOf, NoMemory};
 use std::alloc::Global;
 
-/// What pass 1 tells of a text.
+/// What pass 1 finds of a text.
 #[derive(Drop)]
 pub(crate) enum Passed {
     /// The first line that has a fault, counted from 0, and the number of the fault.
     Fault(usize, u8),
-    /// No line has one: where each stands, and what is kept of them all.
+    /// No line has one: where each is, and what is kept of them all.
     Stands(ListOf<LinePlace>, Placing),
 }
 
@@ -31,7 +31,7 @@ fn is_reached(repeated: Option<usize>, k: usize) -> bool
     }
 }
 
-/// What pass 1 tells of a text whose first line that repeats is told. The one error is out of memory.
+/// What pass 1 finds of a text, given its first line that repeats. The only error is out of memory.
 pub(crate) fn place_lines(
     alloc: Global,
     text: &NamedText<'_>,

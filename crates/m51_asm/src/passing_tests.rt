@@ -4,25 +4,10 @@ use crate::passing::{Passed, place_lines};
 use crate::placing::NamedText;
 use crate::predefining::mod51;
 use crate::repeats::define_names;
+use crate::test_lines::lines_of;
 use m51_module::Segment;
-use m51_stmt::read_line;
-use m51_text::Line;
 use std::alloc::Global;
 use std::test::Fail;
-
-// The lines of a text, each as a statement.
-fn lines_of(alloc: Global, text: &str) -> Result<Vec<Line>, Fail> {
-    let mut lines = Vec::new(alloc);
-    for part in text.lines() {
-        let stmt = read_line(alloc, part)?;
-        lines.push(Line {
-            file: 0,
-            line: 1,
-            stmt,
-        })?;
-    }
-    Ok(lines)
-}
 
 // Writes the segments of the module.
 fn show_segments(shown: &mut String, segments: &[Segment]) -> Result<(), Fail> {

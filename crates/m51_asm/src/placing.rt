@@ -65,7 +65,7 @@ pub(crate) fn here_of(segment: OpenSegment, before: u64) -> Located
     }
 }
 
-/// What is told of line k by what is kept of the lines above it. The one error is out of memory.
+/// What is known of line k by what is kept of the lines above it. The only error is out of memory.
 pub(crate) fn told_of(
     alloc: Global,
     text: &NamedText<'_>,
@@ -130,7 +130,7 @@ fn in_byte(number: u16) -> Result<u8, NoMemory>
     Ok(number as u8)
 }
 
-/// What the values of line k follow from, and the bank after it. The one error is out of memory.
+/// What the values of line k follow from, and the bank after it. The only error is out of memory.
 pub(crate) fn giving_of(
     alloc: Global,
     text: &NamedText<'_>,
@@ -186,7 +186,7 @@ impl Placing {
         }
     }
 
-    /// What is kept down to a line that has no fault, by what is told of it and by what its values follow from. The one
+    /// What is kept down to a line without a fault, by what is known of it and by what its values follow from. The one
     /// error is out of memory.
     pub(crate) fn after(
         self,

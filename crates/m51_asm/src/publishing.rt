@@ -9,7 +9,6 @@ ghost use Rattle.m51_asm.specs.Located.{located_value};
 ghost use Rattle.m51_asm.specs.OpenSegments.{text_segment};
 ghost use Rattle.m51_asm.specs.Publishing.{definer_of, declared_as, next_of, segment_by_id, segment_in, counted_by};
 ghost use Rattle.m51_asm.specs.Publishing.{published_from, published_by, publics_among, fault_of_public, fault_among};
-ghost use Rattle.m51_asm.specs.Publishing.{published_names};
 
 use crate::definitions::How;
 use crate::names::FirstDefinition;
@@ -157,7 +156,7 @@ fn push_or_fault(publics: &mut Publics, public: Result<Public, u8>) -> Result<Op
     }
 }
 
-/// Takes in the publics of names, and tells the fault of the first that has one. The one error is out of memory.
+/// Takes in the publics of names, and gives the fault of the first that has one. The only error is out of memory.
 pub(crate) fn publish(
     text: &PlacedText<'_>,
     names: &ObjectNames<'_>,
@@ -175,15 +174,5 @@ pub(crate) fn publish(
             Ok(or_next(fault, next))
         }
         [] => Ok(None),
-    }
-}
-
-/// The names of a PUBLIC.
-pub(crate) fn published_names(body: &Body) -> &[Name]
-    ensures { result.now ≡ published_names (body_tree body.now) }
-{
-    match body {
-        Body::Public(names) => names.as_slice(),
-        _ => &[],
     }
 }

@@ -95,8 +95,8 @@ fn or_segment(segment: Option<OpenSegment>, other: OpenSegment) -> OpenSegment
     }
 }
 
-/// The segment that line k leaves open. The last absolute one of the kind of a CSEG or its kin and the segment that
-/// RSEG names are told.
+/// The segment that line k leaves open. The last absolute one of the kind of a CSEG or the like, and the segment that
+/// RSEG names, are arguments.
 pub(crate) fn open_behind<P: Places>(
     alloc: Global,
     k: usize,

@@ -5,7 +5,8 @@ ghost use Rattle.m51_expr.specs.Operand.{item_tree, operand_tree};
 ghost use Rattle.m51_stmt.specs.Statement.{body_tree};
 ghost use Rattle.m51_coding.specs.Coding.{length_of};
 ghost use Rattle.m51_asm.specs.Assignment.{number_of, value_or_none};
-ghost use Rattle.m51_asm.specs.Fitting.{item_size, items_size, size_by};
+ghost use Rattle.m51_content.specs.Sizes.{item_size, items_size};
+ghost use Rattle.m51_asm.specs.Fitting.{size_by};
 
 use crate::counting::numbered;
 use crate::values::Places;

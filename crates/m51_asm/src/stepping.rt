@@ -1,4 +1,4 @@
-//! What a line comes to in pass 1: its fault, or where it stands and what is kept down to it.
+//! What a line comes to in pass 1: its fault, or where it is and what is kept down to it.
 ghost use Rattle.std.specs.Prelude.{◌≡◌, ◌<◌, suc, Some, false, map, slice_get, IfOk};
 ghost use Rattle.m51_stmt.specs.Statement.{body_tree};
 ghost use Rattle.m51_text.specs.Answer.{line_tree};
@@ -20,7 +20,7 @@ use m51_stmt::Body;
 use m51_text::Line;
 use std::alloc::Global;
 
-/// Where a line stands.
+/// Where a line is.
 #[derive(Clone, Copy)]
 pub(crate) struct LinePlace {
     pub(crate) segment: OpenSegment,
@@ -43,7 +43,7 @@ pub(crate) struct LinePlace {
 pub(crate) enum LineOutcome {
     /// The number of its fault.
     Fault(u8),
-    /// It has none: what is kept down to it, and where it stands.
+    /// It has none: what is kept down to it, and where it is.
     Stands(Placing, LinePlace),
 }
 
@@ -59,7 +59,7 @@ fn fault_of(segment: OpenSegment, told: &Told, counts: &Counts, body: &Body) -> 
     fault_by(past, misplaced, many, told.operand)
 }
 
-/// What line k comes to, where it repeats nothing, by what is kept of the lines above it. The one error is out of
+/// What line k comes to, where it repeats nothing, by what is kept of the lines above it. The only error is out of
 /// memory.
 pub(crate) fn step(
     alloc: Global,

@@ -101,7 +101,7 @@ fn global_value(table: &[usize], value: Value) -> Located
     }
 }
 
-// The value by the numbers of a table, if its segment stands there.
+// The value by the numbers of a table, if its segment is there.
 fn value_if_there(table: &[usize], value: Option<Located>) -> Option<Value>
     requires { length table.now ≤ 255 }
     ensures { result
@@ -119,7 +119,7 @@ fn value_if_there(table: &[usize], value: Option<Located>) -> Option<Value>
     }
 }
 
-// Whether the segment of a value stands in a table.
+// Whether the segment of a value is in a table.
 fn is_there(table: &[usize], origin: Origin) -> bool
     ensures { result ≡ has_base table.now (origin_base origin) }
 {
@@ -226,7 +226,7 @@ fn global(table: &[usize], value: Result<Value, ExprError>) -> Result<Located, E
 
 /// The value of an expression over all segments of a text, or its fault.
 ///
-/// An expression of a line names at most 127 segments; one of more than 254 names is answered like want of memory.
+/// An expression of a line names at most 127 segments; one of more than 254 names is answered as out of memory.
 pub(crate) fn evaluate<P: Places>(
     alloc: Global,
     names: &P,

@@ -1,4 +1,4 @@
-//! What a line is told by the lines above it: its form, its size, the segment that it leaves open, and the fault of its
+//! What is known of a line by those above it: its form, its size, the segment that it leaves open, and the fault of its
 //! operand.
 ghost use Rattle.std.specs.Prelude.{◌≡◌, ◌<◌, map, is_some, option_map, IfOk};
 ghost use Rattle.m51_stmt.specs.Statement.{body_tree};
@@ -21,7 +21,7 @@ use m51_stmt::Body;
 use m51_text::Line;
 use std::alloc::Global;
 
-/// What is told of a line.
+/// What is known of a line.
 #[derive(Clone, Copy)]
 pub(crate) struct Told {
     /// The form of its JMP or CALL.
@@ -46,7 +46,7 @@ pub(crate) fn named_by(lines: &[Line], names: &Names, k: usize, body: &Body) -> 
     }
 }
 
-/// What is told of line k, where names stand for what lines above give. The one error is out of memory.
+/// What is known of line k, where names mean what lines above give. The only error is out of memory.
 pub(crate) fn tell<P: Places>(
     alloc: Global,
     k: usize,

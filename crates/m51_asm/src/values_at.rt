@@ -1,4 +1,4 @@
-//! What the names of a text stand for at a line, for pass 2.
+//! What the names of a text mean at a line, for pass 2.
 ghost use Rattle.std.specs.Prelude.{◌≡◌, ℕ, suc, Some, List, option_map, slice_get, OnOk};
 ghost use Rattle.m51_stmt.specs.Statement.{body_tree};
 ghost use Rattle.m51_text.specs.Answer.{LineTree, line_tree};
@@ -108,7 +108,7 @@ fn put_if(
     }
 }
 
-/// Takes in what a line gives by SET. The one error is out of memory.
+/// Takes in what a line gives by SET. The only error is out of memory.
 pub(crate) fn take_set(
     alloc: Global,
     set: &mut Values,

@@ -4,7 +4,7 @@ use Rattle.std.specs.Prelude.{slice_get, slice_index}
 use Rattle.std.specs.List.{Contains}
 use Rattle.std.proofs.lemmas.Bool.Decides.{eqb_tells, nat_tests}
 use Rattle.std.proofs.lemmas.Option.{slice_get_within, slice_get-get_or}
-use Rattle.std.proofs.lemmas.Bool.{and_parts, not-true}
+use Rattle.std.proofs.lemmas.Bool.{and_parts, not-true, and_from, leb-true, eqb-true}
 use Rattle.m51_cells.proofs.KindLaws.{code_is}
 use Rattle.std.proofs.lemmas.Bool.{eq-eqb}
 use Rattle.m51_monitor.proofs.Starting.{mark_is}
@@ -30,7 +30,6 @@ use Rattle.m51_module.proofs.Reach.{reach_edge}
 use Rattle.m51_monitor.specs.Found.{is_absolute, passes}
 use Rattle.m51_monitor.specs.Stores.{is_in, is_overlaid_at, is_overlaid_mark, is_segment}
 use Rattle.m51_module.proofs.EdgeTests.{edge_tells}
-use Rattle.m51_monitor.proofs.Truths.{both, le_is, number_is}
 use Rattle.m51_cases.proofs.SoundTests.{apart_at, are_apart, are_siblings, each_below, each_of, ends_inside, fits, has_owners, is_code_segment, is_leaf, is_no_late_code, is_number, is_owner, is_root_in_place, is_unit_in_order, leads_up, may_share, may_stand, one_or_two}
 
 or_cases : (a b : Bool) → (a || b) ≡ true → (a ≡ true) ⊎ (b ≡ true)
@@ -85,8 +84,8 @@ no_meet : (e f : Extent) → are_apart e f ≡ true → Meet e f → ⊥
 no_meet e f h (c, one, two) = ⊎_elim
     (λ (k : not (is_in e.space f.space) ≡ true). refuted (is_in e.space f.space) k (subst (λ (s : Space). is_in e.space s ≡ true) (sym one.space ∙ two.space) (in_itself e.space)))
     (λ (k : (nat_le (e.first + e.len) f.first || nat_le (f.first + f.len) e.first) ≡ true). ⊎_elim
-    (λ (q : nat_le (e.first + e.len) f.first ≡ true). let le = le_is (e.first + e.len) f.first q in omega (arith, le, one.below, two.from))
-    (λ (q : nat_le (f.first + f.len) e.first ≡ true). let le = le_is (f.first + f.len) e.first q in omega (arith, le, two.below, one.from))
+    (λ (q : nat_le (e.first + e.len) f.first ≡ true). let le = leb-true (e.first + e.len) f.first q in omega (arith, le, one.below, two.from))
+    (λ (q : nat_le (f.first + f.len) e.first ≡ true). let le = leb-true (f.first + f.len) e.first q in omega (arith, le, two.below, one.from))
     (or_cases (nat_le (e.first + e.len) f.first) (nat_le (f.first + f.len) e.first) k))
     (or_cases (not (is_in e.space f.space)) (nat_le (e.first + e.len) f.first || nat_le (f.first + f.len) e.first) h)
 
@@ -97,7 +96,7 @@ module _ (p : Placed) (some : 0 < p.size) where
   fit_by : (k : Kind) → p.kind ≡ k → ends_inside k p.base p.size p.mark ≡ true → IsFit p
   fit_by Code e h =
       let q = and_parts (nat_le (p.base + p.size) 65536) (not (is_overlaid_mark p.mark)) h in
-      let end = le_is (p.base + p.size) 65536 q.0 in
+      let end = leb-true (p.base + p.size) 65536 q.0 in
       record {
         kind = λ n. cc (e, n);
         inside = inside_of Code e (λ c m. omega (arith, m.below, end));
@@ -105,10 +104,10 @@ module _ (p : Placed) (some : 0 < p.size) where
         code = λ _ o. refuted (is_overlaid_mark p.mark) q.1 (ap is_overlaid_mark o);
       }
   fit_by Direct e h =
-      let end = le_is (8 * p.base + 8 * p.size) 2048 h in
+      let end = leb-true (8 * p.base + 8 * p.size) 2048 h in
       record { kind = λ n. cc (e, n); inside = inside_of Direct e (λ c m. omega (arith, m.below, end)); absolute = λ _. some; code = λ n. absurd (cc (e, n)) }
   fit_by Bits e h =
-      let end = le_is (256 + p.base + p.size) 2048 h in
+      let end = leb-true (256 + p.base + p.size) 2048 h in
       record { kind = λ n. cc (e, n); inside = inside_of Bits e (λ c m. omega (arith, m.below, end)); absolute = λ _. some; code = λ n. absurd (cc (e, n)) }
   fit_by Xdata e h = cc h
   fit_by Idata e h = cc h
@@ -157,7 +156,7 @@ module _ (l : LayoutParts) (vectors : List ℕ) (root : IsRootAt l 0 0)
   in_order : (u s : ℕ) → slice_get l.units u ≡ Some s → (s ≡ u) × (passes is_code_segment (slice_get l.placed u) ≡ true)
   in_order u s h =
       let k = and_parts (is_number (slice_get l.units u) u) (passes is_code_segment (slice_get l.placed u)) (below_each (length l.units) (is_unit_in_order l) ordered u (slice_get_within l.units u s h)) in
-      (number_is s u (subst (λ (o : Option ℕ). is_number o u ≡ true) h k.0), k.1)
+      (eqb-true s u (subst (λ (o : Option ℕ). is_number o u ≡ true) h k.0), k.1)
 
   code_at : (s : ℕ) (o : Option Placed) → slice_get l.placed s ≡ o → passes is_code_segment o ≡ true → (p : Placed) × IsPlaced l s p × IsCodeSegment p
   code_at s None e h = cc h
@@ -173,7 +172,7 @@ module _ (l : LayoutParts) (vectors : List ℕ) (root : IsRootAt l 0 0)
       (λ (e : nat_lt s (length l.units) ≡ true). let lt = lt_is s (length l.units) e in (s, lt, (in_order s (get_or l.units s s) (slice_get-get_or l.units s s lt)).0))
       (λ (e : not (passes is_code_segment (slice_get l.placed s)) ≡ true).
       absurd (refuted (passes is_code_segment (slice_get l.placed s)) e (subst (λ (o : Option Placed). passes is_code_segment o ≡ true) (sym h)
-      (both (is_code p.kind) (is_segment p.mark) (ap is_code code.kind) (is_a_segment p.mark code.segment)))))
+      (and_from (is_code p.kind) (is_segment p.mark) (ap is_code code.kind) (is_a_segment p.mark code.segment)))))
       (or_cases (nat_lt s (length l.units)) (not (passes is_code_segment (slice_get l.placed s))) (below_each (length l.placed) (is_no_late_code l) none_late s (inside s p h)))
 
   edge_up : (u v : ℕ) → HasEdge l.edges u v → (u < v) × (v < length l.units) × (vector u ≡ vector v)
@@ -181,7 +180,7 @@ module _ (l : LayoutParts) (vectors : List ℕ) (root : IsRootAt l 0 0)
   edge_up u v h =
       let k = and_parts (nat_lt u v) (nat_lt v (length l.units) && nat_eq (slice_index vectors u) (slice_index vectors v)) (of_each l.edges (leads_up vectors l) upwards (u, v) h) in
       let q = and_parts (nat_lt v (length l.units)) (nat_eq (slice_index vectors u) (slice_index vectors v)) k.1 in
-      (lt_is u v k.0, lt_is v (length l.units) q.0, number_is (slice_index vectors u) (slice_index vectors v) q.1)
+      (lt_is u v k.0, lt_is v (length l.units) q.0, eqb-true (slice_index vectors u) (slice_index vectors v) q.1)
 
   walk_up : (u next : ℕ) (more : List ℕ) → IsWalk l.edges u (next ∷ more) → (u < last_of next more) × (vector u ≡ vector (last_of next more))
   walk_up u next [] w = let k = edge_up u next w.0 in (k.0, k.2)
@@ -202,7 +201,7 @@ module _ (l : LayoutParts) (vectors : List ℕ) (root : IsRootAt l 0 0)
       (λ (e : not (passes (λ p. is_absolute p.mark) (slice_get l.placed s)) ≡ true).
       absurd (refuted (passes (λ p. is_absolute p.mark) (slice_get l.placed s)) e (subst (λ (o : Option Placed). passes (λ p. is_absolute p.mark) o ≡ true) (sym h.unit_is.placed) (ap is_absolute h.absolute))))
       (λ (e : passes (λ p. nat_eq p.base (slice_index vectors s)) (slice_get l.placed s) ≡ true).
-      sym h.base ∙ number_is h.is.base (slice_index vectors s) (subst (λ (o : Option Placed). passes (λ p. nat_eq p.base (slice_index vectors s)) o ≡ true) h.unit_is.placed e) ∙ ap (slice_index vectors) same)
+      sym h.base ∙ eqb-true h.is.base (slice_index vectors s) (subst (λ (o : Option Placed). passes (λ p. nat_eq p.base (slice_index vectors s)) o ≡ true) h.unit_is.placed e) ∙ ap (slice_index vectors) same)
       (or_cases (not (passes (λ p. is_absolute p.mark) (slice_get l.placed s))) (passes (λ p. nat_eq p.base (slice_index vectors s)) (slice_get l.placed s))
       (below_each (length l.placed) (is_root_in_place vectors l) in_place s (inside s h.is h.unit_is.placed)))
 
@@ -270,7 +269,7 @@ module _ (l : LayoutParts) (vectors : List ℕ) (root : IsRootAt l 0 0)
   apart s t p q at_s at_t differ conflict meet =
       let both_of = below_each (length l.placed) (may_stand l s) (below_each (length l.placed) (λ s. each_below (length l.placed) (may_stand l s)) all_stand s (inside s p at_s)) t (inside t q at_t) in
       ⊎_elim
-      (λ (e : nat_eq s t ≡ true). differ (number_is s t e))
+      (λ (e : nat_eq s t ≡ true). differ (eqb-true s t e))
       (λ (e : (apart_at (slice_get l.placed s) (slice_get l.placed t) || may_share l s t) ≡ true). ⊎_elim
       (λ (f : apart_at (slice_get l.placed s) (slice_get l.placed t) ≡ true).
       no_meet (extent_at p) (extent_at q) (subst (λ (o : Option Placed). apart_at (Some p) o ≡ true) at_t (subst (λ (o : Option Placed). apart_at o (slice_get l.placed t) ≡ true) at_s f)) meet)

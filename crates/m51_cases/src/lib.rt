@@ -1,14 +1,9 @@
-//! Tests that cross crates: the top call, the way from objects to a graph, and devices. It is no part of the product.
+//! Tests that cross crates: the way from objects to a graph, edits, arguments, devices and the monitor. It is no part
+//! of the product.
 #![tactic(auto)]
 
 #[cfg(test)]
-mod calls;
-#[cfg(test)]
 mod devices;
-#[cfg(test)]
-mod faults;
-#[cfg(test)]
-mod libraries;
 #[cfg(test)]
 mod library_edits;
 #[cfg(test)]
@@ -21,7 +16,5 @@ mod monitor_run;
 mod monitor_table;
 #[cfg(test)]
 mod objects;
-#[cfg(test)]
-mod outside;
 #[cfg(test)]
 mod words;

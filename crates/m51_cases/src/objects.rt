@@ -89,7 +89,7 @@ const MAIN: &str = "\
     080A00010400040001020000E2\
     040700044D41494E01CB";
 
-// The publics F and G stand in ?PR?F and ?PR?G, which have a local of two bytes each.
+// The publics F and G are in ?PR?F and ?PR?G, which have a local of two bytes each.
 //     NAME S
 //     ?PR?F SEGMENT CODE / ?PR?G SEGMENT CODE
 //     ?DT?F SEGMENT DATA OVERLAYABLE / ?DT?G SEGMENT DATA OVERLAYABLE

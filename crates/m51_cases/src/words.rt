@@ -1,4 +1,4 @@
-//! What words ask for.
+//! What arguments ask for.
 use m51_words::{Job, WordsError, job_of};
 use std::alloc::Global;
 use std::test::Fail;
@@ -21,6 +21,9 @@ fn verb_of(alloc: Global, text: &str) -> Result<&'static str, Fail> {
         Ok(Job::Library(_)) => "lib",
         Ok(Job::Flat(_)) => "flat",
         Ok(Job::Gen(_)) => "gen",
+        Ok(Job::Dis(_)) => "dis",
+        Ok(Job::Stack(_)) => "stack",
+        Ok(Job::Party(_)) => "party",
         Err(WordsError::Usage) => "usage",
         Err(WordsError::Memory) => "memory",
     })
@@ -47,7 +50,13 @@ lib -- list -x
 flat --steps 1 x
 flat --script s --steps 1 x.a51
 gen --units 100 --start 4294967295 --steps 10000000
-gen --units 1 --start 0000000000 --steps 1";
+gen --units 1 --start 0000000000 --steps 1
+dis a.a51 b.obj
+dis --control c a.lib
+stack a.a51
+stack --control= a.inc
+party --steps 1 a.a51 b.A51
+party --script s --steps 1 a.a51 b.a51 c.a51 d.a51 e.a51 f.a51 g.a51 h.a51";
 
 const REFUSED: &str = "build
 build --steps 0 a.a51

@@ -50,7 +50,7 @@ pub fn first_line(text: &[u8]) -> Option<(&[u8], &[u8])>
 
 /// The lines of a text in order, each without its end. Line `k`, counted from 1, has index `k - 1`.
 ///
-/// Error: want of memory.
+/// Error: out of memory.
 ///
 /// Source: own choice ("Lines").
 pub fn lines<'a>(alloc: Global, text: &'a [u8]) -> Result<Vec<&'a [u8]>, NoMemory>

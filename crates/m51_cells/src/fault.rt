@@ -1,6 +1,6 @@
 //! The numbers of the faults of a line, from 6 on: those below are of the tokens of a line.
 
-/// No expression or operand where one is wanted.
+/// No expression or operand where one is needed.
 ///
 /// Source: own choice ("Faults of a source").
 pub const NO_EXPRESSION: u8 = 6;
@@ -10,7 +10,7 @@ pub const NO_EXPRESSION: u8 = 6;
 /// Source: own choice ("Faults of a source").
 pub const UNKNOWN_NAME: u8 = 7;
 
-/// A base where none may stand.
+/// A base that is not allowed.
 ///
 /// Source: own choice ("Faults of a source").
 pub const BASE_NOT_ALLOWED: u8 = 8;
@@ -30,7 +30,7 @@ pub const NO_BIT: u8 = 10;
 /// Source: own choice ("Faults of a source").
 pub const NO_INSTRUCTION: u8 = 11;
 
-/// A directive or control out of its form or place, or a reserved word that is defined.
+/// A directive or control with a syntax error or in a wrong segment, or a reserved word that is defined.
 ///
 /// Source: own choice ("Faults of a source").
 pub const BAD_FORM: u8 = 12;

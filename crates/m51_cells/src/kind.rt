@@ -45,7 +45,7 @@ pub enum Reloc {
 /// Source: OMF-51.
 #[derive(Clone, Copy, Debug, PartialEq, Eq)]
 pub enum Base {
-    /// Nothing: the number stands for itself.
+    /// Nothing: the number is the value.
     None,
     /// A segment of the module, counted from 1.
     Segment(u8),

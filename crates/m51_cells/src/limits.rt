@@ -79,3 +79,8 @@ pub const MOST_STEPS: u32 = 10_000_000;
 ///
 /// Source: own choice ("Limits").
 pub const MOST_RETURN_RECORDS: usize = 128;
+
+/// The most points of a stack bound.
+///
+/// Source: own choice ("Limits").
+pub const MOST_POINTS: usize = 1_000_000;

@@ -23,7 +23,7 @@ impl<T> Model for ListOf<T> {
 }
 
 impl<T> ListOf<T> {
-    /// The empty list. It takes no memory.
+    /// The empty list. It allocates nothing.
     ///
     /// Source: own choice ("Lists in types").
     pub fn new(alloc: Global) -> ListOf<T>
@@ -34,7 +34,7 @@ impl<T> ListOf<T> {
         }
     }
 
-    /// The list of these items. It takes no memory.
+    /// The list of these items. It allocates nothing.
     ///
     /// Source: own choice ("Lists in types").
     pub fn of(items: Vec<T>) -> ListOf<T>
@@ -82,7 +82,7 @@ impl<T> ListOf<T> {
 
     /// Appends an item.
     ///
-    /// Error: want of memory; the list is then as before, and the item is dropped.
+    /// Error: out of memory; the list is then as before, and the item is dropped.
     ///
     /// Source: own choice ("Lists in types").
     pub fn push(&mut self, item: T) -> Result<(), NoMemory>

@@ -1,7 +1,7 @@
-//! Want of memory.
+//! Out of memory.
 use std::alloc::{AllocError, AllocFailed};
 
-/// Want of memory: the one answer that no clause ties to its cause.
+/// Out of memory: the one answer that no clause ties to its cause.
 ///
 /// Source: own choice ("Want of memory").
 #[derive(Clone, Copy, Debug, PartialEq, Eq)]

@@ -41,7 +41,7 @@ impl Model for Name {
     ghost inverse_ok = { λ a h. padded_back (λ bytes len. record { bytes = bytes; len = len }) a.len a.bytes h };
 }
 
-/// Whether the byte may stand in a name: a letter, a digit, `?` or `_`.
+/// Whether the byte is allowed in a name: a letter, a digit, `?` or `_`.
 ///
 /// Source: ASM51 guide.
 pub fn is_name_byte(byte: u8) -> bool
@@ -50,7 +50,7 @@ pub fn is_name_byte(byte: u8) -> bool
     byte.is_ascii_alphanumeric() || byte == b'?' || byte == b'_'
 }
 
-// Whether each byte may stand in a written name.
+// Whether each byte may be in a written name.
 fn are_name_bytes(text: &[u8]) -> bool
     ensures { result ≡ list_all is_name_byte text.now }
 {
@@ -120,7 +120,7 @@ impl Name {
         })
     }
 
-    /// The empty name, which stands where a thing has none.
+    /// The empty name, of things that have none.
     ///
     /// Source: own choice ("Names").
     pub fn none() -> Name

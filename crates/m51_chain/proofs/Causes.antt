@@ -71,6 +71,7 @@ worked_caused words c status.Limit keeps may worked = inl worked
 worked_caused words c status.ReadFault keeps may worked = absurd may
 worked_caused words c status.WriteFault keeps may worked = absurd may
 worked_caused words c status.Memory keeps may worked = absurd may
+worked_caused words c status.Stack keeps may worked = worked
 
 caused_as : (words : List (List ℕ)) (c : Change) (told is : Status) → told ≡ is → IsCaused words c is → IsCaused words c told
 caused_as words c told is same caused = subst (λ t. IsCaused words c t) (sym same) caused
@@ -95,7 +96,7 @@ done_caused words c answer told (due.Asked job asked (due.Worked work)) done =
 
 -- ---- an answer whose file could not be kept
 
-under_name : (name bytes : Option (List ℕ)) (file : File) → under name bytes ≡ Some file → name ≡ Some file.0
+pub under_name : (name bytes : Option (List ℕ)) (file : File) → under name bytes ≡ Some file → name ≡ Some file.0
 under_name (Some name) (Some bytes) file h = ap (option_map (λ (f : File). f.0)) h
 under_name (Some name) None file h = absurd (cc h)
 under_name None None file h = absurd (cc h)

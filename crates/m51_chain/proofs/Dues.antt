@@ -43,6 +43,7 @@ answer_told words held c status.Script some it = it
 answer_told words held c status.Limit some it = it
 answer_told words held c status.ReadFault some it = it
 answer_told words held c status.WriteFault some it = it
+answer_told words held c status.Stack some it = it
 
 kept_no_memory : (s : Status) (keeps : Option (List ℕ)) → MayKeep s keeps → IsNoMemory s
 kept_no_memory status.Memory keeps h = h
@@ -56,6 +57,7 @@ kept_no_memory status.Script keeps h = tt
 kept_no_memory status.Limit keeps h = tt
 kept_no_memory status.ReadFault keeps h = tt
 kept_no_memory status.WriteFault keeps h = tt
+kept_no_memory status.Stack keeps h = tt
 
 -- an answer that is due is none of out of memory
 due_no_memory : (words : List (List ℕ)) (holds : Option Files) (before after : ReadAt) (answer : Answer) → IsDue words holds before after answer → IsNoMemory answer.status

@@ -1,8 +1,7 @@
 -- Texts with nothing after them, and work that stops.
-use Rattle.std.proofs.Common.{◌≡◌, ℕ, List, [], Option, Some, None, Result, Ok, Err, refl, sym, ap, ◌∙◌, subst, append-nil}
+use Rattle.std.proofs.Common.{◌≡◌, ℕ, List, Option, Some, None, Result, Ok, Err, refl, sym, ap, ◌∙◌, subst, append-nil}
 use Rattle.std.specs.Prelude.{option_map}
 use Rattle.m51_cells.specs.Outcome.{Gives, RefusesWith}
-use Rattle.m51_chain.specs.declared.status.Status.TheVariants as status
 use Rattle.m51_chain.specs.declared.work.Ending.TheVariants.{Ran}
 use Rattle.m51_chain.specs.declared.work.Finished.{Finished}
 use Rattle.m51_chain.specs.declared.work.Stop.{Stop}
@@ -10,16 +9,20 @@ use Rattle.m51_chain.specs.declared.work.Stop.TheVariants as stop
 use Rattle.m51_module.specs.declared.library_error.LibError.{LibError}
 use Rattle.m51_module.specs.declared.library_error.LibError.TheVariants as library
 use Rattle.m51_module.specs.Library.{refusal_of}
-use Rattle.m51_chain.specs.Libraries.{either, or_refused, writing}
-use Rattle.m51_chain.specs.Outcome.{Comes, Outcome, outcome_of, refused, status_at, stopped, text_at}
-
-abbrev ran : List ℕ → Result Outcome Outcome
-ran text = Ok (record { status = status.Ran; text = text; keeps = None })
+use Rattle.m51_asm.specs.Answer.{Gives as Assembled}
+use Rattle.m51_module.specs.declared.parts.ModuleParts.{ModuleParts}
+use Rattle.m51_module.specs.declared.source.Row.{Row}
+use Rattle.m51_module.specs.declared.source.SourceFile.{SourceFile}
+use Rattle.m51_print.specs.Listing.{listing_of}
+use Rattle.m51_records.specs.Spelling.{bytes_of}
+use Rattle.m51_chain.specs.Assembles.{assembled_outcome}
+use Rattle.m51_chain.specs.Libraries.{either, or_refused}
+use Rattle.m51_chain.specs.Outcome.{Comes, Outcome, outcome_of, refused, status_at, stopped, text_at, written}
 
 -- a text that is written, with nothing after it
-pub text_alone : (text : List ℕ) → writing text ≡ Ok (outcome_of (record { keeps = None; text = text; ending = Ran }))
+pub ran_alone : (text : List ℕ) → outcome_of (record { keeps = None; text = text; ending = Ran }) ≡ written text
 unfolding status_at text_at
-text_alone text = ap ran (sym (append-nil text))
+ran_alone text = ap written (append-nil text)
 
 -- a refusal, as the outcome of work
 pub refused_comes : {E : Type 0} (Is : Outcome → Type 0) (refusal : Option E) (outcome : E → Outcome) (why : Stop) → stopped why ≡ option_map outcome refusal
@@ -60,3 +63,10 @@ pub edit_gives : {T V : Type 0} (view : T → V) (result : Result T LibError) (a
     → Gives view refusal_of result answer
 edit_gives view (Ok value) answer h = h
 edit_gives view (Err error) answer h = edit_refused_by error answer h
+
+-- an object that is kept, and a listing that is written
+pub listed : (files : List (List ℕ)) (source : SourceFile) (includes : List SourceFile) (parts : ModuleParts) (rows : List Row) (object text : List ℕ)
+    → object ≡ bytes_of parts → text ≡ listing_of source includes rows
+    → outcome_of (record { keeps = Some object; text = text; ending = Ran }) ≡ assembled_outcome files source includes (Assembled parts rows)
+unfolding status_at text_at
+listed files source includes parts rows object text kept is = rw (kept, is, append-nil (listing_of source includes rows)) refl

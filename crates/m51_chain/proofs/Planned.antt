@@ -35,6 +35,7 @@ may_refuse reason.Link = refl
 may_refuse reason.Object = refl
 may_refuse reason.Script = refl
 may_refuse reason.Limit = refl
+may_refuse reason.Stack = refl
 
 -- the plan for work has the outcome of the work
 pub work_outcome : (job : Job) (contents : List (List ℕ)) (name : Option (List ℕ)) (work : Result Finished Stop) (result : Result Plan NoMemory) → name ≡ name_kept job

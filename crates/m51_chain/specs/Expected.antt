@@ -21,6 +21,7 @@ MayKeep status.Link keeps = keeps ≡ None
 MayKeep status.Object keeps = keeps ≡ None
 MayKeep status.Script keeps = keeps ≡ None
 MayKeep status.Limit keeps = keeps ≡ None
+MayKeep status.Stack keeps = keeps ≡ None
 MayKeep other keeps = ⊥
 
 -- The work of a job on contents has this answer.

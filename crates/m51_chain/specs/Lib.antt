@@ -7,8 +7,16 @@ pub mod Asked
 pub mod Targets
 pub mod Outcome
 pub mod Refusals
-pub mod Chains
+pub mod Optional
+pub mod FaultLines
+pub mod InputRefusals
+pub mod ProgramFiles
+pub mod Linking
+pub mod Programs
 pub mod Builds
+pub mod Analyses
+pub mod Assembles
+pub mod Generates
 pub mod Libraries
 pub mod FlatRuns
 pub mod Verbs
@@ -16,3 +24,4 @@ pub mod Expected
 pub mod Due
 pub mod Carried
 pub mod Told
+pub mod Complete

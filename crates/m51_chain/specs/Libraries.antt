@@ -1,20 +1,18 @@
 -- What lib makes of the contents of its files.
 use Rattle.std.specs.Prelude.{◌≡◌, ℕ, List, [], ◌∷◌, ◌++◌, codes, length, flat_map, Option, Some, None, Result, Ok, Err}
 use Rattle.m51_module.specs.declared.library_error.LibError.{LibError}
-use Rattle.m51_module.specs.declared.object_error.ObjError.{ObjError}
 use Rattle.m51_module.specs.declared.parts.ModuleParts.{ModuleParts}
 use Rattle.m51_module.specs.Library.{added_each, built, deleted, extracted, raised_in, replaced}
 use Rattle.m51_cells.specs.Outcome.{and_then}
-use Rattle.m51_records.specs.Fields.{◌>>=◌}
-use Rattle.m51_records.specs.Reading.{module_at}
+use Rattle.m51_inputs.specs.Objects.{module_in}
 use Rattle.m51_records.specs.Spelling.{bytes_of}
-use Rattle.m51_library.specs.Reading.{at_end, library_of}
+use Rattle.m51_library.specs.Reading.{library_of}
 use Rattle.m51_library.specs.Spelling.{library_bytes}
 use Rattle.m51_words.specs.declared.job.LibraryJob.{LibraryJob}
 use Rattle.m51_words.specs.declared.job.Operation.{Operation}
 use Rattle.m51_words.specs.declared.job.Operation.TheVariants as operation
 use Rattle.m51_chain.specs.declared.status.Status.TheVariants.{Ran}
-use Rattle.m51_chain.specs.Outcome.{Outcome}
+use Rattle.m51_chain.specs.Outcome.{Outcome, written}
 use Rattle.m51_chain.specs.Refusals.{object_outcome, library_outcome, edit_outcome}
 
 -- the value, and what follows from it, or the first refusal
@@ -31,13 +29,6 @@ or_refused refusal (Err error) = Err (refusal error)
 abbrev pub either : Result Outcome Outcome → Outcome
 either (Ok outcome) = outcome
 either (Err outcome) = outcome
-
--- the one module of an object, with nothing after it
-abbrev pub one_module : List ℕ → ModuleParts × List ℕ → Result ModuleParts ObjError
-one_module file found = at_end (length file) found.1 found.0
-
-unfoldable pub module_in : List ℕ → Result ModuleParts ObjError
-module_in file = module_at (length file) 0 file >>= one_module file
 
 -- an object of this name, and a library
 abbrev pub object_in : List ℕ → List ℕ → Result ModuleParts Outcome
@@ -75,7 +66,7 @@ abbrev pub keeping : List ℕ → Result Outcome Outcome
 keeping bytes = Ok (record { status = Ran; text = []; keeps = Some bytes })
 
 abbrev pub writing : List ℕ → Result Outcome Outcome
-writing text = Ok (record { status = Ran; text = text; keeps = None })
+writing text = Ok (written text)
 
 -- the library is kept, where it is accepted
 abbrev pub kept_library : Result (List ModuleParts) LibError → Result Outcome Outcome

@@ -6,11 +6,12 @@ use Rattle.m51_print.specs.Lines.{titles_of}
 use Rattle.m51_sim.specs.declared.runs.RunEnd.{RunEnd}
 use Rattle.m51_sim.specs.declared.runs.RunEnd.TheVariants as ends
 use Rattle.m51_sim.specs.declared.sink.Failed.{Failed}
-use Rattle.m51_sim.specs.Boards.{BoardState, ChipState, flat_of, separate_of}
+use Rattle.m51_sim.specs.Boards.{BoardState, FlatState, flat_of, separate_of}
+use Rattle.m51_sim.specs.Cycles.{inputs_of}
 use Rattle.m51_sim.specs.FlatMachine.{flat_machine}
 use Rattle.m51_sim.specs.Run.{record_text}
 use Rattle.m51_sim.specs.Runs.{Record, record_of}
-use Rattle.m51_sim.specs.SeparateMachine.{Stores, separate_machine}
+use Rattle.m51_sim.specs.SeparateMachine.{Separate, separate_machine}
 use Rattle.m51_chain.specs.declared.status.Status.{Status}
 use Rattle.m51_chain.specs.declared.status.Status.TheVariants as status
 use Rattle.m51_chain.specs.declared.work.Ending.{Ending}
@@ -44,6 +45,7 @@ status_of reason.Link = status.Link
 status_of reason.Object = status.Object
 status_of reason.Script = status.Script
 status_of reason.Limit = status.Limit
+status_of reason.Stack = status.Stack
 
 -- an event ends a run before its last step
 abbrev pub status_by : Option Event → Status
@@ -51,11 +53,14 @@ status_by None = status.Ran
 status_by (Some event) = status.Event
 
 -- the run of a board, and of a flat one
-abbrev pub run_of : BoardState → ℕ → Record Stores
-run_of board steps = record_of (separate_machine board.layout board.chip.image) steps (separate_of board)
+abbrev pub run_of : BoardState → ℕ → Record Separate
+run_of board steps =
+    record_of (separate_machine board.monitor.layout board.chip.image (inputs_of board.chip.script)) steps
+    (separate_of board)
 
-abbrev pub flat_run_of : ChipState → ℕ → Record CellMap
-flat_run_of board steps = record_of (flat_machine board.image) steps (flat_of board)
+abbrev pub flat_run_of : FlatState → ℕ → Record CellMap
+flat_run_of board steps =
+    record_of (flat_machine board.chip.image (inputs_of board.chip.script)) steps (flat_of board)
 
 -- the status of an ending, and the text that comes with it
 unfoldable pub status_at : Ending → Status
@@ -67,7 +72,7 @@ status_at (ending.FlatRun board steps) = status_by (flat_run_of board steps).eve
 unfoldable pub text_at : Ending → List ℕ
 text_at ending.Ran = []
 text_at ending.Event = []
-text_at (ending.Run board steps) = record_text (titles_of board.layout.placed) (run_of board steps)
+text_at (ending.Run board steps) = record_text (titles_of board.monitor.layout.placed) (run_of board steps)
 text_at (ending.FlatRun board steps) = record_text [] (flat_run_of board steps)
 
 -- the status of a run that came to its end
@@ -86,6 +91,10 @@ outcome_of work = record {
 
 abbrev pub refused : Reason → List ℕ → Outcome
 refused why text = record { status = status_of why; text = text; keeps = None }
+
+-- this text is written, and nothing is kept
+abbrev pub written : List ℕ → Outcome
+written text = record { status = status.Ran; text = text; keeps = None }
 
 -- what stops work: a refusal; out of memory is none
 abbrev pub stopped : Stop → Option Outcome

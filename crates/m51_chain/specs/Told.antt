@@ -8,7 +8,7 @@ use Rattle.m51_words.specs.Files.{file_count, name_kept}
 use Rattle.m51_chain.specs.declared.status.Status.{Status}
 use Rattle.m51_chain.specs.declared.status.Status.TheVariants as status
 use Rattle.m51_chain.specs.Asked.{asked_of}
-use Rattle.m51_chain.specs.Shelf.{Files}
+use Rattle.m51_chain.specs.Shelf.{File, Files, HoldsOthers}
 use Rattle.m51_chain.specs.Outside.{Change, HasFailed}
 use Rattle.m51_chain.specs.Outcome.{Answer, usage_answer, many_answer, long_answer, unread_answer}
 use Rattle.m51_chain.specs.Targets.{unkept_text}
@@ -113,3 +113,19 @@ IsCaused words c status.Limit = IsWorked words c status.Limit ⊎ (IsMany words 
 IsCaused words c status.ReadFault = IsReadFault words c
 IsCaused words c status.WriteFault = IsSinkFault words c ⊎ IsKeepFault words c
 IsCaused words c status.Memory = Untouched c
+IsCaused words c status.Stack = IsWorked words c status.Stack
+
+-- the words keep a file of this name
+pub record IsKeptName (words : List (List ℕ)) (name : List ℕ) : Type 0 where
+  pub job : Job
+  pub asked : asked_of words ≡ Some job
+  pub named : name_kept job ≡ Some name
+
+-- told files stay, but for the one that is kept, if one is
+abbrev pub HoldsBut : Option File → Option Files → Option Files → Type 0
+HoldsBut None old new = new ≡ old
+HoldsBut (Some file) old new = HoldsOthers old new file.0
+
+-- told files stay, or all but the one that the words keep
+abbrev pub HoldsButKept : List (List ℕ) → Option Files → Option Files → Type 0
+HoldsButKept words old new = (new ≡ old) ⊎ ((name : List ℕ) × IsKeptName words name × HoldsOthers old new name)

@@ -1,8 +1,9 @@
-//! Carrying a plan out: keeping, writing, running. It takes no memory.
+//! Carrying a plan out: keeping, writing, running. It allocates nothing.
 ghost use Rattle.std.specs.Prelude.{◌≡◌, ◌≤◌, ◌++◌, None, Some};
 ghost use Rattle.m51_chain.specs.Carried.{IsWritten, IsEnded, status_told};
 ghost use Rattle.m51_chain.specs.Outcome.{answer_of, file_of, status_after, status_at, text_at};
 ghost use Rattle.m51_chain.specs.Shelf.{HoldsOthers};
+ghost use Rattle.m51_chain.specs.Told.{HoldsBut};
 
 use crate::shelf::Shelf;
 use crate::status::Status;
@@ -96,6 +97,7 @@ pub(crate) fn carry_out<F: Shelf, S: Sink>(plan: Plan, files: &mut F, out: &mut 
     ensures carried { IsEnded (answer_of plan) (F.state files.old).keeps (F.state files.new).keeps
         (S.state out.old) (S.state out.new) result }
     ensures quiet { (answer_of plan).keeps ≡ None → files.new ≡ files.old }
+    ensures holds { HoldsBut (answer_of plan).keeps (F.state files.old).holds (F.state files.new).holds }
     ensures reads { (F.state files.new).reads ≡ (F.state files.old).reads }
     ensures kept_later { (F.state files.old).keeps.faults ≤ (F.state files.new).keeps.faults }
     ensures later { (S.state out.old).faults ≤ (S.state out.new).faults }

@@ -11,7 +11,7 @@ use std::io::{ErrorKind, Read, Write};
 use std::marker::Model;
 use std::rt::Files;
 
-/// The files of the system, by their paths from the folder of the call. It tells no contents.
+/// The files of the system, by their paths from the folder of the call. Contracts do not see what they hold.
 ///
 /// Source: own choice ("The outside").
 #[derive(Drop)]

@@ -1,18 +1,25 @@
 //! The top call, and the shelf that its files come from and are kept in.
 #![tactic(auto)]
 
+mod analysing;
 mod asked;
+mod assembling;
 mod building;
 mod carrying;
-mod chains;
+mod faulting;
 mod files;
 mod flat;
 mod folder;
+mod generating;
+mod input_refusing;
 mod library;
+mod linking;
 mod memory;
+mod optional;
 mod planning;
 mod reading;
 mod refusing;
+mod reporting;
 mod shelf;
 mod status;
 mod sure;

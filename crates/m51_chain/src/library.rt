@@ -4,15 +4,13 @@ ghost use Rattle.std.specs.Prelude.{length};
 ghost use Rattle.std.specs.List.{All};
 ghost use Rattle.m51_cells.specs.declared.limits.TheConstants.{MOST_FILE_BYTES};
 ghost use Rattle.m51_cells.specs.Outcome.{Gives};
-ghost use Rattle.m51_library.specs.Reading.{at_end};
 ghost use Rattle.m51_library.specs.Spelling.{library_bytes};
 ghost use Rattle.m51_module.specs.declared.library_error.LibError.{LibError as Error};
 ghost use Rattle.m51_module.specs.declared.parts.ModuleParts.{ModuleParts};
 ghost use Rattle.m51_module.specs.Library.{added_each, built, extracted, refusal_of};
-ghost use Rattle.m51_records.specs.Fields.{Reads};
 ghost use Rattle.m51_records.specs.Spelling.{bytes_of};
 ghost use Rattle.m51_words.specs.Files.{operation_reads};
-ghost use Rattle.m51_chain.specs.Libraries.{HasFiles, IsNoBuild, first_and, module_in, object_in, objects_in};
+ghost use Rattle.m51_chain.specs.Libraries.{HasFiles, IsNoBuild, first_and, object_in, objects_in};
 ghost use Rattle.m51_chain.specs.Libraries.{library_in};
 ghost use Rattle.m51_chain.specs.Libraries.{replaced_each, deleted_each, raised_each, kept_library, kept_module};
 ghost use Rattle.m51_chain.specs.Libraries.{keeping};
@@ -21,43 +19,21 @@ ghost use Rattle.m51_chain.specs.Libraries.{library_outcome_of};
 ghost use Rattle.m51_chain.specs.Outcome.{Comes, outcome_of, stopped};
 
 use crate::refusing::{refuse_edit, refuse_library, refuse_object};
-use crate::work::{Ending, Finished, Stop};
+use crate::work::{Ending, Finished, Stop, text_alone};
 use m51_cells::{Bytes, Name, NoMemory};
+use m51_inputs::read_object;
 use m51_library::{build, read_library, write_library};
-use m51_module::{LibError, Library, Module, ObjError};
-use m51_records::{module_at, place, write_module};
+use m51_module::{LibError, Library, Module};
+use m51_records::write_module;
 use m51_words::{FileName, LibraryJob, Operation};
 use std::alloc::Global;
-
-// The one module of an object, with nothing after it.
-#[tactic(auto, unfolding(crate::specs::Libraries::module_in))]
-fn module_in(alloc: Global, bytes: &[u8]) -> Result<Module, ObjError>
-    requires { length bytes.now < 2 ^ 32 }
-    ensures { Reads (λ m. m) result (module_in bytes.now) }
-{
-    let total = bytes.len() as u32;
-    let (module, rest, _) = module_at(alloc, total, 0, bytes)?;
-    at_end(total, rest, module)
-}
-
-// The module, where nothing follows it; else O3 at the first byte that does.
-fn at_end(total: u32, rest: &[u8], module: Module) -> Result<Module, ObjError>
-    ensures { Reads (λ m. m) result (at_end total rest.now «module») }
-{
-    match rest {
-        [] => Ok(module),
-        _ => Err(ObjError::O3 {
-            at: place(total, rest),
-        }),
-    }
-}
 
 // The object of this name.
 fn object_in(alloc: Global, name: &FileName, bytes: &Bytes) -> Result<Module, Stop>
     requires { length bytes.now ≤ MOST_FILE_BYTES }
     ensures { Gives (λ m. m) stopped result (object_in name.now bytes.now) }
 {
-    match module_in(alloc, bytes.as_slice()) {
+    match read_object(alloc, bytes.as_slice()) {
         Ok(module) => Ok(module),
         Err(error) => Err(refuse_object(alloc, name.as_str(), &error)?),
     }
@@ -275,16 +251,11 @@ fn lines_of(alloc: Global, modules: &[Module]) -> Result<Vec<u8>, NoMemory>
 }
 
 // The names of the modules are written.
-#[tactic(auto, using(crate::proofs::Ends::text_alone))]
 fn list(alloc: Global, library: &Library) -> Result<Finished, Stop>
     ensures { Gives outcome_of stopped result (writing (flat_map name_line library.now)) }
 {
     let text = lines_of(alloc, library.list())?;
-    Ok(Finished {
-        keeps: None,
-        text: Bytes::of(text),
-        ending: Ending::Ran,
-    })
+    Ok(text_alone(text))
 }
 
 // Does what is asked with a library that was read.

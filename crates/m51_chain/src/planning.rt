@@ -1,19 +1,22 @@
-//! Planning: from words to what is to be kept and written.
-ghost use Rattle.std.specs.Prelude.{◌≡◌, ◌⊎◌, ◌≤◌, IfOk, None, length, option_map, true};
+//! Planning: from arguments to what is to be kept and written.
+ghost use Rattle.std.specs.Prelude.{◌≡◌, ◌⊎◌, ◌≤◌, IfOk, None, length, option_map};
 ghost use Rattle.std.specs.List.{All};
 ghost use Rattle.m51_cells.specs.declared.limits.TheConstants.{MOST_FILES, MOST_FILE_BYTES};
 ghost use Rattle.m51_words.specs.Files.{file_count, name_kept, names_read};
 ghost use Rattle.m51_words.specs.Texts.{texts};
-ghost use Rattle.m51_chain.specs.Asked.{asked_of, is_built};
+ghost use Rattle.m51_chain.specs.Asked.{IsFit, asked_of};
 ghost use Rattle.m51_chain.specs.Due.{IsDue, IsDueFor, IsPlanned, ReadsOnly};
 ghost use Rattle.m51_chain.specs.Expected.{HasOutcome};
 ghost use Rattle.m51_chain.specs.Outcome.{Comes, answer_of, file_of, status_of, under};
 ghost use Rattle.m51_chain.specs.Reading.{ReadsSome};
 ghost use Rattle.m51_chain.specs.Verbs.{IsOutcome};
 
+use crate::analysing::{bound_files, disassemble_files};
 use crate::asked::asked_of;
+use crate::assembling::assemble;
 use crate::building::build;
 use crate::flat::run_flat;
+use crate::generating::count;
 use crate::library::operate;
 use crate::reading::{Unread, read_all};
 use crate::refusing::{refuse_long_file, refuse_many_files, refuse_unread_file, refuse_words};
@@ -27,17 +30,21 @@ use std::alloc::Global;
 
 // What the verb makes of the contents of its files.
 fn work(alloc: Global, job: &Job, contents: &[Bytes]) -> Result<Finished, Stop>
-    requires built { is_built job.now ≡ true }
+    requires fit { IsFit job.now }
+    requires few { file_count job.now ≤ MOST_FILES }
     requires count { length contents.now ≡ length (names_read job.now) }
     requires within { All (λ bytes. length bytes ≤ MOST_FILE_BYTES) contents.now }
     ensures { Comes (IsOutcome job.now contents.now) result }
 {
     match job {
         Job::Build(job) => build(alloc, job, contents),
-        Job::Asm(_) => unreachable!(),
+        Job::Asm(job) => assemble(alloc, job, contents),
+        Job::Gen(job) => count(alloc, job),
         Job::Library(job) => operate(alloc, job, contents),
         Job::Flat(job) => run_flat(alloc, job, contents),
-        Job::Gen(_) => unreachable!(),
+        Job::Dis(job) => disassemble_files(alloc, job, contents),
+        Job::Stack(job) => bound_files(alloc, job, contents),
+        Job::Party(_) => unreachable!(),
     }
 }
 
@@ -51,6 +58,7 @@ fn status_of(why: Reason) -> Status
         Reason::Object => Status::Object,
         Reason::Script => Status::Script,
         Reason::Limit => Status::Limit,
+        Reason::Stack => Status::Stack,
     }
 }
 
@@ -101,7 +109,8 @@ fn target_of(alloc: Global, job: &Job) -> Result<Option<Target>, NoMemory>
 // The plan for a job whose files were read whole. What is to be written where the file could not be kept is made before
 // the work, of which the board is the last that takes memory.
 fn work_planned(alloc: Global, job: &Job, contents: &[Bytes]) -> Result<Plan, NoMemory>
-    requires built { is_built job.now ≡ true }
+    requires fit { IsFit job.now }
+    requires few { file_count job.now ≤ MOST_FILES }
     requires count { length contents.now ≡ length (names_read job.now) }
     requires within { All (λ bytes. length bytes ≤ MOST_FILE_BYTES) contents.now }
     ensures { IfOk result (λ plan. HasOutcome job.now contents.now (answer_of plan)) }
@@ -112,7 +121,7 @@ fn work_planned(alloc: Global, job: &Job, contents: &[Bytes]) -> Result<Plan, No
 
 // The plan for a job.
 fn plan_job<F: Shelf>(alloc: Global, job: &Job, files: &mut F) -> Result<Plan, NoMemory>
-    requires built { is_built job.now ≡ true }
+    requires fit { IsFit job.now }
     ensures due { IfOk result (λ plan. IsDueFor job.now (F.state files.old).holds
         (F.state files.old).reads (F.state files.new).reads (answer_of plan)) }
     ensures later { (F.state files.old).reads.faults ≤ (F.state files.new).reads.faults }
@@ -130,7 +139,7 @@ fn plan_job<F: Shelf>(alloc: Global, job: &Job, files: &mut F) -> Result<Plan, N
 
 // The plan for a job whose number of file words is no more than the most.
 fn plan_few<F: Shelf>(alloc: Global, job: &Job, files: &mut F) -> Result<Plan, NoMemory>
-    requires built { is_built job.now ≡ true }
+    requires fit { IsFit job.now }
     requires few { file_count job.now ≤ MOST_FILES }
     ensures due { IfOk result (λ plan. IsDueFor job.now (F.state files.old).holds
         (F.state files.old).reads (F.state files.new).reads (answer_of plan)) }

@@ -16,7 +16,7 @@ use m51_module::{LibError, ObjError};
 use std::alloc::Global;
 
 // These texts, one after the other.
-fn joined(alloc: Global, parts: &[&[u8]]) -> Result<Bytes, NoMemory>
+pub(crate) fn joined(alloc: Global, parts: &[&[u8]]) -> Result<Bytes, NoMemory>
     ensures { IfOk result (λ bytes. bytes ≡ joined (lent parts.now)) }
 {
     let mut bytes = Vec::new(alloc);
@@ -27,7 +27,7 @@ fn joined(alloc: Global, parts: &[&[u8]]) -> Result<Bytes, NoMemory>
 }
 
 // A copy of a text.
-fn bytes_of(alloc: Global, text: &[u8]) -> Result<Bytes, NoMemory>
+pub(crate) fn bytes_of(alloc: Global, text: &[u8]) -> Result<Bytes, NoMemory>
     ensures { IfOk result (λ bytes. bytes ≡ text.now) }
 {
     Ok(Bytes::of(text.to_vec(alloc)?))
@@ -153,15 +153,20 @@ fn object_words(alloc: Global, error: &ObjError) -> Result<Bytes, NoMemory>
 }
 
 // The object of this name is refused.
+pub(crate) fn object_refused(alloc: Global, file: &str, error: &ObjError) -> Result<Stop, NoMemory>
+    ensures { IfOk result (λ stop. stopped stop ≡ Some (object_outcome file.now error.now)) }
+{
+    let words = object_words(alloc, error)?;
+    refuse_file(alloc, file, words.as_slice())
+}
+
+// The same, where out of memory is no refusal.
 pub(crate) fn refuse_object(alloc: Global, file: &str, error: &ObjError) -> Result<Stop, NoMemory>
     ensures { IfOk result (λ stop. stopped stop ≡ option_map (object_outcome file.now) (object_refusal error.now)) }
 {
     match error {
         ObjError::Memory => Ok(Stop::Memory),
-        _ => {
-            let words = object_words(alloc, error)?;
-            refuse_file(alloc, file, words.as_slice())
-        }
+        _ => object_refused(alloc, file, error),
     }
 }
 
@@ -174,19 +179,25 @@ fn refuse_file_at(alloc: Global, file: &str, rule: &[u8], name: &Name) -> Result
 }
 
 // The library of this name is refused.
-pub(crate) fn refuse_library(alloc: Global, file: &str, error: &LibError) -> Result<Stop, NoMemory>
-    ensures { IfOk result (λ stop. stopped stop ≡ option_map (library_outcome file.now) (library_refusal error.now)) }
+pub(crate) fn library_refused(alloc: Global, file: &str, error: &LibError) -> Result<Stop, NoMemory>
+    ensures { IfOk result (λ stop. stopped stop ≡ Some (library_outcome file.now error.now)) }
 {
     match error {
         LibError::B1 { name } => refuse_file_at(alloc, file, b"B1 ", name),
         LibError::B2 { name } => refuse_file_at(alloc, file, b"B2 ", name),
         LibError::B3 { name } => refuse_file_at(alloc, file, b"B3 ", name),
-        LibError::Full => refuse_full(alloc),
-        LibError::Object(error) => {
-            let words = object_words(alloc, error)?;
-            refuse_file(alloc, file, words.as_slice())
-        }
+        LibError::Object(error) => object_refused(alloc, file, error),
+        LibError::Full | LibError::Memory => refuse_full(alloc),
+    }
+}
+
+// The same, where out of memory is no refusal.
+pub(crate) fn refuse_library(alloc: Global, file: &str, error: &LibError) -> Result<Stop, NoMemory>
+    ensures { IfOk result (λ stop. stopped stop ≡ option_map (library_outcome file.now) (library_refusal error.now)) }
+{
+    match error {
         LibError::Memory => Ok(Stop::Memory),
+        _ => library_refused(alloc, file, error),
     }
 }
 

@@ -8,7 +8,7 @@ use m51_cells::Bytes;
 use m51_sim::Failed;
 use std::marker::Model;
 
-/// Files in memory that never fail. It tells what they hold; of two files of one name the first counts, and under each
+/// Files in memory that never fail. Contracts see what they hold; of two of one name the first counts, and under each
 /// other name there is an empty file. It forgets what it keeps.
 ///
 /// Source: own choice ("The outside").

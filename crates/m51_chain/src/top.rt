@@ -2,10 +2,13 @@
 ghost use Rattle.std.specs.Prelude.{◌≡◌, ◌⊎◌, ◌≤◌, None, Some};
 ghost use Rattle.m51_words.specs.Texts.{texts};
 ghost use Rattle.m51_chain.specs.Asked.{asked_of};
+ghost use Rattle.m51_chain.specs.Complete.{IsComplete};
 ghost use Rattle.m51_chain.specs.Due.{ReadsOnly};
+ghost use Rattle.m51_chain.specs.Expected.{IsAnswer};
+ghost use Rattle.m51_chain.specs.Outcome.{Answer};
 ghost use Rattle.m51_chain.specs.Outside.{change};
 ghost use Rattle.m51_chain.specs.Shelf.{Files};
-ghost use Rattle.m51_chain.specs.Told.{IsCaused, IsTold};
+ghost use Rattle.m51_chain.specs.Told.{HoldsButKept, IsCaused, IsTold};
 
 use crate::carrying::carry_out;
 use crate::planning::plan;
@@ -15,8 +18,8 @@ use m51_cells::NoMemory;
 use m51_sim::Sink;
 use std::alloc::Global;
 
-/// Does what the words ask for, with the files of the shelf, and writes to the sink. The words are those after the
-/// program's name.
+/// Does what the arguments ask for, with the files of the shelf, and writes to the sink. The arguments are those after
+/// the program's name.
 ///
 /// Source: own choice ("The top call").
 pub fn chain<F: Shelf, S: Sink>(
@@ -30,7 +33,13 @@ pub fn chain<F: Shelf, S: Sink>(
     ensures told { (held : Files) → (F.state files.old).holds ≡ Some held → IsTold (texts words.now) held
         (change (F.state files.old) (F.state files.new) (S.state out.old) (S.state out.new)) result }
 
-    // What lies behind each status, told or not.
+    // Where it tells them and no call fails, the answer for words and files is kept and written whole, unless there is
+    // no memory; then nothing is kept or written.
+    ensures complete { (held : Files) (answer : Answer) → (F.state files.old).holds ≡ Some held
+        → IsAnswer (texts words.now) held answer → IsComplete answer
+        (change (F.state files.old) (F.state files.new) (S.state out.old) (S.state out.new)) result }
+
+    // The cause of each status, told or not.
     ensures cause { IsCaused (texts words.now)
         (change (F.state files.old) (F.state files.new) (S.state out.old) (S.state out.new)) result }
 
@@ -41,6 +50,9 @@ pub fn chain<F: Shelf, S: Sink>(
     // is taken; with too many file words none is.
     ensures reads { ((F.state files.new).reads ≡ (F.state files.old).reads)
         ⊎ ReadsOnly (texts words.now) (F.state files.old).reads (F.state files.new).reads }
+
+    // Where the shelf tells its files, all but the one that the words keep are as before.
+    ensures holds { HoldsButKept (texts words.now) (F.state files.old).holds (F.state files.new).holds }
 
     // No count of failures falls.
     ensures read_later { (F.state files.old).reads.faults ≤ (F.state files.new).reads.faults }

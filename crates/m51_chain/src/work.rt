@@ -1,4 +1,7 @@
 //! What the work of a verb comes to, and what is to be kept and written.
+ghost use Rattle.std.specs.Prelude.{◌≡◌};
+ghost use Rattle.m51_chain.specs.Outcome.{outcome_of, written};
+
 use crate::status::Status;
 use crate::target::Target;
 use m51_cells::{Bytes, NoMemory};
@@ -19,6 +22,8 @@ pub(crate) enum Reason {
     Script,
     // A quantity passed its limit.
     Limit,
+    // The stack of a program has no bound.
+    Stack,
 }
 
 // How accepted work ends.
@@ -42,6 +47,18 @@ pub(crate) struct Finished {
     // The text that is written first.
     pub text: Bytes,
     pub ending: Ending,
+}
+
+// This text is written, and nothing is kept.
+#[tactic(auto, using(crate::proofs::Ends::ran_alone))]
+pub(crate) fn text_alone(text: Vec<u8>) -> Finished
+    ensures { outcome_of result ≡ written text.items }
+{
+    Finished {
+        keeps: None,
+        text: Bytes::of(text),
+        ending: Ending::Ran,
+    }
 }
 
 // Why the work of a verb stops.

@@ -22,24 +22,24 @@ use Rattle.m51_coding.specs.Coding.{gathered, first_of, second_of, third_of}
 use Rattle.m51_coding.specs.OutcomeLaws.{FailsAsOperand, OperandsFailByFive}
 use Rattle.m51_coding.proofs.FormRows.{forms_have_rows}
 
-then_fails : {A B : Type 0} (r : Answer A) (go : A → Answer B) → FailsAsOperand r → ((a : A) → FailsAsOperand (go a)) → FailsAsOperand (and_then r go)
+pub then_fails : {A B : Type 0} (r : Answer A) (go : A → Answer B) → FailsAsOperand r → ((a : A) → FailsAsOperand (go a)) → FailsAsOperand (and_then r go)
 then_fails (Ok a) go h next = next a
 then_fails (Err e) go h next = h
 
-range_fails : (o : Option FieldValue) → FailsAsOperand (or_out_of_range o)
+pub range_fails : (o : Option FieldValue) → FailsAsOperand (or_out_of_range o)
 range_fails (Some held) = tt
 range_fails None = inr refl
 
-fielded_fails : (names : Meanings) (next : ℕ) (at : Field) (value : Valued Value) → FailsAsValue value → FailsAsOperand (fielded names next at value)
+pub fielded_fails : (names : Meanings) (next : ℕ) (at : Field) (value : Valued Value) → FailsAsValue value → FailsAsOperand (fielded names next at value)
 fielded_fails names next at (Ok v) h = range_fails (field_of names at next v)
 fielded_fails names next at (Err e) h = inl h
 
-expression_fails : (names : Meanings) (next : ℕ) (slot : FieldSlot) (t : Option Tree) → FailsAsOperand (filled_by names next slot t)
+pub expression_fails : (names : Meanings) (next : ℕ) (slot : FieldSlot) (t : Option Tree) → FailsAsOperand (filled_by names next slot t)
 expression_fails names next slot (Some t) =
     then_fails (fielded names next slot.field (value_of names t)) _ (fielded_fails names next slot.field (value_of names t) (values_fail_by_four names t)) (λ held. tt)
 expression_fails names next slot None = tt
 
-filled_fails : (names : Meanings) (next : ℕ) (field : Option FieldSlot) (o : Option OperandTree) → FailsAsOperand (filled names next field o)
+pub filled_fails : (names : Meanings) (next : ℕ) (field : Option FieldSlot) (o : Option OperandTree) → FailsAsOperand (filled names next field o)
 filled_fails names next (Some slot) (Some operand) = expression_fails names next slot (expression operand)
 filled_fails names next (Some slot) None = tt
 filled_fails names next None o = tt

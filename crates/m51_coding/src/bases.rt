@@ -1,4 +1,4 @@
-//! How the base of a value stands to the segment of the statement.
+//! How the base of a value relates to the segment of the statement.
 ghost use Rattle.std.specs.Prelude.{◌≡◌};
 ghost use Rattle.m51_coding.specs.Bases.{same_segment, is_current, stands_absolute, is_numbered, is_linked};
 
@@ -15,14 +15,14 @@ fn same_segment(a: Base, b: Base) -> bool
     }
 }
 
-/// Whether the base is the segment that the statement stands in.
+/// Whether the base is the segment of the statement.
 pub(crate) fn is_current<L: Lookup>(names: &L, base: Base) -> bool
     ensures { result ≡ is_current (L.meanings names.now) base }
 {
     same_segment(base, names.here().base)
 }
 
-/// Whether the statement stands in an absolute segment.
+/// Whether the statement is in an absolute segment.
 pub(crate) fn stands_absolute<L: Lookup>(names: &L) -> bool
     ensures { result ≡ stands_absolute (L.meanings names.now) }
 {

@@ -15,7 +15,7 @@ pub(crate) fn address_after<L: Lookup>(names: &L, length: u16) -> u16
     names.here().number.wrapping_add(length)
 }
 
-// Whether a base stands under HIGH or LOW.
+// Whether a base is under HIGH or LOW.
 fn is_byte(part: Part) -> bool
     ensures { result ≡ is_byte part }
 {

@@ -23,7 +23,7 @@ pub fn blocks_lead_to_targets()
     ensures { BlocksLead }
 {}
 
-/// A reference names a bit for CONV alone, as an object wants it.
+/// A reference names a bit only for CONV, as an object requires.
 ///
 /// Source: OMF-51.
 pub fn references_have_bits()

@@ -116,7 +116,7 @@ fn taken_of<L: Lookup>(names: &L, field: Field, next: u16, value: Value) -> Opti
 
 /// What a value gives in a field of a statement. `next` is the address after the statement, modulo 65,536; in a
 /// relocatable segment the offset there. None is E14: the value is out of its range, out of reach, of another class, or
-/// under an operator that does not stand there.
+/// under an operator that is not allowed there.
 ///
 /// Source: own choice ("Fields").
 #[tactic(auto, unfolding(crate::specs::FieldValues::field_of))]

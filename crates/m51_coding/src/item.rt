@@ -31,7 +31,7 @@ fn field_of_width(width: Width) -> Field
 }
 
 /// What an item gives in its field: a number, or what the linker fills in; none for a text, which has no field. It
-/// takes no memory.
+/// allocates nothing.
 ///
 /// Errors: E7 to E10 where the item has no value, as [`m51_expr::ExprError`] has them, E14 where its value is out of
 /// range.

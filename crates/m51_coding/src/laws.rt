@@ -3,7 +3,7 @@ ghost use Rattle.m51_coding.specs.Meaning.{CodedStandsForLine};
 ghost use Rattle.m51_coding.specs.Lengths.{FormsHaveRows};
 ghost use Rattle.m51_coding.specs.OutcomeLaws.{OutcomesTell, OperandsFailByFive};
 
-/// The bytes that are coded are those of an instruction that stands for the line: with its mnemonic, the same
+/// The bytes that are coded are those of an instruction that the line means: with its mnemonic, the same
 /// registers, and in its fields the numbers that the values of the operands give there. What a value leaves to the
 /// linker lies at the byte where its field begins, in the form of the field, and no other reference is there.
 ///

@@ -18,7 +18,7 @@ pub struct Reference {
     pub bit: u8,
     /// The segment or external that the address counts from.
     pub base: Base,
-    /// What is added to the base; where an operator stands over the base, its operand.
+    /// What is added to the base; where an operator is over the base, its operand.
     pub number: u16,
 }
 

@@ -6,7 +6,7 @@ use m51_cells::Kind;
 use m51_expr::Part;
 use m51_isa::Field;
 
-/// Whether values of the class stand in the field.
+/// Whether values of the class are allowed in the field.
 pub(crate) fn takes_class(field: Field, class: Kind) -> bool
     ensures { result ≡ takes_class field class }
 {
@@ -18,7 +18,7 @@ pub(crate) fn takes_class(field: Field, class: Kind) -> bool
     }
 }
 
-/// Whether a base under the operator stands in the field.
+/// Whether a base under the operator is allowed in the field.
 pub(crate) fn takes_part(field: Field, part: Part) -> bool
     ensures { result ≡ takes_part field part }
 {

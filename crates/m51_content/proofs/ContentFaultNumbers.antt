@@ -30,6 +30,7 @@ use Rattle.m51_coding.specs.Items.{field_of_width, item_field}
 use Rattle.m51_coding.specs.JumpForm.{address_after}
 use Rattle.m51_coding.specs.Outcomes.{linked, outcome_of}
 use Rattle.m51_coding.specs.OutcomeLaws.{FailsAsOperand}
+use Rattle.m51_coding.proofs.OperandFaults.{fielded_fails, filled_fails}
 use Rattle.m51_coding.specs.Coding.{Line, line_of, line_row, outcomes_by as row_outcomes, outcomes_line, outcomes}
 use Rattle.m51_stmt.specs.Statement.{Code, Db, Dw}
 use Rattle.m51_content.specs.Outcomes.{made_with, part_fault, or_next, leftmost_fault}
@@ -62,29 +63,6 @@ or_next_fails None next h g = g
 parts_fail : (made : ℕ) (parts : List Outcome) → FailAsParts parts → IfSome (leftmost_fault made parts) IsFaultOfContent
 parts_fail made [] h = tt
 parts_fail made (part ∷ parts) h = or_next_fails (part_fault made part) _ (part_fails made part h.0) (parts_fail (made_with made part) parts h.1)
-
--- a fault of a value or of its range is one of content
-range_fails : (o : Option FieldValue) → FailsAsOperand (or_out_of_range o)
-range_fails (Some held) = tt
-range_fails None = inr refl
-
-fielded_fails : (names : Meanings) (next : ℕ) (at : Field) (value : Valued Value) → FailsAsValue value → FailsAsOperand (fielded names next at value)
-fielded_fails names next at (Ok v) h = range_fails (field_of names at next v)
-fielded_fails names next at (Err e) h = inl h
-
-then_fails : {A B : Type 0} (r : Answer A) (go : A → Answer B) → FailsAsOperand r → ((a : A) → FailsAsOperand (go a)) → FailsAsOperand (and_then r go)
-then_fails (Ok a) go h next = next a
-then_fails (Err e) go h next = h
-
-expression_fails : (names : Meanings) (next : ℕ) (slot : FieldSlot) (t : Option Tree) → FailsAsOperand (filled_by names next slot t)
-expression_fails names next slot (Some t) =
-    then_fails (fielded names next slot.field (value_of names t)) _ (fielded_fails names next slot.field (value_of names t) (values_fail_by_four names t)) (λ held. tt)
-expression_fails names next slot None = tt
-
-filled_fails : (names : Meanings) (next : ℕ) (field : Option FieldSlot) (o : Option OperandTree) → FailsAsOperand (filled names next field o)
-filled_fails names next (Some slot) (Some operand) = expression_fails names next slot (expression operand)
-filled_fails names next (Some slot) None = tt
-filled_fails names next None o = tt
 
 linked_fails : (o : Option Reference) → FailsAsPart (linked o)
 linked_fails (Some r) = tt

@@ -16,7 +16,7 @@ counted_first c part parts = λ i. record {
   fault = or_next_assoc c.fault (part_fault c.made part) (leftmost_fault (made_with c.made part) parts) i;
 }
 
-or_nothing : (a : Option ℕ) → or_next a None ≡ a
+pub or_nothing : (a : Option ℕ) → or_next a None ≡ a
 or_nothing (Some n) = refl
 or_nothing None = refl
 

@@ -102,7 +102,7 @@ fn push_run(
 }
 
 impl SegmentContent {
-    /// The segment of this number in its module, counted from 1, before the first line. It takes no memory.
+    /// The segment of this number in its module, counted from 1, before the first line. It allocates nothing.
     ///
     /// Source: own choice ("Content of a module").
     pub fn new(alloc: Global, segment: u8) -> SegmentContent

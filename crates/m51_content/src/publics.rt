@@ -23,7 +23,7 @@ pub enum Definer {
     Other,
 }
 
-// Whether no operator stands over the number.
+// Whether no operator is over the number.
 fn is_whole(part: Part) -> bool
     ensures { result ≡ is_whole part }
 {
@@ -101,7 +101,7 @@ fn public_valued(name: Name, kind: Kind, at: u16, value: Option<Value>) -> Resul
 ///
 /// The value is that of the name at the statement, whose base is a segment by its number in the module: 0 where the
 /// module does not have it. Kind and address are those of that segment; without one they do not matter. The number of
-/// the public counts from the address. A value of a segment that the module does not have stands as a number.
+/// the public counts from the address. A value of a segment that the module does not have is a number.
 ///
 /// Error: 8 for the name of a segment, an external or SET, for the value of an external, and for one of a segment under
 /// `HIGH`, `LOW` or the dot; 7 where the name has no value; 14 where the class is not the kind of the segment.

@@ -1,5 +1,5 @@
 //! Lines with what they give: EXT is external 5, FAR lies at 1234H in the absolute segment 2, and no other name has a
-//! value. The lines stand at 0 in the absolute segment 1.
+//! value. The lines are at 0 in the absolute segment 1.
 ghost use Rattle.std.specs.Prelude.{◌+◌, ◌≤◌};
 
 use crate::{
@@ -76,7 +76,7 @@ fn given(alloc: Global, text: &str, made: usize) -> Result<String, Fail> {
     Ok(shown(alloc, &line)?)
 }
 
-// How many lines give something else than what stands in the line after them.
+// How many lines give something else than what is in the line after them.
 fn wrong(alloc: Global, rows: &str, made: usize) -> Result<usize, Fail> {
     let mut wrong = 0usize;
     let mut text: Option<&str> = None;

@@ -30,7 +30,7 @@ impl Model for Controls {
 }
 
 impl Controls {
-    /// No controls. It takes no memory.
+    /// No controls. It allocates nothing.
     ///
     /// Source: own choice ("Control lines").
     pub fn none(alloc: Global) -> Controls
@@ -41,7 +41,7 @@ impl Controls {
         }
     }
 
-    /// The controls of these lines. It takes no memory.
+    /// The controls of these lines. It allocates nothing.
     ///
     /// Source: own choice ("Control lines").
     pub fn of(items: Vec<(u32, Control)>) -> Controls

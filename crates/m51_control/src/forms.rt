@@ -13,7 +13,7 @@ use crate::{Class, Control};
 use m51_cells::{MOST_LINE_BYTES, Name, NoMemory};
 use std::alloc::Global;
 
-// Whether this sign stands in the text.
+// Whether this sign is in the text.
 fn has_sign(sign: u8, text: &[u8]) -> bool
     ensures { result ≡ list_any (is_sign sign) text.now }
 {
@@ -54,7 +54,7 @@ fn cut(alloc: Global, inside: &[u8]) -> Result<Option<Control>, NoMemory>
     }
 }
 
-// What stands in the parentheses of OVERLAY.
+// What is in the parentheses of OVERLAY.
 fn overlay(alloc: Global, inside: &[u8]) -> Result<Option<Control>, NoMemory>
     ensures control { IfOk result (λ control. control ≡ overlay inside.now) }
     ensures allowed { IfOk result (λ control. IfSome control IsAllowed) }
@@ -66,7 +66,7 @@ fn overlay(alloc: Global, inside: &[u8]) -> Result<Option<Control>, NoMemory>
     }
 }
 
-// What stands in the parentheses of NOOVERLAY.
+// What is in the parentheses of NOOVERLAY.
 fn no_overlay(inside: &[u8]) -> Option<Control>
     ensures { result ≡ no_overlay inside.now }
 {
@@ -95,7 +95,7 @@ fn class_named(word: &[u8]) -> Option<Class>
     }
 }
 
-// The class of an order, and what stands after its comma.
+// The class of an order, and what comes after its comma.
 fn ordered_of(inside: &[u8]) -> Option<(Class, &[u8])>
     ensures { option_map (λ o. (o.0, o.1.now)) result ≡ ordered_of inside.now }
 {
@@ -104,7 +104,7 @@ fn ordered_of(inside: &[u8]) -> Option<(Class, &[u8])>
     Some((class_named(class.bytes())?, segments))
 }
 
-// What stands in the parentheses of ORDER.
+// What is in the parentheses of ORDER.
 fn order(alloc: Global, inside: &[u8]) -> Result<Option<Control>, NoMemory>
     ensures { IfOk result (λ control. control ≡ order inside.now) }
 {
@@ -117,7 +117,7 @@ fn order(alloc: Global, inside: &[u8]) -> Result<Option<Control>, NoMemory>
     }
 }
 
-// What a word says with what stands in its parentheses.
+// What a word says with what is in its parentheses.
 #[tactic(auto, unfolding(crate::specs::Grammar::by_word))]
 fn by_word(alloc: Global, word: &[u8], inside: &[u8]) -> Result<Option<Control>, NoMemory>
     ensures control { IfOk result (λ control. control ≡ by_word word.now inside.now) }
@@ -136,7 +136,7 @@ fn by_word(alloc: Global, word: &[u8], inside: &[u8]) -> Result<Option<Control>,
     }
 }
 
-// The word of a line, and what stands in its parentheses.
+// The word of a line, and what is in its parentheses.
 fn call_of(line: &[u8]) -> Option<(Name, &[u8])>
     ensures { option_map (λ c. (c.0, c.1.now)) result ≡ call_of line.now }
 {

@@ -6,7 +6,7 @@ use crate::parts::{cut_at, part_of};
 use m51_cells::{Name, Names, NoMemory, digit_value};
 use std::alloc::Global;
 
-// What a name in a control line stands for.
+// What a name in a control line means.
 #[derive(Clone, Copy)]
 pub(crate) enum Role {
     // A unit, which may be written by the title of an absolute segment.

@@ -32,11 +32,11 @@ fn applied<L: Lookup>(names: &L, op: Binary, x: Value, y: Value) -> Result<Value
     }
 }
 
-/// The value of an expression. It takes no memory.
+/// The value of an expression. It allocates nothing.
 ///
 /// Errors: the fault of the first part that fails, operands before their operator and the left one first: E7 for a name
-/// without a value; E8 for a base where none may stand; E9 for a division by 0; E10 for a bit number over 7 or a byte
-/// whose bits have no addresses. Where E8 and another stand at one operator, E8 comes.
+/// without a value; E8 for a base that is not allowed; E9 for a division by 0; E10 for a bit number over 7 or a byte
+/// whose bits have no addresses. Where E8 and another are at one operator, E8 comes.
 ///
 /// Source: own choice ("Values with a base").
 #[tactic(auto, unfolding(crate::specs::Evaluation::value_of))]

@@ -8,7 +8,7 @@ use std::alloc::{AllocError, AllocFailed};
 /// Source: own choice ("Faults of a line").
 #[derive(Clone, Copy, Debug, PartialEq, Eq)]
 pub enum ReadError {
-    /// The fault E`number`, which is `NO_EXPRESSION`: no expression stands there.
+    /// The fault E`number`, which is `NO_EXPRESSION`: there is no expression.
     Fault { number: u8 },
     /// Out of memory.
     Memory,
@@ -35,7 +35,7 @@ impl<T: Drop> From<AllocFailed<T>> for ReadError {
 }
 
 /// The fault E`number` of an expression that has no value: `UNKNOWN_NAME` for a name without a value,
-/// `BASE_NOT_ALLOWED` for a base where none may stand, `DIVISION_BY_ZERO`, and `NO_BIT` for a bit number over 7 or a
+/// `BASE_NOT_ALLOWED` for a base that is not allowed, `DIVISION_BY_ZERO`, and `NO_BIT` for a bit number over 7 or a
 /// byte whose bits have no addresses.
 ///
 /// Source: own choice ("Faults of a line").

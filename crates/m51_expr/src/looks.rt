@@ -51,7 +51,7 @@ pub fn look_of(operand: &Operand) -> Look
 }
 
 /// Whether the mnemonic, in upper case, may have these operands: the instruction table has such a row, or it is `JMP`
-/// or `CALL` with a code address alone.
+/// or `CALL` with only a code address.
 ///
 /// Source: ASM51 guide.
 pub fn has_form(mnemonic: &[u8], operands: &[Operand]) -> bool

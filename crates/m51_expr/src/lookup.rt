@@ -1,4 +1,4 @@
-//! What names stand for.
+//! What names mean.
 ghost use Rattle.std.specs.Prelude.{◌≡◌};
 ghost use Rattle.m51_expr.specs.Meanings.{Meanings, is_absolute, is_unplaced, as_number};
 
@@ -6,13 +6,13 @@ use crate::fault::ExprError;
 use crate::value::{Value, counted};
 use m51_cells::{BASE_NOT_ALLOWED, Base, Name};
 
-/// What the names and the place of a statement stand for. No method takes memory.
+/// What the names and the place of a statement mean. No method allocates.
 ///
 /// Source: own choice ("Values with a base").
 pub trait Lookup {
     ghost meanings: { Self → Meanings };
 
-    /// What a name stands for, or none where it has no value at the statement.
+    /// What a name means, or none if it has no value at the statement.
     fn value(&self, name: &Name) -> Option<Value>
         ensures { result ≡ (meanings self.now).value name.now };
 
@@ -54,7 +54,7 @@ pub fn is_unplaced<L: Lookup>(names: &L, base: Base) -> bool
     }
 }
 
-/// What an operand counts as where no base may stand but an absolute one.
+/// What an operand counts as where only an absolute base is allowed.
 pub(crate) fn as_number<L: Lookup>(names: &L, value: Value) -> Result<u16, ExprError>
     ensures { result ≡ as_number (L.meanings names.now) value }
 {

@@ -45,7 +45,7 @@ pub type Operands = ListOf<Operand>;
 pub enum Item {
     /// A value: one byte of DB, two of DW.
     Value(Expr),
-    /// A text that stands alone in DB, as its characters.
+    /// A text that is a whole item of DB, as its characters.
     Text(Bytes),
 }
 

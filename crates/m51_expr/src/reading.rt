@@ -11,7 +11,7 @@ use crate::tree::{Expr, one, two};
 use m51_cells::NO_EXPRESSION;
 use std::alloc::Global;
 
-// No expression stands there.
+// There is no expression.
 const FAULT: ReadError = ReadError::Fault {
     number: NO_EXPRESSION,
 };

@@ -35,9 +35,9 @@ pub enum Symbol {
     Plus,
     /// `-`, before an operand or between two.
     Minus,
-    /// Another operator that stands before an operand.
+    /// Another operator that comes before an operand.
     Prefix(Unary),
-    /// Another operator that stands between two operands.
+    /// Another operator that is between two operands.
     Infix(Binary),
     /// `,`
     Comma,
@@ -51,7 +51,7 @@ pub enum Symbol {
     Other,
 }
 
-// The characters of what stands between quotes, after some that are read. Two quotes stand for one.
+// The characters of what is between quotes, after some that are read. Two quotes mean one.
 fn characters(text: &[u8], mut done: Bytes) -> Result<Bytes, NoMemory>
     ensures { IfOk result (λ all. all ≡ done ++ characters text.now) }
 {
@@ -176,7 +176,7 @@ fn symbol_of(alloc: Global, line: &[u8], token: &Token) -> Result<Symbol, NoMemo
 
 /// What the tokens of the line are, in order.
 ///
-/// Errors: want of memory.
+/// Errors: out of memory.
 ///
 /// Source: own choice ("Words and names").
 pub fn symbols(alloc: Global, line: &str, tokens: &[Token]) -> Result<Vec<Symbol>, NoMemory>

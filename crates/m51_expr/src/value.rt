@@ -4,7 +4,7 @@ ghost use Rattle.m51_expr.specs.Value.{whole, plain, is_whole, bit_address, coun
 
 use m51_cells::{Base, Kind};
 
-/// The operator that stands over the number of a value with a base.
+/// The operator that is over the number of a value with a base.
 ///
 /// Source: own choice ("Values with a base").
 #[derive(Clone, Copy, Debug, PartialEq, Eq)]
@@ -55,7 +55,7 @@ pub fn plain(number: u16, class: Kind) -> Value
     whole(number, class, Base::None)
 }
 
-/// Whether neither `HIGH`, `LOW` nor `.` stands over the number.
+/// Whether neither `HIGH`, `LOW` nor `.` is over the number.
 pub(crate) fn is_whole(part: Part) -> bool
     ensures { result ≡ is_whole part }
 {

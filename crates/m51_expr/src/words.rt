@@ -30,7 +30,7 @@ const REGISTERS: [&[u8]; 13] = [
     b"A", b"AB", b"C", b"DPTR", b"PC", b"R0", b"R1", b"R2", b"R3", b"R4", b"R5", b"R6", b"R7",
 ];
 
-/// `AR0` to `AR7`, which stand for the registers of the bank in use as direct addresses, from register 0 upward.
+/// `AR0` to `AR7`, which are the registers of the bank in use as direct addresses, from register 0 upward.
 ///
 /// Source: ASM51 guide.
 pub const BANK_REGISTERS: [&[u8]; 8] = [

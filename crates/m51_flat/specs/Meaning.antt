@@ -26,7 +26,8 @@ use Rattle.m51_flat.specs.States.{States, shut_of}
 use Rattle.m51_flat.specs.Reads.{Reads, Ends, CellMap, answer, accesses_over, result_over, first_missing}
 use Rattle.m51_flat.specs.Sfr.{acc, breg, pcon, flag, latch}
 use Rattle.m51_flat.specs.Operands.{with_bit_at}
-use Rattle.m51_flat.specs.Parts.{branched, carry, dptr_of, jumped, near, with_carry, with_dptr, with_pair}
+use Rattle.m51_isa.specs.Targets.{near}
+use Rattle.m51_flat.specs.Parts.{branched, carry, dptr_of, jumped, with_carry, with_dptr, with_pair}
 use Rattle.m51_flat.specs.Arithmetic.{assigned, changed, combined, digits_exchanged, exchanged, summed, with_turn}
 use Rattle.m51_flat.specs.Moves.{code_loaded, external_loaded, external_stored, popped, pushed}
 use Rattle.m51_flat.specs.Bits.{bit_flipped, bit_from, branched_on_bit, carry_merged, changed_carry, tested_and_cleared}
@@ -56,7 +57,7 @@ plan image ext e (CarryWith by bit) = carry_merged ext e by bit
 plan image ext e (StoreBit from bit) = Ends (with_bit_at bit (bit_from from e.cpu) e)
 plan image ext e (FlipBit bit) = bit_flipped e bit
 plan image ext e (JumpTo target) = Ends (jumped target Jump e)
-plan image ext e (JumpNear address) = Ends (jumped (near e.cpu address) Jump e)
+plan image ext e (JumpNear address) = Ends (jumped (near e.cpu.pc address) Jump e)
 plan image ext e (JumpBy rel) = Ends (branched true rel e)
 plan image ext e JumpIndirect = Ends (jumped ((dptr_of e.cpu + latch e.cpu acc) % 65536) Jump e)
 plan image ext e (BranchOn condition rel) = Ends (branched (is_met condition e.cpu) rel e)
@@ -65,7 +66,7 @@ plan image ext e (TestAndClear bit rel) = tested_and_cleared e bit rel
 plan image ext e (Compare first second rel) = compared ext e first second rel
 plan image ext e (CountDown place rel) = counted_down e place rel
 plan image ext e (CallTo target) = Ends (called e target)
-plan image ext e (CallNear address) = Ends (called e (near e.cpu address))
+plan image ext e (CallNear address) = Ends (called e (near e.cpu.pc address))
 plan image ext e (Return from) = returned e from
 
 -- the effect of an instruction that only goes on to the next

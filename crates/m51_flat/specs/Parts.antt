@@ -1,6 +1,7 @@
 -- Parts of an effect: flags, DPTR and the program counter.
 use Rattle.std.specs.Prelude.{ℕ, ◌+◌, ◌*◌, ◌/◌, ◌%◌, Bool, false, nat_lt, if◌then◌else◌}
 use Rattle.m51_alu.specs.declared.sum.Sum.{Sum}
+use Rattle.m51_isa.specs.Targets.{relative}
 use Rattle.m51_flat.specs.declared.state.Cpu.{Cpu}
 use Rattle.m51_flat.specs.declared.state.Transfer.{Transfer}
 use Rattle.m51_flat.specs.declared.state.Transfer.TheVariants.{Jump}
@@ -42,14 +43,6 @@ with_dptr n e = with_sfr dpl (n % 256) (with_sfr dph (n / 256) e)
 abbrev pub jumped : ℕ → Transfer → Effect → Effect
 jumped target transfer e = record e { cpu = record e.cpu { pc = target }; transfer = transfer }
 
--- an address and a signed byte
-abbrev pub relative : ℕ → ℕ → ℕ
-relative pc rel = if nat_lt rel 128 then (pc + rel) % 65536 else (pc + 65280 + rel) % 65536
-
 -- a branch by a signed byte, where it is taken
 unfoldable pub branched : Bool → ℕ → Effect → Effect
 branched taken rel e = if taken then jumped (relative e.cpu.pc rel) Jump e else e
-
--- an address of 11 bits in the block of 2,048 bytes of the next instruction
-abbrev pub near : Cpu → ℕ → ℕ
-near cpu address = cpu.pc / 2048 * 2048 + address

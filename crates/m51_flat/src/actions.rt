@@ -8,7 +8,7 @@ pub(crate) enum Place {
     Accumulator,
     /// A direct address: internal RAM below 80H, else a special function register.
     Direct(u8),
-    /// The byte of internal RAM whose address stands in a register.
+    /// The byte of internal RAM whose address is in a register.
     Indirect(Pointer),
     /// A register of the selected bank.
     Bank(Register),

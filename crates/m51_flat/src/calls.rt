@@ -11,7 +11,7 @@ use crate::state::{Effect, Missing, Put, Transfer};
 use crate::store::CellStore;
 use crate::writing::jump;
 
-/// Stores the address of the next instruction: SP is raised by two, and PC stands above the stack, low byte first.
+/// Stores the address of the next instruction: SP is raised by two, and PC is pushed, low byte first.
 /// What the effect puts is then these two bytes. Control stays where it is.
 ///
 /// Source: family manual.

@@ -71,7 +71,7 @@ pub(crate) fn locate<M: CellStore>(store: &M, cpu: &Cpu, place: Place) -> Result
     }
 }
 
-/// What stands there, for an operand that is changed: of a port its latch.
+/// What is there, for an operand that is changed: of a port its latch.
 #[tactic(auto, unfolding(crate::specs::Operands::latch_at))]
 pub(crate) fn read_latch_at<M: CellStore>(
     store: &M,

@@ -6,7 +6,7 @@ use crate::sfr::{index, is_named, port_at, replace_bit};
 use crate::state::{Cpu, Pins};
 
 impl Cpu {
-    /// What stands in the register at an address: of a port its latch, of SBUF the received byte; 0 where there is no
+    /// What the register at an address holds: of a port its latch, of SBUF the received byte; 0 where there is no
     /// register.
     ///
     /// Source: family manual; own choice ("Registers that are not there").
@@ -46,8 +46,8 @@ impl Cpu {
         }
     }
 
-    /// Stores a byte in the register at an address, as a device does: nothing is sent, no port is told, no interrupt is
-    /// held off, and PSW keeps its bit 0. An address without a register ignores it.
+    /// Stores a byte in the register at an address, as a device does: no port is reported, nothing sent, no interrupt
+    /// is held off, and PSW keeps its bit 0. An address without a register ignores it.
     ///
     /// Source: family manual; own choice ("Devices and registers").
     #[tactic(auto, unfolding(crate::specs::Sfr::with_latch))]

@@ -22,7 +22,7 @@ pub(crate) fn index(address: u8) -> usize
     usize::from(address - 0x80)
 }
 
-/// A register stands at this address.
+/// There is a register at this address.
 #[tactic(auto, unfolding(crate::specs::Sfr::has_register))]
 pub(crate) fn is_named(address: u8) -> bool
     ensures value { result ≡ has_register address }
@@ -46,7 +46,7 @@ pub(crate) fn is_named(address: u8) -> bool
     )
 }
 
-/// The number of the port whose latch stands there.
+/// The number of the port whose latch is there.
 #[tactic(auto, unfolding(crate::specs::Sfr::port_of))]
 pub(crate) fn port_at(address: u8) -> Option<u8>
     ensures value { result ≡ port_of address }

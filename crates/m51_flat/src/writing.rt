@@ -1,7 +1,8 @@
 //! Parts of an effect: flags, DPTR and the program counter.
 ghost use Rattle.std.specs.Prelude.{◌≡◌};
-ghost use Rattle.m51_flat.specs.Parts.{auxiliary_carry, branched, with_flags, with_carry, with_sum, jumped, relative};
-ghost use Rattle.m51_flat.specs.Parts.{carry, dptr_of, with_dptr, with_pair, near};
+ghost use Rattle.m51_flat.specs.Parts.{auxiliary_carry, branched, with_flags, with_carry, with_sum, jumped};
+ghost use Rattle.m51_isa.specs.Targets.{near, relative};
+ghost use Rattle.m51_flat.specs.Parts.{carry, dptr_of, with_dptr, with_pair};
 
 use crate::sfr::{AC, ACC, B, CY, DPH, DPL, OV, PSW, replace_bit, write_sfr};
 use crate::state::{Cpu, Effect, Transfer};
@@ -118,7 +119,7 @@ pub(crate) fn write_pair(effect: Effect, pair: (u8, u8, bool)) -> Effect
 
 /// An address in the block of the next instruction.
 pub(crate) fn near_address(cpu: &Cpu, address: Address11) -> u16
-    ensures { result ≡ near cpu.now address }
+    ensures { result ≡ near cpu.now.pc address }
 {
     cpu.pc / 2048 * 2048 + address.number()
 }

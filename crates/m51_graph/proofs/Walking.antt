@@ -68,7 +68,7 @@ shorter : (edges : Edges) (unit count : ℕ) → EndsWalk edges unit (suc count)
 shorter edges unit count h = without_first edges unit count h.first h.more h.walk h.ends h.count_is
 
 -- of fewer edges
-fewer : (edges : Edges) (unit count less : ℕ) → EndsWalk edges unit (less + count) → EndsWalk edges unit count
+pub fewer : (edges : Edges) (unit count less : ℕ) → EndsWalk edges unit (less + count) → EndsWalk edges unit count
 fewer edges unit count zero h = subst (λ n. EndsWalk edges unit n) (omega arith) h
 fewer edges unit count (suc less) h = fewer edges unit count less (shorter edges unit (less + count) (subst (λ n. EndsWalk edges unit n) (omega arith) h))
 

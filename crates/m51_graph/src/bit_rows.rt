@@ -182,7 +182,7 @@ impl BitRows {
         self.rows[usize::from(from)].words()
     }
 
-    // Puts all pairs into the set that walks along its pairs join. After want of memory there may be some of them.
+    // Puts all pairs into the set that walks along its pairs join. If memory runs out there may be some of them.
     pub(crate) fn close(&mut self, alloc: Global) -> Result<(), NoMemory>
         ensures count { self.new.count ≡ self.old.count }
         ensures pairs { OnOk result (pairs self.new ≡ closed_below self.old.count (pairs self.old)) }

@@ -85,7 +85,7 @@ pub(crate) fn graph_over(
 /// OVERLAYABLE that is neither a local nor the argument segment of a unit; L7, the first control line that does not
 /// fit; L8, no absolute segment of program memory begins at 0000H; L10, all units that reach themselves; L11, the first
 /// unit with an overlaid local or argument segment that lies under two roots, and the titles of the two at the lowest
-/// addresses. Want of memory may come in place of any answer.
+/// addresses. Out of memory may come in place of any answer.
 ///
 /// Source: RL51 guide.
 pub fn graph(alloc: Global, joined: &Joined, controls: &Controls) -> Result<Graph, Refusal>

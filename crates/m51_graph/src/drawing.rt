@@ -226,7 +226,7 @@ fn uncut(
     Ok(outside(alloc, edges, &cut)?)
 }
 
-// The edges that fixups make or lines add, without those that a line cuts, wherever it stands.
+// The edges that fixups make or lines add, without those that a line cuts, wherever that line is.
 pub(crate) fn edges_of(
     alloc: Global,
     titles: &UnitNames,

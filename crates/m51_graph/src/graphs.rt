@@ -61,7 +61,7 @@ impl Graph {
         &self.parts
     }
 
-    /// Whether an edge leads from the first unit to the second.
+    /// Whether an edge leads from the first unit to the second. Both are units of the graph.
     ///
     /// Source: RL51 guide.
     pub fn edge(&self, from: u16, to: u16) -> bool
@@ -72,9 +72,9 @@ impl Graph {
         self.tables.edges.has(from, to)
     }
 
-    /// The row of a unit: bits, 64 to a word, of which bit v modulo 64 of word v / 64 is set exactly where the unit
-    /// reaches unit v by a walk of at least one edge. There are as many words as hold a bit for each unit, and no bit
-    /// is set past the last unit.
+    /// The row of a unit of the graph: bits, 64 to a word, of which bit v modulo 64 of word v / 64 is set exactly where
+    /// the unit reaches unit v by a walk of at least one edge. There are as many words as hold a bit for each unit, and
+    /// no bit is set past the last unit.
     ///
     /// Source: own choice ("Closed rows").
     pub fn row(&self, from: u16) -> &[u64]
@@ -86,7 +86,7 @@ impl Graph {
         self.tables.reach.row(from)
     }
 
-    /// Whether the first unit reaches the second by a walk of at least one edge.
+    /// Whether the first unit reaches the second by a walk of at least one edge. Both are units of the graph.
     ///
     /// Source: RL51 guide.
     pub fn reaches(&self, from: u16, to: u16) -> bool
@@ -97,8 +97,8 @@ impl Graph {
         self.tables.reach.has(from, to)
     }
 
-    /// Under which roots the unit lies: bit 0 is set where it is the root at 0000H or that root reaches it, and bits 1
-    /// to 6 are for the interrupts at 0003H, 000BH, 0013H, 001BH, 0023H and 002BH.
+    /// Under which roots a unit of the graph lies: bit 0 is set where it is the root at 0000H or that root reaches it,
+    /// and bits 1 to 6 are for the interrupts at 0003H, 000BH, 0013H, 001BH, 0023H and 002BH.
     ///
     /// Source: own choice ("Roots").
     pub fn roots_of(&self, unit: u16) -> u8
@@ -108,7 +108,7 @@ impl Graph {
         self.tables.under(unit)
     }
 
-    /// The level of the unit: the number of edges of the longest walk that ends in it.
+    /// The level of a unit of the graph: the number of edges of the longest walk that ends in it, 0 to 999.
     ///
     /// Source: RL51 guide.
     pub fn level(&self, unit: u16) -> u16
@@ -119,7 +119,7 @@ impl Graph {
         self.tables.level(unit)
     }
 
-    /// Whether the joined segment is overlaid.
+    /// Whether the joined segment of that number, which is there, is overlaid.
     ///
     /// Source: RL51 guide.
     pub fn overlaid(&self, segment: u16) -> bool
@@ -129,7 +129,7 @@ impl Graph {
         self.owner(segment).is_some()
     }
 
-    /// The own unit of an overlaid joined segment, the one whose local or argument segment it is; none where the
+    /// The own unit of a joined segment, which is there: the one whose local or argument segment it is; none where the
     /// segment is not overlaid. An argument segment is owned by the units with an edge to that unit too.
     ///
     /// Source: own choice ("Owners").
@@ -159,9 +159,9 @@ impl Graph {
         self.tables.owners.are_related(one, two)
     }
 
-    /// Whether the two joined segments, which are different, must not share a cell: one of them is not overlaid, or an
-    /// owner of the one and an owner of the other are one unit, or one of these reaches the other, or one lies under no
-    /// root, or they lie under different roots.
+    /// Whether the two joined segments, which are there and different, must not share a cell: one of them is not
+    /// overlaid, or an owner of the one and an owner of the other are one unit, or one of these reaches the other, or
+    /// one lies under no root, or they lie under different roots.
     ///
     /// Source: RL51 guide.
     pub fn conflict(&self, one: u16, two: u16) -> bool

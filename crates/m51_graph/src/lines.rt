@@ -15,7 +15,7 @@ use m51_control::{Class, Control};
 use m51_resolve::JoinedSegment;
 use std::alloc::Global;
 
-// Whether each of the names may stand in an order of the class.
+// Whether each of the names may be in an order of the class.
 fn are_ordered(orders: &OrderNames, class: Class, names: &[Name]) -> bool
     ensures { result ≡ list_all (order_has orders.now.keys class) names.now }
 {
@@ -68,7 +68,7 @@ fn fits(titles: &UnitNames, orders: &OrderNames, made: &EdgeList, control: &Cont
     }
 }
 
-// The number of the first line that does not fit, by the names that may stand in orders.
+// The number of the first line that does not fit, by the names that may be in orders.
 fn bad_line_by(
     titles: &UnitNames,
     orders: &OrderNames,
@@ -83,7 +83,7 @@ fn bad_line_by(
         .map(|line| line.0)
 }
 
-// The number of the first line that does not fit. The own unit of each segment that is overlaid stands in the list.
+// The number of the first line that does not fit. The own unit of each segment that is overlaid is in the list.
 pub(crate) fn bad_line(
     alloc: Global,
     titles: &UnitNames,

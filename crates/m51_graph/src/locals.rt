@@ -44,7 +44,7 @@ fn front_of(segment: &JoinedSegment) -> Option<[u8; 4]>
     local_front(segment.kind)
 }
 
-// What stands in the name after this front, if it begins with that.
+// What follows this beginning of the name, if it has it.
 fn after_front(name: &[u8], front: [u8; 4]) -> Option<&[u8]>
     ensures { option_map (λ rest. unit_front ++ rest.now) result ≡ unit_name name.now front }
 {

@@ -1,4 +1,4 @@
-//! Which names may stand in an order of which class.
+//! Which names are allowed in an order of which class.
 ghost use Rattle.std.specs.Prelude.{◌≡◌, ◌||◌, ℕ, List, false, IfOk, OnOk, length};
 ghost use Rattle.std.specs.Option.{option_map_or};
 ghost use Rattle.m51_control.specs.declared.control.Class.{Class};
@@ -10,7 +10,7 @@ use m51_control::{Class, class_of};
 use m51_resolve::JoinedSegment;
 use std::alloc::Global;
 
-// The names that may stand in orders, each with the number of its class.
+// The names that may be in orders, each with the number of its class.
 pub(crate) type OrderNames = IndexSet<(u8, Name)>;
 
 // A number for each class.
@@ -52,8 +52,8 @@ fn add_key(names: &mut OrderNames, found: Option<(u8, Name)>) -> Result<(), NoMe
     Ok(())
 }
 
-// The names that may stand in orders: those of relocatable segments that are not overlaid. The own unit of each segment
-// that is overlaid stands in the other list.
+// The names that may be in orders: those of relocatable segments that are not overlaid. The own unit of each segment
+// that is overlaid is in the other list.
 pub(crate) fn order_names(
     alloc: Global,
     own: &[Option<u16>],
@@ -69,7 +69,7 @@ pub(crate) fn order_names(
     Ok(names)
 }
 
-// Whether a segment that has that name may stand in an order of the class.
+// Whether a segment that has that name may be in an order of the class.
 pub(crate) fn may_order(names: &OrderNames, class: Class, name: &Name) -> bool
     ensures { result ≡ order_has names.now.keys class name.now }
 {

@@ -23,7 +23,7 @@ pub enum HexError {
     /// There is no record of type 01.
     #[error("there is no record of type 01")]
     H5,
-    /// Want of memory.
+    /// Out of memory.
     #[error("out of memory")]
     Memory,
 }

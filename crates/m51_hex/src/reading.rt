@@ -71,7 +71,7 @@ fn read_line(
 /// Condition: the file has fewer than 4,294,967,296 bytes.
 ///
 /// Errors: the first line that fails a test, by the first test that it fails, H1 to H4; H5 where no line is a record of
-/// type 01; or want of memory.
+/// type 01; or out of memory.
 ///
 /// Source: Intel HEX.
 pub fn read_hex(alloc: Global, bytes: &[u8]) -> Result<Image, HexError>

@@ -47,7 +47,7 @@ fn push_run(text: &mut Vec<u8>, image: &[u8], run: &Run) -> Result<(), NoMemory>
 ///
 /// Condition: each run ends at 10000H or below.
 ///
-/// Error: want of memory.
+/// Error: out of memory.
 ///
 /// Source: Intel HEX.
 #[tactic(auto, unfolding(crate::specs::Writing::hex_of))]

@@ -13,11 +13,11 @@ use Rattle.m51_irq.proofs.ChoiceLaws.{is_taken}
 use Rattle.m51_irq.proofs.Kept.{shape_before}
 
 -- the levels in progress allow a level, as values
-abbrev allowed_over : Bool → Bool → Level → Bool
+abbrev pub allowed_over : Bool → Bool → Level → Bool
 allowed_over low high Low = not low && not high
 allowed_over low high High = not high
 
-same_allowed : (cpu : Cpu) (l : Level) → is_allowed cpu l ≡ allowed_over cpu.low cpu.high l
+pub same_allowed : (cpu : Cpu) (l : Level) → is_allowed cpu l ≡ allowed_over cpu.low cpu.high l
 same_allowed cpu Low = refl
 same_allowed cpu High = refl
 

@@ -50,7 +50,7 @@ fn with_word(first: u8, word: u16) -> Code
     three(first, (word / 256) as u8, (word % 256) as u8)
 }
 
-/// An address of 11 bits, whose top three bits stand in the opcode.
+/// An address of 11 bits, whose top three bits are in the opcode.
 fn with_address11(first: u8, address: Address11) -> Code
     requires { first ≤ 31 }
     ensures { result ≡ code_of ((first + 32 * (address / 256)) ∷ (address % 256) ∷ []) }

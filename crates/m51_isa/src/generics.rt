@@ -1,4 +1,4 @@
-//! Generic jumps, and the rows that they stand for.
+//! Generic jumps, and their rows.
 ghost use Rattle.std.specs.Prelude.{◌≡◌};
 ghost use Rattle.m51_isa.specs.Generic.{verb_of, generic, jump_row};
 
@@ -19,7 +19,7 @@ pub enum Jump {
     Long,
 }
 
-/// A mnemonic that stands for the form that serves.
+/// A mnemonic for whichever form serves.
 ///
 /// Source: ASM51 guide.
 #[derive(Clone, Copy, Debug, PartialEq, Eq)]
@@ -31,7 +31,7 @@ pub enum Verb {
 }
 
 /// The generic jump or call of a mnemonic, in upper case, with operands that look so, if it is one: `JMP` or `CALL`
-/// with a code address alone.
+/// with only a code address.
 ///
 /// Source: ASM51 guide.
 pub fn generic(mnemonic: &[u8], a: &Look, b: &Look, c: &Look) -> Option<Verb>
@@ -56,8 +56,8 @@ fn verb_of(word: &[u8]) -> Option<Verb>
     }
 }
 
-/// The row that a generic jump or call of this form stands for, with 0 in its field. There is no short call: that of
-/// a block stands for it.
+/// The row that a generic jump or call of this form means, with 0 in its field. There is no short call: that of
+/// a block is taken for it.
 ///
 /// Source: ASM51 guide.
 pub fn jump_row(verb: Verb, form: Jump) -> Instr

@@ -3,7 +3,7 @@ use crate::operand::{Address11, Pointer, Register};
 
 /// An instruction: one variant for each operand form, with its operands in the order of its bytes.
 ///
-/// A register number stands in the opcode, so it comes first.
+/// A register number is in the opcode, so it comes first.
 ///
 /// Source: family manual.
 #[derive(Clone, Copy)]

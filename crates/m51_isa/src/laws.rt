@@ -48,8 +48,8 @@ pub fn fronts_agree()
 
 /// Each of the 111 rows is found by its own text, and with the numbers of the text, which its fields have room for,
 /// it is the row; so two rows that are written alike are one. What is found is written so, and what a generic jump
-/// stands for is written with the mnemonic of its form; no row is written as a generic jump. Numbers that are put
-/// into the fields of a row change the numbers of its text alone, and not its length.
+/// means is written with the mnemonic of its form; no row is written as a generic jump. Numbers that are put
+/// into the fields of a row change only the numbers of its text, and not its length.
 ///
 /// Source: family manual.
 pub fn texts_are_rows()

@@ -24,7 +24,7 @@ pub fn search(mnemonic: &[u8], a: &Look, b: &Look, c: &Look) -> Option<Instr>
 }
 
 /// Whether a mnemonic, in upper case, may have operands that look so: there is such a row, or it is `JMP` or `CALL`
-/// with a code address alone.
+/// with only a code address.
 ///
 /// Source: ASM51 guide.
 #[tactic(auto, unfolding(crate::specs::Search::has_row))]
@@ -34,7 +34,7 @@ pub fn has_row(mnemonic: &[u8], a: &Look, b: &Look, c: &Look) -> bool
     search(mnemonic, a, b, c).is_some() || generic(mnemonic, a, b, c).is_some()
 }
 
-/// The row of a line, if it has one: for `JMP` and `CALL` with a code address alone that of the form, else as
+/// The row of a line, if it has one: for `JMP` and `CALL` with only a code address that of the form, else as
 /// [`search`] finds it.
 ///
 /// Source: ASM51 guide.

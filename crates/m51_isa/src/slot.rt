@@ -20,7 +20,7 @@ pub enum Field {
     Bit,
     /// `addr16`: a code address of 16 bits.
     Addr16,
-    /// `addr11`: a code address within a block of 2,048 bytes, whose top three bits stand in the opcode.
+    /// `addr11`: a code address within a block of 2,048 bytes, whose top three bits are in the opcode.
     Addr11,
     /// `rel`: a code address by its distance from the next instruction, a signed byte.
     Rel,

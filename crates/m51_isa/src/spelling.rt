@@ -134,7 +134,7 @@ fn none(mnemonic: &'static [u8]) -> Spelling
 }
 
 /// The text of a row, with the numbers that it has as an instruction: of the two direct addresses of `MOV
-/// direct,direct` the target stands first.
+/// direct,direct` the target comes first.
 ///
 /// Source: family manual.
 pub fn spelling_of(row: &Instr) -> Spelling

@@ -35,7 +35,7 @@ fn cut(alloc: Global, line: &[u8]) -> Result<Vec<Token>, LexError>
     Ok(out)
 }
 
-/// The tokens of a line, which stands without its line end.
+/// The tokens of a line, given without its line end.
 ///
 /// Errors: E5 for a line over 255 bytes, or else the leftmost fault of E1 to E4; or out of memory.
 ///

@@ -1,4 +1,4 @@
-//! What stands at the front of the rest of a line.
+//! What the rest of a line begins with.
 ghost use Rattle.std.specs.Prelude.{◌≡◌, ◌≤◌, ◌<◌, length, slice_index, IfSome, IsTrue};
 ghost use Rattle.std.specs.Char.{is_ascii_alphanumeric};
 ghost use Rattle.std.specs.List.{prefix_len};
@@ -9,7 +9,7 @@ use crate::fault::{BAD_CHARACTER, BAD_NUMBER, LONG_NAME, UNCLOSED_TEXT};
 use crate::number::number_of;
 use crate::token::What;
 
-/// What stands at the front of the rest of a line: a blank, a comment up to the line's end, a token with its length
+/// What the rest of a line begins with: a blank, a comment up to the line's end, a token with its length
 /// in bytes, or a fault by its number.
 pub(crate) enum Lexeme {
     Blank,
@@ -101,7 +101,7 @@ fn text_lexeme(rest: &[u8]) -> Lexeme
     }
 }
 
-/// What stands at the front of the rest of a line, which is not empty.
+/// What the rest of a line, which is not empty, begins with.
 #[tactic(auto, unfolding(crate::specs::Lexeme::lexeme_of))]
 pub(crate) fn lexeme_of(rest: &[u8]) -> Lexeme
     requires { 0 < length rest.now }

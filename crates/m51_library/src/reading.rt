@@ -39,7 +39,7 @@ fn library_of(alloc: Global, bytes: &[u8]) -> Result<Library, LibError>
 /// Errors: `Object` with the first refusal of the bytes, `O1` to `O5`, where places count from the first byte and
 /// record numbers from the first record, which is 0: the first record must say how many modules follow, at most 255,
 /// and nothing may follow them. Then, for each module in order, `B1` where one before it has its name, else `B3` with
-/// its first public that one before it has. `Memory` is the one other error; `Object` never holds it.
+/// its first public that one before it has. `Memory` is the only other error; `Object` never holds it.
 ///
 /// Source: own choice ("Library files").
 pub fn read_library(alloc: Global, bytes: &[u8]) -> Result<Library, LibError>

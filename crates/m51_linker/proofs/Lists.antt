@@ -1,29 +1,10 @@
--- Lists, their fronts and what is left behind them.
-use Rattle.std.proofs.Common.{◌≡◌, ◌⊎◌, inl, inr, ℕ, zero, suc, ◌+◌, ◌<◌, ◌≤◌, Some, List, [], ◌∷◌, ◌++◌, length, take, drop, get_or, refl, sym, ap, subst, ◌∙◌, arith, add-one, length-append}
-use Rattle.std.specs.List.{All, AllPairs, slice_get}
-use Rattle.std.proofs.Math.Seq.{drop-cons, get_or-append_seam}
-use Rattle.std.proofs.lemmas.List.{take_all, get_or_append_left}
-use Rattle.std.proofs.lemmas.List.Elements.{All-get_or}
-use Rattle.std.proofs.lemmas.Option.{slice_get_within, get_or_from_slice_get}
+-- Lists with one more at their end.
+use Rattle.std.proofs.Common.{◌<◌, List, [], ◌∷◌, ◌++◌, length, get_or, subst, arith, length-append}
+use Rattle.std.specs.List.{All, AllPairs}
+use Rattle.std.proofs.Math.Seq.{get_or-append_seam}
+use Rattle.std.proofs.lemmas.List.{get_or_append_left}
 
--- a list of no length is empty
-pub empty_list : {X : Type 0} (xs : List X) → length xs ≡ 0 → xs ≡ []
-empty_list [] h = refl
-empty_list (x ∷ xs) h = absurd (omega (arith, h))
-
--- what holds of each of a front that is the whole holds of each
-pub all_taken : {X : Type 0} (P : X → Type 0) (xs : List X) (count : ℕ) → length xs ≤ count → All P (take count xs) → All P xs
-all_taken P xs count whole h = subst (λ l. All P l) (take_all count xs whole) h
-
--- what holds of each holds of the one at a place
-pub all_at : {X : Type 0} (P : X → Type 0) (xs : List X) (place : ℕ) (x : X) → All P xs → slice_get xs place ≡ Some x → P x
-all_at P xs place x h is = subst (λ y. P y) (get_or_from_slice_get xs place x x is) (All-get_or P xs place x (slice_get_within xs place x is) h)
-
--- the next of the rest, and what is behind it
-pub drop_next : {X : Type 0} (xs : List X) (count : ℕ) (d : X) → count < length xs → drop count xs ≡ get_or xs count d ∷ drop (count + 1) xs
-drop_next xs count d below = rw add-one (drop-cons xs count d below)
-
--- what holds of each and each later one of a list holds so in its front, and between the front and the last
+-- what holds of each and each later one of a list holds so before the last, and between each of these and the last
 pub pairs_front : {X : Type 0} (R : X → X → Type 0) (front : List X) (last : X) → AllPairs R (front ++ last ∷ []) → AllPairs R front
 pairs_front R front last h = λ i j d less below.
     let longer : j < length (front ++ last ∷ []) = omega (arith, below, length-append front (last ∷ [])) in

@@ -1,41 +1,70 @@
--- The bytes of program memory that a placed module gives.
-use Rattle.std.specs.Prelude.{◌≡◌, ℕ, ◌+◌, ◌%◌, ◌<◌, List, length, slice_index}
-use Rattle.std.specs.List.{Contains}
+-- The bytes of program memory: content where it is placed, with the fields of fixups in it, and FFH elsewhere.
+use Rattle.std.specs.Prelude.{◌≡◌, ℕ, ◌<◌, true, List, [], flat_map, length, map, slice_get, slice_index, is_some}
+use Rattle.std.specs.Prelude.{unwrap_or, Option, option_map}
+use Rattle.std.specs.List.{filter_map, range_with_len}
+use Rattle.std.specs.Option.{option_map_or, option_or}
 use Rattle.m51_module.specs.declared.content.Fixup.{Fixup}
 use Rattle.m51_module.specs.declared.content.Piece.{Piece}
+use Rattle.m51_module.specs.declared.image.TheConstants.{IMAGE_LEN}
 use Rattle.m51_module.specs.declared.parts.ModuleParts.{ModuleParts}
-use Rattle.m51_module.specs.declared.placed.Placed.{Placed}
-use Rattle.m51_linker.specs.Targets.{StandsAt, IsTargetOf}
+use Rattle.m51_place.specs.declared.placing.Placing.{Placing}
+use Rattle.m51_linker.specs.declared.fields.Field.{Field}
+use Rattle.m51_linker.specs.Fields.{field_of}
+use Rattle.m51_linker.specs.Stretches.{Stretch, byte_among, stretch_at}
+use Rattle.m51_linker.specs.Targets.{address_of, target_of}
 
--- the content of the module has this byte for the address
-pub record IsContent (m : ModuleParts) (placed : List Placed) (address byte : ℕ) : Type 0 where
-  pub piece : Piece
-  pub is : Contains m.pieces piece
-  pub base : ℕ
-  pub stands : StandsAt m.segments placed piece.segment base
-  pub place : ℕ
-  pub inside : place < length piece.bytes
-  pub address_is : address ≡ base + piece.offset + place
-  pub byte_is : byte ≡ slice_index piece.bytes place
+-- what the modules have, each its own, in module order
+abbrev pub of_modules : {A : Type 0} → (ℕ → List A) → List ModuleParts → List A
+of_modules items modules = flat_map items (range_with_len 0 (length modules))
 
--- the field of a fixup lies at the address, and this is its value: the low byte of the target's address
-pub record IsField (m : ModuleParts) (placed : List Placed) (address value : ℕ) : Type 0 where
-  pub fixup : Fixup
-  pub is : Contains m.fixups fixup
-  pub base : ℕ
-  pub stands : StandsAt m.segments placed fixup.segment base
-  pub address_is : address ≡ base + fixup.offset
-  pub target : ℕ
-  pub target_is : IsTargetOf m.segments placed fixup target
-  pub value_is : value ≡ target % 256
+-- a piece of the module, where it is placed
+abbrev pub placed_piece : List ModuleParts → Placing → ℕ → Piece → Stretch
+placed_piece modules placing m p = record { at = address_of modules placing m p.segment p.offset; bytes = p.bytes }
 
--- The byte at an address is the value of the field there, else the byte of the content, or FFH where no content stands.
-pub data IsByteAt (m : ModuleParts) (placed : List Placed) (address byte : ℕ) : Type 0 where
-  Fixed : IsField m placed address byte → IsByteAt m placed address byte
-  Content : ((value : ℕ) → IsField m placed address value → ⊥) → IsContent m placed address byte → IsByteAt m placed address byte
-  Empty : ((value : ℕ) → IsContent m placed address value → ⊥) → byte ≡ 0xFF → IsByteAt m placed address byte
+-- the content of the module of that number, and of all modules
+abbrev pub module_content : List ModuleParts → Placing → ℕ → List Stretch
+module_content modules placing m =
+    option_map_or (λ (parts : ModuleParts). map (placed_piece modules placing m) parts.pieces) (slice_get modules m) []
 
--- the image has such a byte for each address of program memory
-pub record IsImage (m : ModuleParts) (placed : List Placed) (image : List ℕ) : Type 0 where
-  pub len : length image ≡ 65536
-  pub each : (address : ℕ) → address < 65536 → IsByteAt m placed address (slice_index image address)
+abbrev pub content_of : List ModuleParts → Placing → List Stretch
+content_of modules placing = of_modules (module_content modules placing) modules
+
+-- the byte of content at the address, FFH where there is none
+abbrev pub content_byte : List ModuleParts → Placing → ℕ → ℕ
+content_byte modules placing address = unwrap_or (byte_among (content_of modules placing) address) 0xFF
+
+-- the field of a fixup of the module; none where its rule fails
+abbrev pub fixup_field : List ModuleParts → Placing → ℕ → Fixup → Option Field
+fixup_field modules placing m f =
+    let place : ℕ = address_of modules placing m f.segment f.offset in
+    field_of f.form f.bit (target_of modules placing m f) place (content_byte modules placing place)
+
+-- the same, where it is placed
+abbrev pub placed_field : List ModuleParts → Placing → ℕ → Fixup → Option Stretch
+placed_field modules placing m f =
+    option_map (stretch_at (address_of modules placing m f.segment f.offset)) (fixup_field modules placing m f)
+
+-- the fields of the module of that number, and of all modules
+abbrev pub module_fields : List ModuleParts → Placing → ℕ → List Stretch
+module_fields modules placing m =
+    option_map_or (λ (parts : ModuleParts). filter_map (placed_field modules placing m) parts.fixups)
+    (slice_get modules m) []
+
+abbrev pub fields_of : List ModuleParts → Placing → List Stretch
+fields_of modules placing = of_modules (module_fields modules placing) modules
+
+-- The byte at an address: that of a field which lies there, else that of content, else FFH.
+abbrev pub byte_at : List ModuleParts → Placing → ℕ → ℕ
+byte_at modules placing address =
+    unwrap_or (option_or (byte_among (fields_of modules placing) address)
+    (byte_among (content_of modules placing) address)) 0xFF
+
+-- the image of the placed modules
+pub record IsImage (modules : List ModuleParts) (placing : Placing) (image : List ℕ) : Type 0 where
+  pub len : length image ≡ IMAGE_LEN
+  pub each : (address : ℕ) → address < IMAGE_LEN → slice_index image address ≡ byte_at modules placing address
+
+-- content fills the address
+pub record IsFilled (modules : List ModuleParts) (placing : Placing) (address : ℕ) : Type 0 where
+  pub inside : address < IMAGE_LEN
+  pub filled : is_some (byte_among (content_of modules placing) address) ≡ true

@@ -1,9 +1,10 @@
-pub mod Bases
-pub mod Filling
+pub mod Broken
+pub mod Fields
+pub mod Growing
 pub mod Image
 pub mod Link
-pub mod Placement
+pub mod Memory
 pub mod Ready
 pub mod Runs
-pub mod Shape
+pub mod Stretches
 pub mod Targets

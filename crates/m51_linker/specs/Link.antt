@@ -1,56 +1,74 @@
--- What the first linker answers.
-use Rattle.std.specs.Prelude.{◌≡◌, ℕ, List, [], ◌∷◌, Result, Ok, Err}
-use Rattle.std.specs.List.{All}
+-- What linking answers: the first rule that fails, or the layout, the image, its runs and the roots of the units.
+use Rattle.std.specs.Prelude.{◌≡◌, ℕ, ◌+◌, ◌<◌, ◌≤◌, List, length, slice_index, Result, Ok, Err}
+use Rattle.std.specs.List.{All, AllPairs}
+use Rattle.m51_cells.specs.Outcome.{and_then, RefusesWith}
+use Rattle.m51_control.specs.declared.control.Control.{Control}
 use Rattle.m51_module.specs.declared.linked.Refusal.{Refusal}
-use Rattle.m51_module.specs.declared.linked.Refusal.TheVariants.{L0, L12, L13, Memory}
+use Rattle.m51_module.specs.declared.linked.Run.{Run}
 use Rattle.m51_module.specs.declared.parts.ModuleParts.{ModuleParts}
-use Rattle.m51_module.specs.declared.placed.Placed.{Placed}
+use Rattle.m51_module.specs.Plan.{IsRootAt}
+use Rattle.m51_resolve.specs.Rules.{but_memory, resolved_of}
+use Rattle.m51_graph.specs.declared.parts.GraphParts.{GraphParts}
+use Rattle.m51_graph.specs.Graph.{AreRootBits}
+use Rattle.m51_graph.specs.Graphs.{graph_of, unless}
+use Rattle.m51_place.specs.declared.placing.Placing.{Placing}
+use Rattle.m51_place.specs.Placement.{placing_of}
 use Rattle.m51_linker.specs.declared.linked.Linked.{Linked}
-use Rattle.m51_linker.specs.Image.{IsImage}
-use Rattle.m51_linker.specs.Placement.{fixed_of, relocatable_of, ArePlaced, FindsNoBase}
-use Rattle.m51_linker.specs.Runs.{AreRuns, IsFilled}
-use Rattle.m51_linker.specs.Shape.{IsFirstShape}
-use Rattle.m51_linker.specs.Targets.{MeetsRule, IsFirstBroken}
+use Rattle.m51_linker.specs.Broken.{broken_rule}
+use Rattle.m51_linker.specs.Image.{IsFilled, IsImage}
+use Rattle.m51_linker.specs.Runs.{AreRuns}
 
--- the placed extents of the module: bank 0, its absolute segment, and its DATA segments
-abbrev pub IsPlacedAs : ModuleParts → List Placed → Type 0
-IsPlacedAs m placed = ArePlaced (fixed_of m.segments) (relocatable_of m.segments) placed
+-- a program that no rule refuses: the chosen modules, their graph, and where they are placed
+pub record Program : Type 0 where
+  pub modules : List ModuleParts
+  pub graph : GraphParts
+  pub placing : Placing
 
--- A module of the first shape is linked: each segment has its base, each fixup meets its rule, the one unit is the
--- segment that begins at 0000H, the second of the placed extents, and the reset is its root.
-pub record IsLinked (m : ModuleParts) (l : Linked) : Type 0 where
-  pub shape : IsFirstShape m
-  pub placed : IsPlacedAs m l.layout.placed
-  pub units : l.layout.units ≡ 1 ∷ []
-  pub edges : l.layout.edges ≡ []
-  pub owners : l.layout.owners ≡ []
-  pub rules : All (MeetsRule m.segments l.layout.placed) m.fixups
-  pub image : IsImage m l.layout.placed l.image
-  pub written : AreRuns (IsFilled m l.layout.placed) l.written
-  -- bit 0 is set where the unit is the reset's or the reset's root reaches it
-  pub roots : l.roots ≡ 1 ∷ []
+-- L13, which comes last
+abbrev pub checked_of : List ModuleParts → GraphParts → Placing → Result Program Refusal
+checked_of modules g placing =
+    unless (broken_rule modules placing) (Ok (record { modules = modules; graph = g; placing = placing }))
 
--- a module of the first shape has a DATA segment for which there is no base: the first in order of placing
-pub record IsWithoutRoom (m : ModuleParts) (name : List ℕ) : Type 0 where
-  pub shape : IsFirstShape m
-  pub none : FindsNoBase name (fixed_of m.segments) (relocatable_of m.segments)
+-- L9 and L12 before it
+abbrev pub placed_of : List ModuleParts → List (ℕ × Control) → GraphParts → Result Program Refusal
+placed_of modules controls g = and_then (placing_of modules controls g) (λ (p : Placing). checked_of modules g p)
 
--- a module of the first shape is placed, and the first fixup that breaks its rule is this one
-pub record IsBroken (m : ModuleParts) (title : List ℕ) (offset : ℕ) : Type 0 where
-  pub shape : IsFirstShape m
-  pub placed : List Placed
-  pub placed_as : IsPlacedAs m placed
-  pub first : IsFirstBroken m placed title offset
+-- L6, L7, L8, L10 and L11 before these
+abbrev pub joined_of : List (ℕ × Control) → List ModuleParts → Result Program Refusal
+joined_of controls modules = and_then (graph_of modules controls) (λ (g : GraphParts). placed_of modules controls g)
 
--- when each refusal comes; want of memory says nothing
-abbrev pub IsRefused : ModuleParts → Refusal → Type 0
-IsRefused m L0 = IsFirstShape m → ⊥
-IsRefused m (L12 name) = IsWithoutRoom m name
-IsRefused m (L13 title offset) = IsBroken m title offset
-IsRefused m Memory = Unit {0}
-IsRefused m _ = ⊥
+-- The program of given modules, libraries and control lines, or the first rule that fails: Limit of modules, L1 to L4,
+-- Limit of segments and of units and L5, and then the others.
+abbrev pub program_of : List ModuleParts → List (List ModuleParts) → List (ℕ × Control) → Result Program Refusal
+program_of given libraries controls = and_then (resolved_of given libraries) (joined_of controls)
 
--- what linking the module answers
-abbrev pub Answers : ModuleParts → Result Linked Refusal → Type 0
-Answers m (Ok linked) = IsLinked m linked
-Answers m (Err refusal) = IsRefused m refusal
+-- for each unit a byte of the roots that it lies under: bit 0 for the reset, bits 1 to 6 for the interrupts
+pub record AreRoots (g : GraphParts) (roots : List ℕ) : Type 0 where
+  pub len : length roots ≡ length g.units
+  pub each : (unit : ℕ) → unit < length g.units → AreRootBits g unit (slice_index roots unit)
+
+-- the program is linked
+pub record IsLinked (p : Program) (linked : Linked) : Type 0 where
+  pub layout : linked.layout ≡ p.placing.layout
+  pub image : IsImage p.modules p.placing linked.image
+  pub written : AreRuns (IsFilled p.modules p.placing) linked.written
+  pub roots : AreRoots p.graph linked.roots
+
+-- What linking answers where that is the program, or the rule that fails: this program linked, or that refusal. Want of
+-- memory says nothing.
+abbrev pub Answers : Result Program Refusal → Result Linked Refusal → Type 0
+Answers program (Ok linked) = (p : Program) × (program ≡ Ok p) × IsLinked p linked
+Answers program (Err error) = RefusesWith (but_memory error) program
+
+-- a run has bytes, all in program memory
+pub record IsInside (run : Run) : Type 0 where
+  pub some : 0 < run.len
+  pub inside : run.first + run.len ≤ 65536
+
+-- What a board, the map and Intel HEX ask for: a root at 0000H; a byte of roots for each unit; runs that have bytes,
+-- lie in program memory, and begin each above the end of the one before.
+pub record IsReady (linked : Linked) : Type 0 where
+  pub reset : (unit : ℕ) × IsRootAt linked.layout 0 unit
+  pub roots : length linked.roots ≡ length linked.layout.units
+  pub runs : All IsInside linked.written
+  pub ascending : AllPairs (λ one two. one.first + one.len < two.first) linked.written

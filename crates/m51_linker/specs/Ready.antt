@@ -1,35 +1,37 @@
--- A module of the first shape with its segments placed, and what the steps of a link answer.
-use Rattle.std.specs.Prelude.{ℕ, List, [], ◌∷◌, Result, Ok, Err}
+-- Of the code: what its steps ask of placed modules and of their fixups, and what the step that refuses answers.
+use Rattle.std.specs.Prelude.{◌≡◌, ℕ, ◌+◌, ◌<◌, ◌≤◌, List, IsSome, Option, Some, None, Result, Ok, Err}
 use Rattle.std.specs.List.{All}
+use Rattle.m51_module.specs.declared.content.Fixup.{Fixup}
 use Rattle.m51_module.specs.declared.linked.Refusal.{Refusal}
-use Rattle.m51_module.specs.declared.linked.Refusal.TheVariants.{L12, L13, Memory}
-use Rattle.m51_module.specs.declared.parts.LayoutParts.{LayoutParts}
 use Rattle.m51_module.specs.declared.parts.ModuleParts.{ModuleParts}
-use Rattle.m51_module.specs.declared.placed.Placed.{Placed}
-use Rattle.m51_module.specs.Validity.{IsValid}
-use Rattle.m51_linker.specs.Link.{IsPlacedAs, IsWithoutRoom, IsBroken}
-use Rattle.m51_linker.specs.Shape.{IsFirstShape}
-use Rattle.m51_linker.specs.Targets.{MeetsRule}
+use Rattle.m51_module.specs.Validity.{field_len, IsValid}
+use Rattle.m51_resolve.specs.Joining.{part_of, segment_at, segments_of}
+use Rattle.m51_resolve.specs.Rules.{AreResolved, but_memory}
+use Rattle.m51_graph.specs.Conditions.{IsTargetThere}
+use Rattle.m51_place.specs.declared.placing.Placing.{Placing}
+use Rattle.m51_place.specs.Places.{ArePlaces}
+use Rattle.m51_linker.specs.Targets.{address_of}
 
--- the valid module is of the first shape, and these are its placed extents
-pub record IsReady (m : ModuleParts) (placed : List Placed) : Type 0 where
-  pub valid : IsValid m
-  pub shape : IsFirstShape m
-  pub placed_as : IsPlacedAs m placed
+-- the modules are valid, meet the rules of joining, and are placed
+pub record ArePlaced (modules : List ModuleParts) (placing : Placing) : Type 0 where
+  pub valid : All IsValid modules
+  pub resolved : AreResolved modules
+  pub places : ArePlaces (segments_of modules) placing
 
--- the layout of these extents: the one unit is the second of them
-abbrev pub layout_of : List Placed → LayoutParts
-layout_of placed = record { placed = placed; units = 1 ∷ []; edges = []; owners = [] }
+-- a fixup of the module has its field in program memory, and its target is there
+pub record IsFixupPlaced (modules : List ModuleParts) (placing : Placing) (m : ℕ) (f : Fixup) : Type 0 where
+  pub segment : IsSome (segment_at modules m f.segment)
+  pub target : IsTargetThere modules m f.target
+  pub bit : f.bit ≤ 7
+  pub inside : address_of modules placing m f.segment f.offset + field_len f.form ≤ 65536
+  pub offset : (part_of modules m f.segment).1 + f.offset < 65536
 
--- what placing a module of the first shape answers
-abbrev pub PlacesModule : ModuleParts → Result (List Placed) Refusal → Type 0
-PlacesModule m (Ok placed) = IsReady m placed
-PlacesModule m (Err (L12 name)) = IsWithoutRoom m name
-PlacesModule m (Err Memory) = Unit {0}
-PlacesModule m (Err _) = ⊥
+-- the refusal is that of the rule; want of memory, which is none, says nothing
+abbrev pub MayRefuse : Option Refusal → Option Refusal → Type 0
+MayRefuse rule None = Unit {0}
+MayRefuse rule (Some refusal) = rule ≡ Some refusal
 
--- what looking through its fixups answers
-abbrev pub Checks : {T : Type 0} → ModuleParts → List Placed → Result T Refusal → Type 0
-Checks m placed (Ok _) = All (MeetsRule m.segments placed) m.fixups
-Checks m placed (Err (L13 title offset)) = IsBroken m title offset
-Checks m placed (Err _) = ⊥
+-- a step passes where no rule fails, and answers its refusal else
+abbrev pub Checks : {T : Type 0} → Option Refusal → Result T Refusal → Type 0
+Checks rule (Ok _) = rule ≡ None
+Checks rule (Err error) = MayRefuse rule (but_memory error)

@@ -1,78 +1,63 @@
--- What fixups refer to: the base of a placed segment, the address of a target, and the rule of BYTE.
-use Rattle.std.specs.Prelude.{◌≡◌, ◌≢◌, ℕ, ◌+◌, ◌%◌, ◌<◌, ◌≤◌, List, Some, slice_get, take}
-use Rattle.std.specs.List.{All, Contains}
-use Rattle.m51_cells.specs.declared.kind.Base.TheVariants.{Segment as InSegment}
-use Rattle.m51_cells.specs.declared.kind.Reloc.TheVariants.{Abs}
-use Rattle.m51_cells.specs.Name.{title_at}
+-- What fixups refer to: where a segment of a module begins, what a public is worth, and the address of a target.
+-- Modules are counted from 0, segments and externals of a module from 1.
+use Rattle.std.specs.Prelude.{ℕ, ◌+◌, ◌%◌, List, slice_get, slice_index}
+use Rattle.std.specs.Option.{option_map_or}
+use Rattle.m51_cells.specs.declared.kind.Base.{Base}
+use Rattle.m51_cells.specs.declared.kind.Base.TheVariants.{None as NoBase, Segment as InSegment, External as OfExternal}
 use Rattle.m51_module.specs.declared.content.Fixup.{Fixup}
 use Rattle.m51_module.specs.declared.parts.ModuleParts.{ModuleParts}
-use Rattle.m51_module.specs.declared.placed.Mark.TheVariants.{Plain}
 use Rattle.m51_module.specs.declared.placed.Placed.{Placed}
-use Rattle.m51_module.specs.declared.segment.Segment.{Segment}
-use Rattle.m51_module.specs.Validity.{numbered}
+use Rattle.m51_module.specs.declared.symbol.Public.{Public}
+use Rattle.m51_resolve.specs.Joining.{part_of}
+use Rattle.m51_resolve.specs.Publics.{public_of}
+use Rattle.m51_place.specs.declared.placing.Placing.{Placing}
 
--- the extent is a relocatable segment of that name
-pub record IsNamedSo (s : Segment) (p : Placed) : Type 0 where
-  pub mark : p.mark ≡ Plain
-  pub title : p.title ≡ s.name
+-- the base of the placed extent of that index
+abbrev pub base_at : List Placed → ℕ → ℕ
+base_at placed index = option_map_or (λ (p : Placed). p.base) (slice_get placed index) 0
 
--- the extent is where the segment is placed
-pub record IsPlaceOf (placed : List Placed) (s : Segment) (p : Placed) : Type 0 where
-  pub is : Contains placed p
-  pub named : IsNamedSo s p
+-- the base of the joined segment of that number
+abbrev pub base_of : Placing → ℕ → ℕ
+base_of placing number = base_at placing.layout.placed (slice_index placing.places number)
 
--- The base of a segment: an absolute one has its own, and another that of the placed extent of its name.
-pub data HasBase (placed : List Placed) (s : Segment) (base : ℕ) : Type 0 where
-  Own : s.reloc ≡ Abs → base ≡ s.base → HasBase placed s base
-  Found : (p : Placed) → s.reloc ≢ Abs → IsPlaceOf placed s p → base ≡ p.base → HasBase placed s base
+-- Where a segment of a module begins: the base of its joined segment, and the offset of its part there. The part of an
+-- absolute segment is the whole, so that it begins at its own base.
+abbrev pub start_of : List ModuleParts → Placing → ℕ → ℕ → ℕ
+start_of modules placing m s = base_of placing (part_of modules m s).0 + (part_of modules m s).1
 
--- the segment of that number stands at the base
-pub record StandsAt (segments : List Segment) (placed : List Placed) (number base : ℕ) : Type 0 where
-  pub segment : Segment
-  pub is : numbered segments number ≡ Some segment
-  pub at : HasBase placed segment base
+-- the address of that offset in a segment of a module
+abbrev pub address_of : List ModuleParts → Placing → ℕ → ℕ → ℕ → ℕ
+address_of modules placing m s offset = start_of modules placing m s + offset
 
--- the address that a fixup refers to: the base of its target segment plus the addend, modulo 65,536
-pub record IsTargetOf (segments : List Segment) (placed : List Placed) (f : Fixup) (target : ℕ) : Type 0 where
-  pub number : ℕ
-  pub number_is : f.target ≡ InSegment number
-  pub base : ℕ
-  pub stands : StandsAt segments placed number base
-  pub is : target ≡ (base + f.addend) % 65536
+-- what the number of a public of the module counts from: its segment, or nothing
+abbrev pub origin_of : List ModuleParts → Placing → ℕ → Base → ℕ
+origin_of modules placing m NoBase = 0
+origin_of modules placing m (InSegment s) = start_of modules placing m s
+origin_of modules placing m (OfExternal e) = 0
 
--- there is such an address
-abbrev pub HasTarget : List Segment → List Placed → Fixup → Type 0
-HasTarget segments placed f = (target : ℕ) × IsTargetOf segments placed f target
+-- the value of a public of the module
+abbrev pub value_of : List ModuleParts → Placing → ℕ → Public → ℕ
+value_of modules placing m p = origin_of modules placing m p.base + p.number
 
--- the rule of BYTE: the address is at most 00FFH or at least FF00H
-pub data IsByteAddress (target : ℕ) : Type 0 where
-  Low : target ≤ 0xFF → IsByteAddress target
-  High : 0xFF00 ≤ target → IsByteAddress target
+-- the value of the public of that index among those of the module
+abbrev pub value_among : List ModuleParts → Placing → ℕ → List Public → ℕ → ℕ
+value_among modules placing m publics index = option_map_or (value_of modules placing m) (slice_get publics index) 0
 
--- a fixup meets its rule, or breaks it
-abbrev pub MeetsRule : List Segment → List Placed → Fixup → Type 0
-MeetsRule segments placed f = (target : ℕ) × IsTargetOf segments placed f target × IsByteAddress target
+abbrev pub value_at : List ModuleParts → Placing → ℕ → ℕ → ℕ
+value_at modules placing m index =
+    option_map_or (λ (parts : ModuleParts). value_among modules placing m parts.publics index) (slice_get modules m) 0
 
-abbrev pub BreaksRule : List Segment → List Placed → Fixup → Type 0
-BreaksRule segments placed f = (target : ℕ) × IsTargetOf segments placed f target × (IsByteAddress target → ⊥)
+-- the value of the public that resolves an external of the module
+abbrev pub external_value : List ModuleParts → Placing → ℕ → ℕ → ℕ
+external_value modules placing m e =
+    value_at modules placing (public_of modules m e).0 (public_of modules m e).1
 
--- what a segment is called: its name, or the title of an absolute one
-pub data IsTitle (s : Segment) (title : List ℕ) : Type 0 where
-  OfBase : s.reloc ≡ Abs → title ≡ title_at s.base → IsTitle s title
-  OfName : s.reloc ≢ Abs → title ≡ s.name → IsTitle s title
+-- what the addend of a fixup counts from: the start of the target segment, or the value of the target's public
+abbrev pub target_value : List ModuleParts → Placing → ℕ → Base → ℕ
+target_value modules placing m NoBase = 0
+target_value modules placing m (InSegment s) = start_of modules placing m s
+target_value modules placing m (OfExternal e) = external_value modules placing m e
 
--- the fixup is the first of these that breaks its rule
-pub record IsFirstBreaking (segments : List Segment) (placed : List Placed) (fixups : List Fixup) (fixup : Fixup) : Type 0 where
-  pub place : ℕ
-  pub is : slice_get fixups place ≡ Some fixup
-  pub earlier : All (MeetsRule segments placed) (take place fixups)
-  pub breaks : BreaksRule segments placed fixup
-
--- The first fixup that breaks its rule, by segment and offset, has its field at this offset of the segment of this title.
-pub record IsFirstBroken (m : ModuleParts) (placed : List Placed) (title : List ℕ) (offset : ℕ) : Type 0 where
-  pub fixup : Fixup
-  pub first : IsFirstBreaking m.segments placed m.fixups fixup
-  pub segment : Segment
-  pub segment_is : numbered m.segments fixup.segment ≡ Some segment
-  pub title_is : IsTitle segment title
-  pub offset_is : offset ≡ fixup.offset
+-- The address T to which a fixup of the module refers, modulo 65,536.
+abbrev pub target_of : List ModuleParts → Placing → ℕ → Fixup → ℕ
+target_of modules placing m f = (target_value modules placing m f.target + f.addend) % 65536

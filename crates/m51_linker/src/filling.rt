@@ -1,52 +1,62 @@
-//! The bytes of the image: content, and the fields of fixups.
-ghost use Rattle.std.specs.Prelude.{◌≡◌, ◌+◌, ◌%◌, ◌≤◌, All, length};
-ghost use Rattle.m51_linker.specs.Filling.{AreWritten, Fills, Patches};
-ghost use Rattle.m51_linker.specs.Targets.{HasTarget};
+//! Puts the content of modules where it is placed.
+ghost use Rattle.std.specs.Prelude.{◌≡◌, IfOk, Some, map, slice_get, vec_len};
+ghost use Rattle.std.specs.Option.{option_map_or};
+ghost use Rattle.m51_linker.specs.Image.{content_of, module_content, placed_piece};
+ghost use Rattle.m51_linker.specs.Memory.{AreBytes, AreWritten};
+ghost use Rattle.m51_linker.specs.Ready.{ArePlaced};
 
-use crate::targets::target_of;
-use m51_module::{Fixup, Image, Piece, Placed, Segment};
+use crate::addresses::address_of;
+use crate::memory::{empty_memory, put};
+use m51_cells::NoMemory;
+use m51_module::Module;
+use m51_place::Placing;
+use m51_resolve::Joined;
+use std::alloc::Global;
 
-// Writes the bytes from the address on.
-fn write(image: &mut Image, first: u16, bytes: &[u8])
-    requires whole { length image.old ≡ 65536 }
-    requires inside { first + length bytes.now ≤ 65536 }
-    ensures { AreWritten first bytes.now (length bytes.now) image.old image.new }
+// Puts the pieces of these parts, which are those of the module.
+fn fill_pieces(
+    memory: &mut Vec<Option<u8>>,
+    joined: &Joined,
+    placing: &Placing,
+    module: u8,
+    parts: &Module,
+)
+    requires placed { ArePlaced joined.now placing.now }
+    requires there { slice_get joined.now «module» ≡ Some parts.now }
+    requires whole { vec_len memory.old ≡ 65536 }
+    ensures { AreWritten (map (placed_piece joined.now placing.now «module») parts.now.pieces)
+        memory.old.items memory.new.items }
 {
-    for (place, byte) in bytes.iter().enumerate() {
-        image.set(first + place as u16, *byte);
+    for piece in parts.pieces() {
+        let at = address_of(joined, placing, module, piece.segment, piece.offset);
+        put(memory, at, piece.bytes.as_slice());
     }
 }
 
-/// Writes the content of the segment that begins at 0000H.
-///
-/// Source: RL51 guide.
-pub fn fill(image: &mut Image, pieces: &[Piece])
-    requires whole { length image.old ≡ 65536 }
-    requires inside { All (λ p. p.offset + length p.bytes ≤ 65536) pieces.now }
-    ensures { Fills pieces.now image.old image.new }
+// Puts the content of the module.
+fn fill_module(memory: &mut Vec<Option<u8>>, joined: &Joined, placing: &Placing, module: u8)
+    requires placed { ArePlaced joined.now placing.now }
+    requires whole { vec_len memory.old ≡ 65536 }
+    ensures { AreWritten (module_content joined.now placing.now «module») memory.old.items memory.new.items }
 {
-    for piece in pieces {
-        write(image, piece.offset, piece.bytes.as_slice());
+    match joined.modules().get(usize::from(module)) {
+        Some(parts) => fill_pieces(memory, joined, placing, module, parts),
+        None => {}
     }
 }
 
-// The low byte of an address.
-fn low_byte(address: u16) -> u8
-    ensures { result ≡ address % 256 }
+// The content of the modules, by address.
+pub(crate) fn content_of(
+    alloc: Global,
+    joined: &Joined,
+    placing: &Placing,
+) -> Result<Vec<Option<u8>>, NoMemory>
+    requires { ArePlaced joined.now placing.now }
+    ensures { IfOk result (λ memory. AreBytes (content_of joined.now placing.now) memory.items) }
 {
-    (address % 256) as u8
-}
-
-/// Fills the fields of the fixups in the segment that begins at 0000H.
-///
-/// Source: RL51 guide.
-pub fn patch(image: &mut Image, segments: &[Segment], placed: &[Placed], fixups: &[Fixup])
-    requires whole { length image.old ≡ 65536 }
-    requires targets { All (HasTarget segments.now placed.now) fixups.now }
-    ensures { Patches segments.now placed.now fixups.now image.old image.new }
-{
-    for fixup in fixups {
-        let target = target_of(segments, placed, fixup);
-        image.set(fixup.offset, low_byte(target));
+    let mut memory = empty_memory(alloc)?;
+    for module in 0..joined.modules().len() {
+        fill_module(&mut memory, joined, placing, module as u8);
     }
+    Ok(memory)
 }

@@ -1,14 +1,21 @@
-//! The first linker: it places a module of one code segment and DATA segments, and fills its image.
+//! The linker: from modules, libraries and control lines to a layout and an image, or to the first rule that fails.
 #![tactic(auto)]
 
-mod bases;
+mod addresses;
+mod checking;
+mod fields;
 mod filling;
+mod fixups;
 mod linked;
 mod linking;
-mod placing;
+mod memory;
+mod patching;
 mod running;
-mod shape;
-mod targets;
 
+pub use checking::Spot;
+pub use fields::Field;
 pub use linked::Linked;
-pub use linking::link_plain;
+pub use linking::link;
+
+#[cfg(test)]
+mod tests;

@@ -1,94 +1,73 @@
-//! Linking of modules of the first shape.
-ghost use Rattle.std.specs.Prelude.{◌≡◌, [], ◌∷◌, All, IfOk};
-ghost use Rattle.m51_linker.specs.Image.{IsImage};
-ghost use Rattle.m51_linker.specs.Link.{Answers, IsLinked};
-ghost use Rattle.m51_linker.specs.Ready.{IsReady, layout_of, Checks};
-ghost use Rattle.m51_linker.specs.Runs.{AreRuns, IsFilled};
-ghost use Rattle.m51_linker.specs.Targets.{MeetsRule};
+//! Linking of several modules.
+ghost use Rattle.std.specs.Prelude.{◌≡◌, ℕ, IfOk, Ok, length};
+ghost use Rattle.m51_module.specs.Plan.{IsRootAt};
+ghost use Rattle.m51_graph.specs.Graphs.{graph_of};
+ghost use Rattle.m51_linker.specs.Image.{IsImage, content_of};
+ghost use Rattle.m51_linker.specs.Link.{Answers, AreRoots, IsLinked, IsReady, joined_of, placed_of, program_of};
+ghost use Rattle.m51_linker.specs.Memory.{AreBytes};
+ghost use Rattle.m51_linker.specs.Ready.{ArePlaced};
 
 use crate::Linked;
-use crate::filling::{fill, patch};
-use crate::placing::place;
+use crate::checking::check;
+use crate::filling::content_of;
+use crate::memory::image_of;
+use crate::patching::patch;
 use crate::running::runs_of;
-use crate::shape::is_first_shape;
-use crate::targets::first_breaking;
-use m51_cells::{Bytes, ListOf, Name, NoMemory};
-use m51_module::{Image, Layout, LayoutParts, Module, Placed, PlacedList, Refusal, Runs};
+use m51_cells::{Bytes, NoMemory};
+use m51_control::Controls;
+use m51_graph::{Graph, graph};
+use m51_module::{Image, Library, Module, Refusal};
+use m51_place::{Placing, place_all};
+use m51_resolve::{Joined, resolve};
 use std::alloc::Global;
 
-// The parts of the layout: the one unit is the second of the placed extents, which is the segment at 0000H.
-fn parts_of(alloc: Global, placed: PlacedList) -> Result<LayoutParts, NoMemory>
-    ensures { IfOk result (λ parts. parts ≡ layout_of placed) }
+// For each unit a byte of the roots that it lies under.
+fn roots_of(alloc: Global, graph: &Graph) -> Result<Bytes, NoMemory>
+    ensures { IfOk result (λ roots. AreRoots graph.now roots) }
 {
-    let units = vec![in alloc; 1u16]?;
-    Ok(LayoutParts {
-        placed,
-        units: ListOf::of(units),
-        edges: ListOf::of(Vec::new(alloc)),
-        owners: ListOf::of(Vec::new(alloc)),
-    })
-}
-
-// The image of a placed module.
-fn image_of(alloc: Global, module: &Module, placed: &[Placed]) -> Result<Image, NoMemory>
-    requires { IsReady «module».now placed.now }
-    ensures { IfOk result (λ image. IsImage «module».now placed.now image) }
-{
-    let mut image = Image::blank(alloc)?;
-    fill(&mut image, module.pieces());
-    patch(&mut image, module.segments(), placed, module.fixups());
-    Ok(image)
-}
-
-// The runs of the image.
-fn written(alloc: Global, module: &Module, placed: &[Placed]) -> Result<Runs, NoMemory>
-    requires { IsReady «module».now placed.now }
-    ensures { IfOk result (λ runs. AreRuns (IsFilled «module».now placed.now) runs) }
-{
-    runs_of(alloc, module.pieces())
-}
-
-// Looks for a fixup that breaks its rule: its field lies in the segment at 0000H.
-fn check(module: &Module, placed: &[Placed]) -> Result<(), Refusal>
-    requires { IsReady «module».now placed.now }
-    ensures { Checks «module».now placed.now result }
-{
-    match first_breaking(module.segments(), placed, module.fixups()) {
-        Some(fixup) => Err(Refusal::L13 {
-            name: Name::at(0),
-            offset: fixup.offset,
-        }),
-        None => Ok(()),
+    let mut roots = Vec::new(alloc);
+    for unit in 0..graph.parts().units.len() {
+        roots.push(graph.roots_of(unit as u16))?;
     }
-}
-
-// The sound layout of the placed extents.
-fn layout_of(alloc: Global, module: &Module, placed: PlacedList) -> Result<Layout, NoMemory>
-    requires { IsReady «module».now placed }
-    ensures { IfOk result (λ layout. layout ≡ layout_of placed) }
-{
-    let parts = parts_of(alloc, placed)?;
-    Layout::make(alloc, parts)
-}
-
-// The reset is the root of the one unit.
-fn roots_of(alloc: Global) -> Result<Bytes, NoMemory>
-    ensures { IfOk result (λ roots. roots ≡ 1 ∷ []) }
-{
-    let roots = vec![in alloc; 1u8]?;
     Ok(Bytes::of(roots))
 }
 
-// What a link gives for a placed module whose fixups meet their rules.
-fn linked(alloc: Global, module: &Module, placed: PlacedList) -> Result<Linked, NoMemory>
-    requires ready { IsReady «module».now placed }
-    requires rules { All (MeetsRule «module».now.segments placed) «module».now.fixups }
-    ensures { IfOk result (λ linked. IsLinked «module».now linked) }
+// The image of placed modules over their content.
+fn patched(
+    alloc: Global,
+    joined: &Joined,
+    placing: &Placing,
+    content: &[Option<u8>],
+) -> Result<Image, NoMemory>
+    requires placed { ArePlaced joined.now placing.now }
+    requires content { AreBytes (content_of joined.now placing.now) content.now }
+    ensures { IfOk result (λ image. IsImage joined.now placing.now image) }
 {
-    let image = image_of(alloc, module, placed.as_slice())?;
-    let written = written(alloc, module, placed.as_slice())?;
-    let roots = roots_of(alloc)?;
-    let layout = layout_of(alloc, module, placed)?;
+    let mut memory = content.to_vec(alloc)?;
+    patch(&mut memory, joined, placing, content);
+    image_of(alloc, &memory)
+}
+
+// What a link gives for placed modules whose fixups meet their rules.
+fn linked(
+    alloc: Global,
+    joined: &Joined,
+    graph: &Graph,
+    placing: Placing,
+    content: &[Option<u8>],
+) -> Result<Linked, NoMemory>
+    requires placed { ArePlaced joined.now placing }
+    requires reset { (unit : ℕ) × IsRootAt placing.layout 0 unit }
+    requires units { length placing.layout.units ≡ length graph.now.units }
+    requires content { AreBytes (content_of joined.now placing) content.now }
+    ensures linked { IfOk result (λ linked.
+        IsLinked (record { modules = joined.now; graph = graph.now; placing = placing }) linked) }
+    ensures ready { IfOk result IsReady }
+{
+    let image = patched(alloc, joined, &placing, content)?;
+    let written = runs_of(alloc, content)?;
+    let roots = roots_of(alloc, graph)?;
+    let Placing { layout, places: _ } = placing;
     Ok(Linked {
         layout,
         image,
@@ -97,23 +76,54 @@ fn linked(alloc: Global, module: &Module, placed: PlacedList) -> Result<Linked, 
     })
 }
 
-/// Links a module of the first shape: one absolute segment of program memory, at 0000H, and DATA segments of type UNIT
-/// without locals; BYTE fixups with segments as targets; no external, and no bank but bank 0. Each DATA segment takes
-/// the least base at which it fits and shares no cell with bank 0 or an earlier one, in the module's order; the image
-/// holds the content, with the low bytes of the targets' addresses in the fields, and FFH elsewhere.
+// The program of chosen modules over their graph.
+fn link_graph(
+    alloc: Global,
+    joined: &Joined,
+    graph: &Graph,
+    controls: &Controls,
+) -> Result<Linked, Refusal>
+    requires { graph_of joined.now controls.now ≡ Ok graph.now }
+    ensures answer { Answers (placed_of joined.now controls.now graph.now) result }
+    ensures ready { IfOk result IsReady }
+{
+    // What modules keep is known where they are read.
+    let _modules = joined.modules();
+    let placing = place_all(alloc, joined, graph, controls)?;
+    let content = content_of(alloc, joined, &placing)?;
+    check(alloc, joined, &placing, &content)?;
+    Ok(linked(alloc, joined, graph, placing, &content)?)
+}
+
+// The program of chosen modules.
+fn link_joined(alloc: Global, joined: &Joined, controls: &Controls) -> Result<Linked, Refusal>
+    ensures answer { Answers (joined_of controls.now joined.now) result }
+    ensures ready { IfOk result IsReady }
+{
+    let graph = graph(alloc, joined, controls)?;
+    link_graph(alloc, joined, &graph, controls)
+}
+
+/// Links modules, members of libraries that they want, and control lines: to the layout, the image, the runs of it that
+/// content fills, and the roots of each unit; or to the first rule that fails, in this order.
 ///
-/// L0 where the module is not of the first shape; else L12 with the name of the first segment for which there is no
-/// base; else L13 with the title `@0000` and the offset of the first fixup whose target's address is neither at most
-/// 00FFH nor at least FF00H. Memory where it is wanted.
+/// `Limit` of modules; `L1`, a public that two modules define; `L2`, an external that none defines; `L3`, an external
+/// of another kind than its public; `L4`, a segment whose parts differ; `Limit` of joined segments, and of units; `L5`,
+/// a segment that is too large; `L6`, a segment marked OVERLAYABLE that is of no unit; `L7`, a control line that does
+/// not fit; `L8`, no reset; `L10`, units that reach themselves; `L11`, a unit with locals under two roots; `L9`, two
+/// fixed extents that share a cell; `L12`, a segment without a base; `L13`, the first fixup whose rule fails, by joined
+/// segment and offset. Out of memory may come in place of any answer.
 ///
 /// Source: RL51 guide.
-pub fn link_plain(alloc: Global, module: &Module) -> Result<Linked, Refusal>
-    ensures { Answers «module».now result }
+pub fn link(
+    alloc: Global,
+    modules: Vec<Module>,
+    libraries: &[Library],
+    controls: &Controls,
+) -> Result<Linked, Refusal>
+    ensures answer { Answers (program_of modules.items libraries.now controls.now) result }
+    ensures ready { IfOk result IsReady }
 {
-    if !is_first_shape(module) {
-        return Err(Refusal::L0);
-    }
-    let placed = place(alloc, module)?;
-    check(module, placed.as_slice())?;
-    Ok(linked(alloc, module, placed)?)
+    let joined = resolve(alloc, modules, libraries)?;
+    link_joined(alloc, &joined, controls)
 }

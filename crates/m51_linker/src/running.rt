@@ -1,13 +1,15 @@
 //! The runs of addresses that content fills.
-ghost use Rattle.std.specs.Prelude.{◌≡◌, ◌+◌, ◌≤◌, All, OnOk, IfOk};
-ghost use Rattle.m51_linker.specs.Filling.{AreInOrder, IsCovered, AddsRun};
+ghost use Rattle.std.specs.Prelude.{◌≡◌, ◌+◌, ◌<◌, ◌≤◌, All, IfOk, OnOk, length};
+ghost use Rattle.m51_module.specs.declared.image.TheConstants.{IMAGE_LEN};
+ghost use Rattle.m51_linker.specs.Growing.{AddsByte, AddsIf};
+ghost use Rattle.m51_linker.specs.Memory.{IsHeldBelow};
 ghost use Rattle.m51_linker.specs.Runs.{AreRuns};
 
 use m51_cells::{ListOf, NoMemory};
-use m51_module::{Piece, Run, Runs};
+use m51_module::{Run, Runs};
 use std::alloc::Global;
 
-// The address behind a run.
+// The address after a run.
 fn end_of(run: &Run) -> u32
     requires { run.now.first + run.now.len ≤ 65536 }
     ensures { result ≡ run.now.first + run.now.len }
@@ -15,36 +17,50 @@ fn end_of(run: &Run) -> u32
     u32::from(run.first) + run.len
 }
 
-// Adds so many bytes from the address on, which lies behind the runs: to the last run, where it ends there.
-fn add_run(runs: &mut Vec<Run>, first: u16, len: u32) -> Result<(), NoMemory>
-    requires before { All (λ run. run.first + run.len ≤ first) runs.old.items }
-    requires inside { first + len ≤ 65536 }
-    ensures { OnOk result (AddsRun first len runs.old.items runs.new.items) }
+// Adds the byte at the address, which lies after the runs: to the last run, where it ends there.
+fn add_byte(runs: &mut Vec<Run>, address: u16) -> Result<(), NoMemory>
+    requires { All (λ run. run.first + run.len ≤ address) runs.old.items }
+    ensures { OnOk result (AddsByte address runs.old.items runs.new.items) }
 {
     match runs.pop() {
-        Some(run) if end_of(&run) == u32::from(first) => runs.push(Run {
+        Some(run) if end_of(&run) == u32::from(address) => runs.push(Run {
             first: run.first,
-            len: run.len + len,
+            len: run.len + 1,
         })?,
         Some(run) => {
             runs.push(run)?;
-            runs.push(Run { first, len })?
+            runs.push(Run {
+                first: address,
+                len: 1,
+            })?
         }
-        None => runs.push(Run { first, len })?,
+        None => runs.push(Run {
+            first: address,
+            len: 1,
+        })?,
     }
     Ok(())
 }
 
-/// The runs of the content of the segment that begins at 0000H.
-///
-/// Source: own choice ("Runs").
-pub fn runs_of(alloc: Global, pieces: &[Piece]) -> Result<Runs, NoMemory>
-    requires { AreInOrder pieces.now }
-    ensures { IfOk result (λ runs. AreRuns (IsCovered pieces.now) runs) }
+// Adds the byte at the address, if one is there.
+fn add_if(runs: &mut Vec<Run>, held: bool, address: u16) -> Result<(), NoMemory>
+    requires { All (λ run. run.first + run.len ≤ address) runs.old.items }
+    ensures { OnOk result (AddsIf held address runs.old.items runs.new.items) }
+{
+    if held {
+        add_byte(runs, address)?;
+    }
+    Ok(())
+}
+
+// The runs of the bytes that are there.
+pub(crate) fn runs_of(alloc: Global, content: &[Option<u8>]) -> Result<Runs, NoMemory>
+    requires { length content.now ≡ IMAGE_LEN }
+    ensures { IfOk result (λ runs. AreRuns (IsHeldBelow content.now IMAGE_LEN) runs) }
 {
     let mut runs = Vec::new(alloc);
-    for piece in pieces {
-        add_run(&mut runs, piece.offset, piece.bytes.len() as u32)?;
+    for (address, byte) in content.iter().enumerate() {
+        add_if(&mut runs, byte.is_some(), address as u16)?;
     }
     Ok(ListOf::of(runs))
 }

@@ -8,6 +8,7 @@ pub mod Held
 pub mod KeptLayout
 pub mod KeptRows
 pub mod KeptTables
+pub mod NotedNames
 pub mod Owning
 pub mod Raised
 pub mod Reach

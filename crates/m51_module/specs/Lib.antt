@@ -15,3 +15,4 @@ pub mod Sample
 pub mod Sound
 pub mod Validity
 pub mod Walks
+pub mod WorkNames

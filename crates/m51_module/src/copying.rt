@@ -36,7 +36,7 @@ fn pieces_of(alloc: Global, pieces: &[Piece]) -> Result<Pieces, NoMemory>
 }
 
 impl Module {
-    /// A module that is equal to this one; an error is want of memory.
+    /// A module that is equal to this one; the only error is out of memory.
     ///
     /// Source: own choice ("Libraries").
     pub fn copy(&self, alloc: Global) -> Result<Module, NoMemory>

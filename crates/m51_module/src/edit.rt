@@ -20,7 +20,7 @@ pub enum Edit {
     Raise(Name),
 }
 
-// Want of memory; a refusal is passed over.
+// Out of memory; a refusal is passed over.
 fn unless_memory(answer: Result<(), LibError>) -> Result<(), NoMemory>
     ensures ok { OnOk result (answer ≢ Err LibError.Memory) }
     ensures err { OnErr result (answer ≡ Err LibError.Memory) }
@@ -32,7 +32,7 @@ fn unless_memory(answer: Result<(), LibError>) -> Result<(), NoMemory>
 }
 
 impl Library {
-    /// Makes the edit, or leaves the library as it was where the edit is refused. An error is want of memory, and then
+    /// Makes the edit, or leaves the library as it was if it is refused. The only error is out of memory, and then
     /// the library is as before.
     ///
     /// Source: own choice ("Libraries").
@@ -48,7 +48,7 @@ impl Library {
         }
     }
 
-    /// Makes the edits, one after another. An error is want of memory: some first edits are made then, and no other.
+    /// Makes the edits, one after another. If memory runs out, some first edits are made and no other.
     ///
     /// Source: own choice ("Libraries").
     pub fn edit_all(&mut self, edits: Vec<Edit>) -> Result<(), NoMemory>

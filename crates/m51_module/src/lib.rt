@@ -15,13 +15,17 @@ mod module;
 mod object_error;
 mod parts;
 mod placed;
+mod public_names;
 mod raising;
 mod rows;
 pub mod sample;
 mod segment;
 mod source;
+mod stack_bound;
+mod start;
 mod symbol;
 mod tables;
+mod tally;
 
 pub use content::{Fixup, Fixups, Form, Piece, Pieces};
 pub use edit::Edit;
@@ -37,7 +41,10 @@ pub use parts::{LayoutParts, ModuleParts};
 pub use placed::{Mark, Pairs, Placed, PlacedList, Units};
 pub use segment::{Segment, Segments, is_argument_name};
 pub use source::{Fault, Faults, Row, Rows, SourceFile};
+pub use stack_bound::{Proc, Procs, RootDepth, RootDepths, StackBound, StackError};
+pub use start::{Start, Starts};
 pub use symbol::{External, ExternalList, Public, Publics};
+pub use tally::Tally;
 
 #[cfg(test)]
 mod tests;

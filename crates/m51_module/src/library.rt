@@ -4,7 +4,10 @@ ghost use Rattle.m51_cells.specs.Outcome.{Gives};
 ghost use Rattle.m51_module.specs.Library.{IsLibrary, is_named, refusal_of, clash, unless, others_than, with_replaced};
 ghost use Rattle.m51_module.specs.Library.{added, deleted, replaced, raised_in, extracted, built};
 
-use crate::members::{add_refusal, clash_with_others, index_of, raise_at, take_out};
+use crate::members::{
+    add_refusal, add_refusal_by, clash_with_others, index_of, raise_at, take_out,
+};
+use crate::public_names::PublicNames;
 use crate::{LibError, Module};
 use m51_cells::Name;
 use std::alloc::Global;
@@ -32,24 +35,26 @@ impl Model for Library {
 }
 
 /// The library of these modules. It is refused as if they were added one by one to none: at the first that can't be
-/// added, by `B1`, then `Full`, then `B3`. It takes no memory.
+/// added, by `B1`, then `Full`, then `B3`. Where there is no memory for a table of names, it answers the same, only
+/// later.
 ///
 /// Source: own choice ("Libraries").
-pub fn build(_alloc: Global, modules: Vec<Module>) -> Result<Library, LibError>
-    // It takes no memory: each error is a refusal.
+pub fn build(alloc: Global, modules: Vec<Module>) -> Result<Library, LibError>
+    // It needs no memory: each error is a refusal.
     ensures { Gives (λ l. l) Some result (built modules.items) }
 {
+    let mut names = PublicNames::none(alloc);
     for index in 0..modules.len() {
-        match add_refusal(&modules[..index], &modules[index]) {
+        match add_refusal_by(&names, &modules[..index], &modules[index]) {
             Some(refusal) => return Err(refusal),
-            None => continue,
+            None => names = names.with(&modules[index]),
         }
     }
     Ok(Library { members: modules })
 }
 
 impl Library {
-    /// The library of no modules. It takes no memory.
+    /// The library of no modules. It allocates nothing.
     ///
     /// Source: own choice ("Libraries").
     pub fn empty(alloc: Global) -> Library
@@ -72,14 +77,15 @@ impl Library {
 
     /// Adds the module at the end. It is refused by `B1` where a module of its name is held, else by `Full` where 255
     /// are held, else by `B3` with its first public that a held module has. A module that is refused, or for which
-    /// memory is wanted, is dropped, and the library is as before.
+    /// memory runs out, is dropped, and the library is as before.
     ///
     /// Source: own choice ("Libraries").
     pub fn add(&mut self, incoming: Module) -> Result<(), LibError>
         ensures answer { Gives (λ _. self.new) refusal_of result (added self.old incoming) }
         ensures kept { OnErr result (self.new ≡ self.old) }
     {
-        match add_refusal(&self.members, &incoming) {
+        let alloc = *self.members.allocator();
+        match add_refusal(alloc, &self.members, &incoming) {
             Some(refusal) => Err(refusal),
             None => Ok(self.members.push(incoming)?),
         }
@@ -102,11 +108,11 @@ impl Library {
 
     /// Puts the module in the place of the one of its name. It is refused by `B2` where there is none, else by `B3`
     /// with its first public that one of the others has. A module that is refused is dropped, and the library is as
-    /// before. It takes no memory.
+    /// before. Where there is no memory for a table of names, it answers the same, only later.
     ///
     /// Source: own choice ("Libraries").
     pub fn replace(&mut self, incoming: Module) -> Result<(), LibError>
-        // It takes no memory: each error is a refusal.
+        // It needs no memory: each error is a refusal.
         ensures answer { Gives (λ _. self.new) Some result (replaced self.old incoming) }
         ensures kept { OnErr result (self.new ≡ self.old) }
     {
@@ -145,14 +151,15 @@ impl Library {
         }
     }
 
-    // Puts the module at that index, where the one of its name stands.
+    // Puts the module at that index, where the one of its name is.
     fn replace_at(&mut self, index: usize, incoming: Module) -> Result<(), LibError>
         requires { position (is_named incoming.name) self.old ≡ Some index }
         ensures answer { Gives (λ _. self.new) Some result
             (unless (clash (others_than incoming.name self.old) incoming) (with_replaced incoming self.old)) }
         ensures kept { OnErr result (self.new ≡ self.old) }
     {
-        match clash_with_others(&self.members, index, &incoming) {
+        let alloc = *self.members.allocator();
+        match clash_with_others(alloc, &self.members, index, &incoming) {
             Some(refusal) => Err(refusal),
             None => {
                 self.members[index] = incoming;

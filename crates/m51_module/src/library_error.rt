@@ -21,7 +21,7 @@ pub enum LibError {
     /// The library holds 255 modules.
     #[error("the library holds 255 modules")]
     Full,
-    /// The bytes are no library. It is never want of memory.
+    /// The bytes are no library. It is never out of memory.
     #[error("the bytes are no library")]
     Object(ObjError),
     /// Out of memory.

@@ -50,6 +50,12 @@ pub enum Quantity {
     Segments,
     /// The units of a link: at most 1,000.
     Units,
+    /// The parts of a disassembly: at most 254 units of one byte or more.
+    Parts,
+    /// The lines of a disassembly: at most 65,535.
+    Lines,
+    /// The points of a stack bound: at most 1,000,000.
+    Points,
 }
 
 /// Why a link is refused.
@@ -57,8 +63,6 @@ pub enum Quantity {
 /// Source: RL51 guide.
 #[derive(Drop)]
 pub enum Refusal {
-    /// The module is not of the form that the first linker takes.
-    L0,
     /// Two chosen modules define this public.
     L1 { name: Name },
     /// No chosen module defines this external.

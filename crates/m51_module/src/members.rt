@@ -3,9 +3,12 @@ ghost use Rattle.std.specs.Prelude.{◌≡◌, ◌<◌, ◌++◌, length, positi
 ghost use Rattle.m51_module.specs.declared.parts.ModuleParts.{ModuleParts};
 ghost use Rattle.m51_module.specs.Arguments.{raised};
 ghost use Rattle.m51_module.specs.Library.{is_named, holds, has_public, defines, clash, add_refusal};
+ghost use Rattle.m51_module.specs.WorkNames.{AreNames};
 
+use crate::public_names::PublicNames;
 use crate::{LibError, Module, Public};
 use m51_cells::{MOST_MODULES, Name};
+use std::alloc::Global;
 
 // Whether the module has that name.
 fn is_named(member: &Module, name: &Name) -> bool
@@ -45,29 +48,35 @@ fn defines(members: &[Module], name: &Name) -> bool
 }
 
 // Whether a module of these two parts of a list has a public of that name.
-fn defines_either(before: &[Module], after: &[Module], name: &Name) -> bool
+pub(crate) fn defines_either(before: &[Module], after: &[Module], name: &Name) -> bool
     ensures { result ≡ defines (before.now ++ after.now) name.now }
 {
     defines(before, name) || defines(after, name)
 }
 
-// What refuses the module beside these two parts of a list: B3 with its first public that a module of them has.
-fn clash(before: &[Module], after: &[Module], incoming: &Module) -> Option<LibError>
+// What refuses the module beside these two parts of a list, the names of whose publics are given: B3 with its first
+// public that a module of them has.
+fn clash(
+    names: &PublicNames,
+    before: &[Module],
+    after: &[Module],
+    incoming: &Module,
+) -> Option<LibError>
+    requires { AreNames (before.now ++ after.now) names.now }
     ensures { result ≡ clash (before.now ++ after.now) incoming.now }
 {
     incoming
         .publics()
         .iter()
-        .find(|public| defines_either(before, after, &public.name))
+        .find(|public| names.defined(before, after, &public.name))
         .map(|public| LibError::B3 { name: public.name })
 }
 
-/// What refuses the module beside all of these but the one at that index: B3 with its first public that one
-/// of them has.
-///
-/// Source: own choice ("Libraries").
+// What refuses the module beside all of these but the one at that index: B3 with its first public that one of them
+// has.
 #[tactic(auto, using(crate::proofs::Held::around))]
 pub(crate) fn clash_with_others(
+    alloc: Global,
     members: &[Module],
     index: usize,
     incoming: &Module,
@@ -75,7 +84,10 @@ pub(crate) fn clash_with_others(
     requires { index < length members.now }
     ensures { result ≡ clash (remove members.now index) incoming.now }
 {
-    clash(&members[..index], &members[index + 1..], incoming)
+    let before = &members[..index];
+    let after = &members[index + 1..];
+    let names = PublicNames::of(alloc, before, after);
+    clash(&names, before, after, incoming)
 }
 
 /// Takes out the module at that index, and closes up the list.
@@ -99,10 +111,13 @@ pub(crate) fn raise_at(members: &mut Vec<Module>, index: usize)
     members[index].raise_in_place(alloc);
 }
 
-/// What refuses to add the module to these: B1, then Full, then B3.
-///
-/// Source: own choice ("Libraries").
-pub(crate) fn add_refusal(members: &[Module], incoming: &Module) -> Option<LibError>
+// What refuses to add the module to these, the names of whose publics are given: B1, then Full, then B3.
+pub(crate) fn add_refusal_by(
+    names: &PublicNames,
+    members: &[Module],
+    incoming: &Module,
+) -> Option<LibError>
+    requires { AreNames members.now names.now }
     ensures { result ≡ add_refusal members.now incoming.now }
 {
     let name = incoming.name();
@@ -112,5 +127,13 @@ pub(crate) fn add_refusal(members: &[Module], incoming: &Module) -> Option<LibEr
     if members.len() >= MOST_MODULES {
         return Some(LibError::Full);
     }
-    clash(members, &[], incoming)
+    clash(names, members, &[], incoming)
+}
+
+// What refuses to add the module to these: B1, then Full, then B3.
+pub(crate) fn add_refusal(alloc: Global, members: &[Module], incoming: &Module) -> Option<LibError>
+    ensures { result ≡ add_refusal members.now incoming.now }
+{
+    let names = PublicNames::of(alloc, members, &[]);
+    add_refusal_by(&names, members, incoming)
 }

@@ -30,7 +30,7 @@ impl Model for Module {
 }
 
 impl Module {
-    /// The module of these parts. It takes no memory.
+    /// The module of these parts. It allocates nothing.
     ///
     /// Source: own choice ("Valid modules").
     pub fn make(parts: ModuleParts) -> Module
@@ -120,7 +120,7 @@ impl Module {
     }
 
     /// The module in version 2: each OVERLAYABLE DATA segment whose name begins with `?AG?` has the argument mark, and
-    /// all else is the same. It takes no memory.
+    /// all else is the same. It allocates nothing.
     ///
     /// Source: own choice ("Argument segments").
     pub fn raise(self) -> Module
@@ -132,7 +132,7 @@ impl Module {
         }
     }
 
-    // The same where the module stands.
+    // The same with the module where it is.
     pub(crate) fn raise_in_place(&mut self, alloc: Global)
         ensures { self.new ≡ raised self.old }
     {

@@ -155,7 +155,7 @@ fn module_parts(alloc: Global) -> Result<ModuleParts, NoMemory>
 }
 
 /// A module in version 2, with one instruction of three bytes, whose operands are an external and an argument of its
-/// own. An error is want of memory.
+/// own. The only error is out of memory.
 ///
 /// Source: own choice ("Samples").
 pub fn module(alloc: Global) -> Result<Module, NoMemory>
@@ -165,7 +165,7 @@ pub fn module(alloc: Global) -> Result<Module, NoMemory>
     Ok(Module::make(parts))
 }
 
-/// A module in version 1 without segments, with one public, the number 0. An error is want of memory.
+/// A module in version 1 without segments, with one public, the number 0. The only error is out of memory.
 ///
 /// Source: own choice ("Samples").
 pub fn module_with(alloc: Global, name: Name, public: Name) -> Result<Module, NoMemory>

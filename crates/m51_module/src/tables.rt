@@ -1,4 +1,4 @@
-//! The tables that a layout keeps for a run: which edges there are, and which unit stands at each address.
+//! The tables that a layout keeps for a run: which edges there are, and which unit is at each address.
 ghost use Rattle.std.specs.Prelude.{◌≡◌, ◌<◌, ◌≤◌, ◌+◌, true, false, [], length, replicate, slice_set, slice_index_or};
 ghost use Rattle.std.specs.Prelude.{IfOk};
 ghost use Rattle.m51_cells.specs.declared.kind.Kind.TheVariants.{Code};

@@ -1,5 +1,6 @@
 -- The one memory goes on standing for the separate stores, after a put and after segments turned live or died.
 use Rattle.std.proofs.Common.{◌≡◌, ◌≢◌, ◌⊎◌, inl, inr, ℕ, Bool, true, false, ◌&&◌, Option, Some, None, refl, sym, ap, subst, ◌∙◌}
+use Rattle.std.proofs.lemmas.Bool.{and_right}
 use Rattle.std.specs.Prelude.{slice_get, if◌then◌else◌}
 use Rattle.m51_cells.specs.declared.cell.Cell.{Cell}
 use Rattle.m51_cells.specs.declared.cell.Space.{Space}
@@ -25,7 +26,6 @@ use Rattle.m51_monitor.proofs.Putting.{Tells, Inside, put_tells, put_lives}
 use Rattle.m51_monitor.proofs.Putting as putting
 use Rattle.m51_monitor.proofs.Reading.{flat_holds, flat_xholds}
 use Rattle.m51_monitor.proofs.Resolving.{MayPut, put_resolves}
-use Rattle.m51_monitor.proofs.Truths.{and_false}
 
 -- one cell after a put
 pub cell_after : (put : Put) (s : Space) (n : ℕ) (old new : States) → new ≡ states_after put old → IsCellAt s n → state_at new s n ≡ state_over (written_in put s n) (state_at old s n)
@@ -66,7 +66,7 @@ if_over false w old h = h
 
 pub put_stores : (l : LayoutParts) (live : Live) (put : Put) (s : Stores) → AreStores l live s → AreStores l live (put_into l live put s)
 put_stores l live put s h = record {
-  of_segment = λ t c e. rw (and_false (live t) (has_cell l t c) e) (h.of_segment t c e);
+  of_segment = λ t c e. rw (and_right (live t) (has_cell l t c) e) (h.of_segment t c e);
   of_common = λ c e. rw e (h.of_common c e);
   dead = λ t c e. rw e (h.dead t c e);
   plain = λ t c e f. if_over (live t && has_cell l t c) (written_to put c) (s.segment t c) (h.plain t c e f);

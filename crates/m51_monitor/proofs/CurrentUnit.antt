@@ -1,7 +1,7 @@
 -- The current unit covers PC, before a move and after it.
-use Rattle.std.proofs.Common.{nat_eq, ◌≡◌, ◌≢◌, ℕ, ◌<◌, Bool, true, false, not, Option, Some, None, Ok, List, [], ◌∷◌, refl, sym, subst, ⊎_elim, arith}
+use Rattle.std.proofs.Common.{nat_eq, ◌≡◌, ℕ, ◌<◌, Bool, true, false, not, Option, Some, None, Ok, List, [], ◌∷◌, refl, sym, subst, arith}
+use Rattle.std.proofs.lemmas.Bool.{not-false, eqb-true}
 use Rattle.std.specs.Prelude.{if◌then◌else◌}
-use Rattle.std.proofs.lemmas.Bool.Decides.{eqb_tells}
 use Rattle.m51_cells.specs.Extent.{Covers, extent_of}
 use Rattle.m51_cells.specs.declared.event.Why.TheVariants.{NotCalled, WrongAddress, SpMoved, SpBelow, PastEnd, NoEdge, RootBusy}
 use Rattle.m51_flat.specs.declared.state.Effect.{Effect}
@@ -21,13 +21,12 @@ use Rattle.m51_module.specs.Walks.{has_edge}
 use Rattle.m51_monitor.specs.Transfers.{IsFoundAt, IsRootFound, IsRootWanted, return_move, jump_or_call, interrupts_to, is_at, is_busy, is_by, is_sp_below, judged_as, jumped, move_to, moved, returns_to, unless, within, without_top}
 use Rattle.m51_flat.specs.Vectors.{vector_of}
 use Rattle.m51_monitor.proofs.Moving.{ok_is, unless_ok}
-use Rattle.m51_monitor.proofs.Truths.{not_false, number_is}
 
 found_here : (l : LayoutParts) (pc : ℕ) (o : Option ℕ) (u : ℕ) → IsFoundAt l pc o → is_at o u ≡ true → IsUnitAt l pc u
 found_here l pc None u h e = cc e
-found_here l pc (Some v) u h e = subst (IsUnitAt l pc) (number_is v u e) h
+found_here l pc (Some v) u h e = subst (IsUnitAt l pc) (eqb-true v u e) h
 
-jumped_current : (reset : List ℕ) (rs : List ReturnRecord) (u : ℕ) → current (jumped reset rs u) ≡ u
+pub jumped_current : (reset : List ℕ) (rs : List ReturnRecord) (u : ℕ) → current (jumped reset rs u) ≡ u
 jumped_current reset [] u = refl
 jumped_current reset (r ∷ rs) u = refl
 
@@ -52,7 +51,7 @@ by_same l a e u low call false m h is k =
 
 goes_covers : (l : LayoutParts) (a : Records) (e : Effect) (low call : Bool) (o : Option ℕ) (m : Move) → IsFoundAt l e.cpu.pc o → Ok m ≡ jump_or_call l (current a) low call o → Is l a e m
 goes_covers l a e low call None m h k = cc k
-goes_covers l a e low call (Some u) m h k = by_same l a e u low call (nat_eq u (current a)) m h (number_is u (current a)) k
+goes_covers l a e low call (Some u) m h k = by_same l a e u low call (nat_eq u (current a)) m h (eqb-true u (current a)) k
 
 ends_covers : (l : LayoutParts) (a : Records) (e : Effect) (call : Bool) (top to : ℕ) (o : Option ℕ) (rs : List ReturnRecord) (m : Move) → a.returns ≡ rs → IsFoundAt l e.cpu.pc o → Ok m ≡ return_move a.reset rs call top to o → Is l a e m
 ends_covers l a e call top to o [] m are h k = cc k
@@ -62,11 +61,11 @@ ends_covers l a e call top to o (r ∷ rs) m are h k =
     let p = unless_ok (not (nat_eq top r.sp)) SpMoved (unless (not (nat_eq to r.return_address)) WrongAddress (unless (not inside) PastEnd (Ok Return))) m p0.1 in
     let q = unless_ok (not (nat_eq to r.return_address)) WrongAddress (unless (not inside) PastEnd (Ok Return)) m p.1 in
     let s = unless_ok (not inside) PastEnd (Ok Return) m q.1 in
-    let here = found_here l e.cpu.pc o (first_or (named_over a.reset rs) 0) h (not_false inside s.0) in
+    let here = found_here l e.cpu.pc o (first_or (named_over a.reset rs) 0) h (not-false inside s.0) in
     subst (Is l a e) (sym (ok_is m Return s.1)) (subst (λ rs. IsUnitAt l e.cpu.pc (first_or (named_over a.reset (without_top rs)) 0)) (sym are) here)
 
 -- a root covers its vector
-root_covers : (l : LayoutParts) (vector u : ℕ) → IsSound l → IsRootAt l vector u → IsUnitAt l vector u
+pub root_covers : (l : LayoutParts) (vector u : ℕ) → IsSound l → IsRootAt l vector u → IsUnitAt l vector u
 root_covers l vector u sound h =
     let some : 0 < h.is.size = (sound.fit h.unit_is.segment h.is h.unit_is.placed).absolute h.absolute in
     record { is = h.is; unit_is = h.unit_is; covers = subst (λ k. Covers (extent_of k h.is.base h.is.size) (code_cell vector)) (sym h.code) (record { space = refl; from = omega (arith, h.base); below = omega (arith, h.base, some) }) }
@@ -82,7 +81,7 @@ covers : (l : LayoutParts) (a : Records) (e : Effect) (top new to : ℕ) (t : Tr
 covers l a e top new to Next o root m sound at h w k =
     let low = is_sp_below a.returns 0 new in
     let p = unless_ok (not (is_at o (current a))) PastEnd (unless low SpBelow (Ok Stay)) m k in
-    subst (Is l a e) (sym (ok_is m Stay (unless_ok low SpBelow (Ok Stay) m p.1).1)) (found_here l e.cpu.pc o (current a) h (not_false (is_at o (current a)) p.0))
+    subst (Is l a e) (sym (ok_is m Stay (unless_ok low SpBelow (Ok Stay) m p.1).1)) (found_here l e.cpu.pc o (current a) h (not-false (is_at o (current a)) p.0))
 covers l a e top new to Jump o root m sound at h w k = goes_covers l a e (is_sp_below a.returns 0 new) false o m h k
 covers l a e top new to Call o root m sound at h w k = goes_covers l a e (is_sp_below a.returns 2 new) true o m h k
 covers l a e top new to Ret o root m sound at h w k = ends_covers l a e true top to o a.returns m refl h k

@@ -3,9 +3,7 @@ use Rattle.std.proofs.Common.{◌≡◌, ◌≢◌, ℕ, zero, suc, ◌+◌, Boo
 use Rattle.std.specs.Prelude.{slice_get, if◌then◌else◌}
 use Rattle.std.specs.List.{Contains}
 use Rattle.std.proofs.lemmas.Bool.Decides.{eqb_tells}
-use Rattle.std.proofs.lemmas.Bool.{and_parts}
-use Rattle.m51_cells.specs.declared.kind.Kind.{Kind}
-use Rattle.m51_cells.specs.declared.kind.Kind.TheVariants.{Code, Xdata, Direct, Idata, Bits, Number}
+use Rattle.std.proofs.lemmas.Bool.{and_parts, eqb-true}
 use Rattle.m51_flat.specs.declared.state.Source.{Source}
 use Rattle.m51_flat.specs.declared.state.Source.TheVariants.{Ie0, Tf0, Ie1, Tf1, Serial, Timer2}
 use Rattle.m51_flat.specs.declared.state.Transfer.TheVariants.{Vector}
@@ -22,7 +20,6 @@ use Rattle.m51_monitor.specs.Found.{begins_at, covers_address, extent_passes, fi
 use Rattle.m51_monitor.specs.Transfers.{IsFoundAt, IsRootFound}
 use Rattle.m51_flat.specs.Vectors.{vector_of}
 use Rattle.m51_monitor.proofs.Resolving.{covers_is, is_covered}
-use Rattle.m51_monitor.proofs.Truths.{number_is}
 
 -- a unit whose extent passes the test
 record Passing (placed : List Placed) (test : Placed → Bool) (units : List ℕ) (k : ℕ) : Type 0 where
@@ -108,7 +105,7 @@ root_at_is l vector is = by_found (first_unit l.placed (begins_at vector) l.unit
         let p = from_zero l.placed (begins_at vector) l.units u h in
         let a = and_parts (is_code p.is.kind) (is_absolute p.is.mark && nat_eq p.is.base vector) p.passes_it in
         let b = and_parts (is_absolute p.is.mark) (nat_eq p.is.base vector) a.1 in
-        record { vector_is = is; is = p.is; unit_is = record { segment = p.segment; unit_is = p.unit_is; placed = p.placed_is }; code = code_is p.is.kind a.0; absolute = absolute_is p.is.mark b.0; base = number_is p.is.base vector b.1 }
+        record { vector_is = is; is = p.is; unit_is = record { segment = p.segment; unit_is = p.unit_is; placed = p.placed_is }; code = code_is p.is.kind a.0; absolute = absolute_is p.is.mark b.0; base = eqb-true p.is.base vector b.1 }
     by_found None h = λ u at. h u (record {
       segment = at.unit_is.segment;
       is = at.is;

@@ -1,7 +1,7 @@
 -- Levels in progress and SP after a move.
-use Rattle.std.proofs.Common.{nat_eq, ◌≡◌, ◌⊎◌, inl, inr, ℕ, ◌+◌, ◌-◌, ◌%◌, ◌<◌, Bool, true, false, not, Option, Some, None, Ok, List, [], ◌∷◌, ◌++◌, length, take, drop, refl, sym, ap, subst, ◌∙◌, ⊎_elim, arith}
+use Rattle.std.proofs.Common.{nat_eq, ◌≡◌, ◌⊎◌, inl, inr, ℕ, ◌+◌, ◌%◌, ◌<◌, Bool, true, false, not, Option, Some, None, Ok, List, [], ◌∷◌, ◌++◌, length, take, drop, refl, sym, ap, subst, ◌∙◌, ⊎_elim, arith}
 use Rattle.std.specs.Prelude.{if◌then◌else◌}
-use Rattle.std.proofs.lemmas.Bool.{not-true}
+use Rattle.std.proofs.lemmas.Bool.{not-true, not-false}
 use Rattle.m51_cells.specs.declared.event.Why.TheVariants.{NoEdge, NotCalled, WrongAddress, SpMoved, SpBelow, RootBusy, PastEnd}
 use Rattle.m51_flat.specs.declared.state.Effect.{Effect}
 use Rattle.m51_flat.specs.declared.state.Level.{Level}
@@ -21,7 +21,6 @@ use Rattle.m51_module.specs.Walks.{has_edge}
 use Rattle.m51_monitor.specs.Transfers.{return_move, jump_or_call, interrupts_to, is_at, is_busy, is_by, is_call, is_sp_below, judged_as, jumped, move_to, moved, returns_to, unless, within, without_top}
 use Rattle.m51_flat.specs.Vectors.{vector_of}
 use Rattle.m51_monitor.proofs.Moving.{Allowed, IsStay, IsJump, IsLocal, IsCall, IsInterrupt, IsReturn, allowed, ok_is, unless_ok}
-use Rattle.m51_monitor.proofs.Truths.{not_false}
 
 -- which moves a transfer is answered by
 data TransferOf (a : Records) : Transfer → Move → Type 0 where
@@ -64,7 +63,7 @@ end_is reset (r ∷ rs) call top to at m e =
     let p = unless_ok (not (nat_eq top r.sp)) SpMoved (unless (not (nat_eq to r.return_address)) WrongAddress (unless (not inside) PastEnd (Ok Return))) m o.1 in
     let q = unless_ok (not (nat_eq to r.return_address)) WrongAddress (unless (not inside) PastEnd (Ok Return)) m p.1 in
     let s = unless_ok (not inside) PastEnd (Ok Return) m q.1 in
-    (ok_is m Return s.1, (r, rs, refl, not_false (is_by call r.cause) o.0))
+    (ok_is m Return s.1, (r, rs, refl, not-false (is_by call r.cause) o.0))
 
 vector_transfer : (a : Records) (source : Source) (low : Bool) (o : Option ℕ) (m : Move) → Ok m ≡ interrupts_to a source low o → TransferOf a (Vector source) m
 vector_transfer a source low None m e = cc e
@@ -92,9 +91,9 @@ one_more_is : (cause : Cause) (n : ℕ) → is_call cause ≡ false → one_more
 one_more_is ByCall n e = cc e
 one_more_is (ByInterrupt source) n e = refl
 
-same_levels : (reset : List ℕ) (rs : List ReturnRecord) (u : ℕ) → interrupts (jumped reset rs u).returns ≡ interrupts rs
-same_levels reset [] u = refl
-same_levels reset (r ∷ rs) u = refl
+pub jumped_count : (reset : List ℕ) (rs : List ReturnRecord) (u : ℕ) → interrupts (jumped reset rs u).returns ≡ interrupts rs
+jumped_count reset [] u = refl
+jumped_count reset (r ∷ rs) u = refl
 
 -- the record of a call goes without a level, and that of an interrupt with one
 call_ended : (cause : Cause) (taken : List Level) → is_call cause ≡ true → ended_by cause taken ≡ taken
@@ -113,7 +112,7 @@ kept : (a : Records) (e : Effect) (before after taken : List Level) (t : Transfe
     → HaveLevels a.returns taken before → HaveLevels (moved a e m).returns (taken_after a after m taken) after
 kept a e before after taken t m StayNext f h = record { each = h.each; same = h.same ∙ sym f }
 kept a e before after taken t m StayJump f h = record { each = h.each; same = h.same ∙ sym f }
-kept a e before after taken t m (GoJump u) f h = record { each = h.each ∙ sym (same_levels a.reset a.returns u); same = h.same ∙ sym f }
+kept a e before after taken t m (GoJump u) f h = record { each = h.each ∙ sym (jumped_count a.reset a.returns u); same = h.same ∙ sym f }
 kept a e before after taken t m LocalCall f h = record { each = h.each; same = h.same ∙ sym f }
 kept a e before after taken t m (GoCall u) f h = record { each = h.each; same = h.same ∙ sym f }
 kept a e before after taken t m (EndRet r rs are call) f h =
@@ -140,7 +139,7 @@ levels_are_kept m cpu e step taken j follows h =
 counted : (a : Records) (e : Effect) (t : Transfer) (m : Move) → TransferOf a t m → CountsInterrupts t (interrupts a.returns) (interrupts (moved a e m).returns)
 counted a e t m StayNext = refl
 counted a e t m StayJump = refl
-counted a e t m (GoJump u) = same_levels a.reset a.returns u
+counted a e t m (GoJump u) = jumped_count a.reset a.returns u
 counted a e t m LocalCall = refl
 counted a e t m (GoCall u) = refl
 counted a e t m (EndRet r rs are call) =

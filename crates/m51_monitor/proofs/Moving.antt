@@ -1,9 +1,10 @@
 -- What the records are after an allowed move.
-use Rattle.std.proofs.Common.{nat_eq, nat_lt, ◌≡◌, ◌≢◌, ◌⊎◌, inl, inr, ℕ, ◌+◌, ◌<◌, ◌≤◌, Bool, true, false, not, ◌||◌, Option, Some, None, Ok, List, [], ◌∷◌, ◌++◌, refl, sym, ap, subst, ◌∙◌, ⊎_elim, arith}
+use Rattle.std.proofs.Common.{nat_eq, ◌≡◌, ◌≢◌, ℕ, ◌+◌, ◌<◌, ◌≤◌, Bool, true, false, not, ◌||◌, Option, Some, None, Ok, List, [], ◌∷◌, ◌++◌, refl, sym, ap, subst, ◌∙◌, ⊎_elim, arith}
+use Rattle.std.proofs.lemmas.Bool.{not-false, ltb-false, eqb-true}
 use Rattle.std.specs.declared.result.Result.{Result}
 use Rattle.std.specs.Prelude.{if◌then◌else◌}
 use Rattle.std.specs.List.{Contains}
-use Rattle.std.proofs.lemmas.Bool.Decides.{eqb_tells, nat_tests}
+use Rattle.std.proofs.lemmas.Bool.Decides.{eqb_tells}
 use Rattle.m51_cells.specs.declared.event.Why.{Why}
 use Rattle.m51_cells.specs.declared.event.Why.TheVariants.{NoEdge, NotCalled, WrongAddress, SpMoved, SpBelow, RootBusy, PastEnd}
 use Rattle.m51_flat.specs.declared.state.Effect.{Effect}
@@ -15,7 +16,7 @@ use Rattle.m51_flat.specs.Sfr.{latch, sp}
 use Rattle.m51_module.proofs.EdgeTests.{edge_from_test}
 use Rattle.m51_module.specs.declared.parts.LayoutParts.{LayoutParts}
 use Rattle.m51_module.specs.Plan.{IsRootAt}
-use Rattle.m51_module.specs.Walks.{Edges, HasEdge, has_edge}
+use Rattle.m51_module.specs.Walks.{HasEdge, has_edge}
 use Rattle.m51_monitor.specs.declared.cause.Cause.{Cause}
 use Rattle.m51_monitor.specs.declared.cause.Cause.TheVariants.{Call as ByCall, Interrupt as ByInterrupt}
 use Rattle.m51_monitor.specs.declared.step.Move.{Move}
@@ -24,11 +25,10 @@ use Rattle.m51_monitor.specs.Records.{ReturnRecord, Records, named_over, first_o
 use Rattle.m51_monitor.specs.Rising.{IsAbove, HeightsRise, one_more, interrupts}
 use Rattle.m51_monitor.specs.Transfers.{unless, is_sp_below, is_at, jump_or_call, within, move_to, returns_to, is_by, return_move, is_of_root, is_busy, interrupts_to, judged_as, IsRootFound, IsRootWanted, return_address_of, jumped, pushed, without_top, moved}
 use Rattle.m51_flat.specs.Vectors.{vector_of}
-use Rattle.m51_monitor.proofs.Lists.{contains_cases, first_append, any_tells}
+use Rattle.m51_monitor.proofs.Lists.{contains_cases, first_append}
 use Rattle.m51_module.proofs.Owning.{none_in_empty}
 use Rattle.m51_monitor.specs.Laws.{MovesAreKept}
 use Rattle.m51_monitor.specs.Monitored.{Monitored, HasLevel}
-use Rattle.m51_monitor.proofs.Truths.{not_false, not_lt, number_is}
 
 begins_on : (l : LayoutParts) (v u : ℕ) (us : List ℕ) → BeginsAt l v us → HasEdge l.edges (first_or us 0) u → BeginsAt l v (u ∷ us)
 begins_on l v u [] h e = absurd h
@@ -75,7 +75,7 @@ unless_ok false why rest m e = (refl, e)
 
 low_above : (rs : List ReturnRecord) (more top : ℕ) → is_sp_below rs more top ≡ false → IsAbove rs more top
 low_above [] more top e = tt
-low_above (r ∷ rs) more top e = not_lt top (r.sp + more) e
+low_above (r ∷ rs) more top e = ltb-false top (r.sp + more) e
 
 -- no root of a record is at the vector, and the reset's is at another
 vector_is_some : (source : Source) → vector_of source ≡ 0 → ⊥
@@ -121,7 +121,7 @@ goes_back l a top new to at root u low call true m own along e =
 goes_back l a top new to at root u low call false m own along e =
     let p = unless_ok (not (has_edge l.edges (current a) u)) NoEdge (unless low SpBelow (Ok (move_to call u))) m e in
     let q = unless_ok low SpBelow (Ok (move_to call u)) m p.1 in
-    subst (Allowed l a top new to at root) (sym (ok_is m (move_to call u) q.1)) (along (edge_from_test l.edges (current a) u (not_false (has_edge l.edges (current a) u) p.0)) q.0)
+    subst (Allowed l a top new to at root) (sym (ok_is m (move_to call u) q.1)) (along (edge_from_test l.edges (current a) u (not-false (has_edge l.edges (current a) u) p.0)) q.0)
 
 jump_back : (l : LayoutParts) (a : Records) (top new to : ℕ) (at root o : Option ℕ) (m : Move) → at ≡ o → Ok m ≡ jump_or_call l (current a) (is_sp_below a.returns 0 new) false o → Allowed l a top new to at root m
 jump_back l a top new to at root None m same e = cc e
@@ -132,7 +132,7 @@ jump_back l a top new to at root (Some u) m same e = goes_back l a top new to at
 call_back : (l : LayoutParts) (a : Records) (top new to : ℕ) (at root o : Option ℕ) (m : Move) → at ≡ o → Ok m ≡ jump_or_call l (current a) (is_sp_below a.returns 2 new) true o → Allowed l a top new to at root m
 call_back l a top new to at root None m same e = cc e
 call_back l a top new to at root (Some u) m same e = goes_back l a top new to at root u (is_sp_below a.returns 2 new) true (nat_eq u (current a)) m
-    (λ here low. IsLocal (same ∙ ap Some (number_is u (current a) here)) (low_above a.returns 2 new low))
+    (λ here low. IsLocal (same ∙ ap Some (eqb-true u (current a) here)) (low_above a.returns 2 new low))
     (λ edge low. IsCall u edge same (low_above a.returns 2 new low)) e
 
 ends_back : (l : LayoutParts) (a : Records) (top new to : ℕ) (at root : Option ℕ) (rs : List ReturnRecord) (call : Bool) (m : Move) → a.returns ≡ rs → Ok m ≡ return_move a.reset rs call top to at → Allowed l a top new to at root m
@@ -144,7 +144,7 @@ ends_back l a top new to at root (r ∷ rs) call m same e =
     let q = unless_ok (not (nat_eq to r.return_address)) WrongAddress (unless (not inside) PastEnd (Ok Return)) m p.1 in
     let s = unless_ok (not inside) PastEnd (Ok Return) m q.1 in
     subst (Allowed l a top new to at root) (sym (ok_is m Return s.1))
-    (IsReturn r rs same (number_is top r.sp (not_false (nat_eq top r.sp) p.0)) (number_is to r.return_address (not_false (nat_eq to r.return_address) q.0)))
+    (IsReturn r rs same (eqb-true top r.sp (not-false (nat_eq top r.sp) p.0)) (eqb-true to r.return_address (not-false (nat_eq to r.return_address) q.0)))
 
 interrupt_back : (l : LayoutParts) (a : Records) (top new to : ℕ) (at root : Option ℕ) (source : Source) (m : Move) → IsRootFound l (vector_of source) root → Ok m ≡ interrupts_to a source (is_sp_below a.returns 2 new) root → Allowed l a top new to at root m
 interrupt_back l a top new to at None source m found e = cc e

@@ -1,9 +1,9 @@
 -- A shared RAM after a put.
-use Rattle.std.proofs.Common.{◌≡◌, ◌≢◌, ℕ, zero, suc, ◌+◌, ◌*◌, ◌/◌, ◌%◌, ◌<◌, ◌≤◌, Bool, true, false, not, nat_eq, Option, Some, None, refl, sym, ap, subst, ◌∙◌, ⊎_elim, arith}
+use Rattle.std.proofs.Common.{◌≡◌, ◌≢◌, ℕ, zero, suc, ◌+◌, ◌*◌, ◌/◌, ◌%◌, ◌<◌, ◌≤◌, Bool, true, false, nat_eq, Option, Some, None, refl, sym, ap, subst, ◌∙◌, ⊎_elim, arith}
 use Rattle.std.specs.Prelude.{if◌then◌else◌}
 use Rattle.std.specs.Int.{bit_at}
 use Rattle.std.proofs.lemmas.Bool.Decides.{eqb_tells}
-use Rattle.std.proofs.lemmas.Bool.{cases_lt}
+use Rattle.std.proofs.lemmas.Bool.{cases_lt, not-false}
 use Rattle.m51_alu.specs.Arithmetic.{bit_of}
 use Rattle.m51_cells.specs.declared.cell.Cell.{Cell}
 use Rattle.m51_cells.specs.declared.cell.Space.{Space}
@@ -12,7 +12,7 @@ use Rattle.m51_cells.specs.Extent.{Covers}
 use Rattle.m51_flat.specs.declared.state.Put.{Put}
 use Rattle.m51_flat.specs.declared.state.Put.TheVariants.{Nothing, Byte, Bit, Xbyte}
 use Rattle.m51_flat.specs.Flat.{FlatBytes, flat_cells}
-use Rattle.m51_flat.specs.States.{CellState, States, Holds, ram_cell, xram_cell, states_after, first_barred, shut_of}
+use Rattle.m51_flat.specs.States.{CellState, States, ram_cell, xram_cell, states_after, first_barred, shut_of}
 use Rattle.m51_flat.proofs.Flat.{same_states}
 use Rattle.m51_module.specs.Sound.{IsInside}
 use Rattle.m51_cells.specs.Cells.{IsDataCell}
@@ -20,7 +20,7 @@ use Rattle.m51_monitor.specs.Masks.{IsCellAt, Mask, flag_in, flag_of, IsMarked}
 use Rattle.m51_monitor.specs.Shared.{Shared, masked, shared_cells, shared_barred, cells_put}
 use Rattle.m51_flat.specs.States.{ram_written, xram_written, written_in, state_over}
 use Rattle.m51_monitor.proofs.Reading.{covers_or_not}
-use Rattle.m51_monitor.proofs.Truths.{if_false, if_true, not_false}
+use Rattle.m51_monitor.proofs.Truths.{if_false, if_true}
 
 open_at : (b : Bool) (c : Cell) (rest : Option Cell) → (if b then Some c else rest) ≡ None → (b ≡ false) × (rest ≡ None)
 open_at true c rest e = cc e
@@ -43,11 +43,11 @@ put_lives m put e c h = by_put put e c.space c.at h.space h.from h.below
   where
     by_put : (put : Put) → shut_of (shared_barred m) put ≡ None → (s : Space) (n : ℕ) → s ≡ (cells_put put).space → (cells_put put).first ≤ n → n < (cells_put put).first + (cells_put put).len → flag_in m.live s n ≡ true
     by_put Nothing e s n same low high = absurd (omega (arith, low, high))
-    by_put (Byte a v) e s n same low high = subst (λ (s : Space). flag_in m.live s n ≡ true) (sym same) (not_false (flag_in m.live Ram n) (all_open (shared_barred m) 8 (8 * a) e n low high))
-    by_put (Bit a b) e s n same low high = subst (λ (s : Space). flag_in m.live s n ≡ true) (sym same) (not_false (flag_in m.live Ram n) (all_open (shared_barred m) 1 (256 + a) e n low high))
+    by_put (Byte a v) e s n same low high = subst (λ (s : Space). flag_in m.live s n ≡ true) (sym same) (not-false (flag_in m.live Ram n) (all_open (shared_barred m) 8 (8 * a) e n low high))
+    by_put (Bit a b) e s n same low high = subst (λ (s : Space). flag_in m.live s n ≡ true) (sym same) (not-false (flag_in m.live Ram n) (all_open (shared_barred m) 1 (256 + a) e n low high))
     by_put (Xbyte a v) e s n same low high =
         let here : n ≡ a = omega (arith, low, high) in
-        subst (λ (s : Space). flag_in m.live s n ≡ true) (sym same) (ap (λ n. flag_in m.live Xram n) here ∙ not_false (flag_in m.live Xram a) (open_at (shared_barred m (xram_cell a)) (xram_cell a) None e).0)
+        subst (λ (s : Space). flag_in m.live s n ≡ true) (sym same) (ap (λ n. flag_in m.live Xram n) here ∙ not-false (flag_in m.live Xram a) (open_at (shared_barred m (xram_cell a)) (xram_cell a) None e).0)
 
 -- a put writes a value into a cell that it covers, and into no other
 pub data Tells (put : Put) (c : Cell) (w : Option ℕ) : Type 0 where

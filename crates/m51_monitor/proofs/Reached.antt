@@ -1,5 +1,5 @@
 -- What holds of records that a run can reach.
-use Rattle.std.proofs.Common.{◌≡◌, sym, subst, arith}
+use Rattle.std.proofs.Common.{sym, subst, arith}
 use Rattle.m51_module.specs.declared.parts.LayoutParts.{LayoutParts}
 use Rattle.m51_monitor.specs.Monitored.{AreActivations}
 use Rattle.m51_monitor.specs.Reached.{IsReached, AtReset, AfterMove, RunsAreBounded}

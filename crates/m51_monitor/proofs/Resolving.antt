@@ -1,10 +1,8 @@
 -- What the separate stores answer after a put, and after segments turned live or died.
-use Rattle.std.proofs.Common.{◌≡◌, ◌≢◌, ◌⊎◌, inl, inr, ℕ, zero, suc, ◌+◌, ◌≤◌, Bool, true, false, ◌&&◌, ◌||◌, nat_le, nat_lt, Option, Some, None, List, [], ◌∷◌, refl, sym, ap, subst, ◌∙◌, ⊎_elim, arith}
+use Rattle.std.proofs.Common.{◌≡◌, ◌≢◌, ◌⊎◌, inl, inr, ℕ, zero, suc, ◌+◌, Bool, true, false, ◌&&◌, ◌||◌, nat_le, nat_lt, Option, Some, None, List, [], ◌∷◌, refl, sym, ap, subst, ◌∙◌, ⊎_elim}
 use Rattle.std.specs.Prelude.{slice_get}
 use Rattle.std.specs.List.{list_any}
-use Rattle.std.proofs.lemmas.Bool.{lt-ltb, ltb-true}
-use Rattle.std.proofs.lemmas.Bool.Decides.{nat_tests}
-use Rattle.std.proofs.lemmas.Bool.{and_parts}
+use Rattle.std.proofs.lemmas.Bool.{and_from, and_parts, le-leb, leb-true, lt-ltb, ltb-true, or_right}
 use Rattle.m51_cells.specs.declared.cell.Cell.{Cell}
 use Rattle.m51_cells.specs.declared.cell.Space.{Space}
 use Rattle.m51_cells.specs.declared.cell.Space.TheVariants.{Ram, Xram, Code}
@@ -23,7 +21,6 @@ use Rattle.m51_cells.specs.Cells.{IsDataCell}
 use Rattle.m51_monitor.specs.Related.{OneLive}
 use Rattle.m51_monitor.specs.Stores.{Stores, IsOver, held, Live, Resolves, InSegment, InCommon, Nowhere, over, is_segment, is_in, covers, is_over, is_over_at, is_data_in, is_data, has_cell, is_common, put_into}
 use Rattle.m51_flat.specs.States.{written_to, state_over}
-use Rattle.m51_monitor.proofs.Truths.{both, is_le, le_is, or_after}
 
 -- coverage as a test
 segment_tells : (mark : Mark) → ((is_segment mark ≡ true) × IsSegment mark) ⊎ ((is_segment mark ≡ false) × (IsSegment mark → ⊥))
@@ -56,12 +53,12 @@ pub covers_is : (e : Extent) (c : Cell) → covers e c ≡ true → Covers e c
 covers_is e c h =
     let p = and_parts (is_in c.space e.space) (nat_le e.first c.at && nat_lt c.at (e.first + e.len)) h in
     let q = and_parts (nat_le e.first c.at) (nat_lt c.at (e.first + e.len)) p.1 in
-    record { space = space_is c.space e.space p.0; from = le_is e.first c.at q.0; below = ltb-true c.at (e.first + e.len) q.1 }
+    record { space = space_is c.space e.space p.0; from = leb-true e.first c.at q.0; below = ltb-true c.at (e.first + e.len) q.1 }
 
 pub is_covered : (e : Extent) (c : Cell) → Covers e c → covers e c ≡ true
 is_covered e c h =
-    both (is_in c.space e.space) (nat_le e.first c.at && nat_lt c.at (e.first + e.len)) (is_space c.space e.space h.space)
-    (both (nat_le e.first c.at) (nat_lt c.at (e.first + e.len)) (is_le e.first c.at h.from) (lt-ltb c.at (e.first + e.len) h.below))
+    and_from (is_in c.space e.space) (nat_le e.first c.at && nat_lt c.at (e.first + e.len)) (is_space c.space e.space h.space)
+    (and_from (nat_le e.first c.at) (nat_lt c.at (e.first + e.len)) (le-leb e.first c.at h.from) (lt-ltb c.at (e.first + e.len) h.below))
 
 pub is_data_cell : (c : Cell) → IsDataCell c → is_data c ≡ true
 is_data_cell c h = by_space c.space c.at h
@@ -87,7 +84,7 @@ over_is p c h =
     )
 
 pub is_over_cell : (p : Placed) (c : Cell) → IsSegment p.mark → Covers (extent_at p) c → is_over p c ≡ true
-is_over_cell p c s h = both (is_segment p.mark) (covers (extent_at p) c)
+is_over_cell p c s h = and_from (is_segment p.mark) (covers (extent_at p) c)
     (⊎_elim (λ (t : (is_segment p.mark ≡ true) × IsSegment p.mark). t.0) (λ (t : (is_segment p.mark ≡ false) × (IsSegment p.mark → ⊥)). absurd (t.1 s)) (segment_tells p.mark))
     (is_covered (extent_at p) c h)
 
@@ -102,7 +99,7 @@ pub has_cell_data : (l : LayoutParts) (t : ℕ) (c : Cell) → has_cell l t c �
 has_cell_data l t c h = data_cell_is c (and_parts (is_data c) (is_over_at (slice_get l.placed t) c) h).0
 
 pub is_has_cell : (l : LayoutParts) (t : ℕ) (c : Cell) → IsDataCell c → IsOver l t c → has_cell l t c ≡ true
-is_has_cell l t c is h = both (is_data c) (is_over_at (slice_get l.placed t) c) (is_data_cell c is) (rw h.placed (is_over_cell h.is c h.segment h.covers))
+is_has_cell l t c is h = and_from (is_data c) (is_over_at (slice_get l.placed t) c) (is_data_cell c is) (rw h.placed (is_over_cell h.is c h.segment h.covers))
 
 -- the segments over a cell, by their places in a list
 abbrev IsSomeOver : Cell → List Placed → Type 0
@@ -119,7 +116,7 @@ over_some c (p ∷ ps) h = over_first c p ps (is_over p c) (list_any (λ p. is_o
 some_over : (c : Cell) (ps : List Placed) (t : ℕ) (p : Placed) → slice_get ps t ≡ Some p → is_over p c ≡ true → list_any (λ p. is_over p c) ps ≡ true
 some_over c [] t p e h = cc e
 some_over c (q ∷ ps) zero p e h = let same : q ≡ p = cc e in rw (subst (λ (p : Placed). is_over p c ≡ true) (sym same) h) refl
-some_over c (q ∷ ps) (suc t) p e h = or_after (is_over q c) (list_any (λ p. is_over p c) ps) (some_over c ps t p e h)
+some_over c (q ∷ ps) (suc t) p e h = or_right (is_over q c) (list_any (λ p. is_over p c) ps) (some_over c ps t p e h)
 
 -- a cell of data memory is common, or some segment is over it
 pub common_or_over : (l : LayoutParts) (c : Cell) → IsDataCell c → ((is_common l c ≡ true) × ((t : ℕ) → IsOver l t c → ⊥)) ⊎ ((is_common l c ≡ false) × ((t : ℕ) × IsOver l t c))

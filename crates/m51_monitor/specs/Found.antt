@@ -1,5 +1,6 @@
 -- The unit at an address and the root at a vector, as functions.
-use Rattle.std.specs.Prelude.{ℕ, ◌+◌, Bool, true, false, ◌&&◌, nat_eq, if◌then◌else◌, Option, Some, None, List, [], ◌∷◌, slice_get}
+use Rattle.std.specs.Prelude.{ℕ, ◌+◌, Bool, true, false, ◌&&◌, nat_eq, if◌then◌else◌, Option, Some, None, List, []}
+use Rattle.std.specs.Prelude.{◌∷◌, slice_get}
 use Rattle.m51_cells.specs.Kinds.{is_code}
 use Rattle.m51_flat.specs.declared.state.Transfer.{Transfer}
 use Rattle.m51_flat.specs.declared.state.Transfer.TheVariants.{Vector}

@@ -75,7 +75,7 @@ pub record AreNumbers (m : Monitored) (numbers : List ℕ) : Type 0 where
   pub number : (u : ℕ) → u < length m.layout.units → slice_index numbers u ≡ naming m.records u
   pub most : (u : ℕ) → u < length m.layout.units → slice_index numbers u ≤ 3
 
--- the records at the reset name its root alone
+-- the records at the reset name only its root
 abbrev pub started : ℕ → Records
 started root = record { reset = root ∷ []; returns = [] }
 

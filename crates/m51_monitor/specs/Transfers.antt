@@ -1,10 +1,12 @@
 -- Which transfers of control are allowed, and how they change the records.
-use Rattle.std.specs.Prelude.{◌≡◌, ℕ, ◌+◌, ◌*◌, Bool, true, false, not, nat_eq, nat_lt, Option, Some, None, Result, Ok, Err, List, [], ◌∷◌, if◌then◌else◌}
+use Rattle.std.specs.Prelude.{◌≡◌, ℕ, ◌+◌, ◌*◌, Bool, true, false, not, nat_eq, nat_lt, Option, Some, None, Result}
+use Rattle.std.specs.Prelude.{Ok, Err, List, [], ◌∷◌, if◌then◌else◌}
 use Rattle.std.specs.List.{list_any}
 use Rattle.m51_cells.specs.declared.event.Event.{Event}
 use Rattle.m51_cells.specs.declared.event.Event.TheVariants.{Transfer as Undeclared}
 use Rattle.m51_cells.specs.declared.event.Why.{Why}
-use Rattle.m51_cells.specs.declared.event.Why.TheVariants.{NoUnit, NoEdge, NotCalled, WrongAddress, SpMoved, SpBelow, NoHandler, RootBusy, PastEnd}
+use Rattle.m51_cells.specs.declared.event.Why.TheVariants.{NoUnit, NoEdge, NotCalled, WrongAddress, SpMoved, SpBelow}
+use Rattle.m51_cells.specs.declared.event.Why.TheVariants.{NoHandler, RootBusy, PastEnd}
 use Rattle.m51_flat.specs.declared.state.Cpu.{Cpu}
 use Rattle.m51_flat.specs.declared.state.Effect.{Effect}
 use Rattle.m51_flat.specs.declared.state.Put.{Put}
@@ -20,7 +22,8 @@ use Rattle.m51_monitor.specs.declared.cause.Cause.{Cause}
 use Rattle.m51_monitor.specs.declared.cause.Cause.TheVariants.{Call as ByCall, Interrupt as ByInterrupt}
 use Rattle.m51_monitor.specs.declared.cause.Frame.{Frame}
 use Rattle.m51_monitor.specs.declared.step.Move.{Move}
-use Rattle.m51_monitor.specs.declared.step.Move.TheVariants.{Stay, Local, Return, Jump as JumpTo, Call as CallTo, Interrupt as InterruptTo}
+use Rattle.m51_monitor.specs.declared.step.Move.TheVariants.{Stay, Local, Return, Jump as JumpTo, Call as CallTo}
+use Rattle.m51_monitor.specs.declared.step.Move.TheVariants.{Interrupt as InterruptTo}
 use Rattle.m51_monitor.specs.Records.{ReturnRecord, Records, named_over, first_or, current}
 use Rattle.m51_flat.specs.Vectors.{vector_of}
 

@@ -21,7 +21,7 @@ use m51_module::{Layout, Placed};
 use std::alloc::Global;
 use std::marker::Model;
 
-// The most units that records name: three walks at most stand at once, and no unit is twice in one of them.
+// The most units that records name: there are at most three walks at once, and no unit is twice in one of them.
 const MOST_NAMED: usize = 3_000;
 
 /// The units that the records name, how many records name each unit, and the memory.

@@ -3,7 +3,7 @@ ghost use Rattle.m51_monitor.specs.Laws.{CoversIsKept, InterruptsAreCounted, Lev
 ghost use Rattle.m51_monitor.specs.Laws.{OneLiveSegment, OneState, StackIsKept};
 ghost use Rattle.m51_monitor.specs.Reached.{RunsAreBounded};
 
-/// In a sound layout, where the records stand, at most one live segment covers a cell.
+/// In a sound layout, if the records are right, at most one live segment covers a cell.
 ///
 /// Source: own choice ("Activations").
 pub fn at_most_one_live()
@@ -33,7 +33,7 @@ pub fn runs_are_bounded()
     ensures { RunsAreBounded }
 {}
 
-/// A memory stands for one state of the separate stores: what it stands for is read off it.
+/// A memory represents one state of the separate stores: what it represents is read off it.
 ///
 /// Source: own choice ("Stores of segments").
 pub fn one_state()

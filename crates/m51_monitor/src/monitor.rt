@@ -110,7 +110,7 @@ fn add(frames: &mut Vec<Frame>, frame: Frame)
 
 impl Monitor {
     /// At the reset, of a layout with a root at 0000H: that root is active, plain segments and the common cells have
-    /// the fill, and overlaid segments are unset. Want of memory is the one refusal.
+    /// the fill, and overlaid segments are unset. Error: out of memory.
     ///
     /// Source: own choice ("Activations").
     pub fn start(alloc: Global, layout: Layout, fill: u8) -> Result<Monitor, NoMemory>
@@ -145,7 +145,7 @@ impl Monitor {
         self.activity.layout()
     }
 
-    /// The memory of the segments. It answers as the separate stores for which it stands, and there are such; the cells
+    /// The memory of the segments. It answers as the separate stores that it represents, and there are such; the cells
     /// that may not be written are those that are outside.
     ///
     /// Source: own choice ("Stores of segments").
@@ -286,7 +286,7 @@ impl Monitor {
     /// Writes the cells of the first put of an effect and then of the second, and changes the records by the move that
     /// `judge` answered on this effect. No cell of either put is barred (`store().shut` answers none). Where the move
     /// makes a record, the two puts are the bytes of its return address, the low byte first; where it is an interrupt,
-    /// at most one interrupt has a record before. No memory is wanted.
+    /// at most one interrupt has a record before. It allocates nothing.
     ///
     /// Source: own choice ("Activations").
     pub fn commit(&mut self, effect: &Effect, step: Move)

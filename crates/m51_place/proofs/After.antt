@@ -1,5 +1,5 @@
 -- Segments that are placed one after another: each at a base that is free.
-use Rattle.std.proofs.Common.{◌≡◌, inl, inr, ℕ, zero, suc, ◌+◌, ◌<◌, true, false, Bool, cond, not, ◌&&◌, List, [], ◌∷◌, ◌++◌, length, map, get_or, Option, Some, None, Ok, Err, refl, sym, ap, subst, ◌∙◌, arith, append_assoc}
+use Rattle.std.proofs.Common.{◌≡◌, inl, inr, ℕ, zero, suc, ◌+◌, ◌<◌, true, Bool, cond, not, List, [], ◌∷◌, ◌++◌, length, map, get_or, Option, Some, None, Ok, Err, refl, sym, ap, subst, ◌∙◌, arith, append_assoc}
 use Rattle.std.specs.Prelude.{filter, find}
 use Rattle.std.specs.Option.{option_map_or}
 use Rattle.std.specs.List.{AllPairs, AllZip, list_all, range_with_len}
@@ -87,7 +87,7 @@ pub record IsFreeFor (g : GraphParts) (earlier : List Numbered) (t : Ranked) (ba
   pub fits : Fits t.segment.kind t.segment.reloc base t.segment.size
   pub apart : (k : ℕ) (d : Numbered) → k < length earlier → KeepApart g (get_or earlier k d) (located_at t base)
 
-base_is_free : (g : GraphParts) (earlier : List Numbered) (t : Ranked) (base : ℕ) → base_for g earlier t ≡ Some base → IsFreeFor g earlier t base
+pub base_is_free : (g : GraphParts) (earlier : List Numbered) (t : Ranked) (base : ℕ) → base_for g earlier t ≡ Some base → IsFreeFor g earlier t base
 unfolding least_base is_free
 base_is_free g earlier t base h =
     let j = t.segment in
@@ -106,7 +106,7 @@ base_is_free g earlier t base h =
     }
 
 -- one more is placed, and then the others
-place_step : (g : GraphParts) (earlier : List Numbered) (t : Ranked) (more : List Ranked) (located : List Numbered) (found : Option ℕ) → base_for g earlier t ≡ found
+pub place_step : (g : GraphParts) (earlier : List Numbered) (t : Ranked) (more : List Ranked) (located : List Numbered) (found : Option ℕ) → base_for g earlier t ≡ found
     → option_map_or (λ base. place_after g (earlier ++ located_at t base ∷ []) more) found (Err (L12 t.segment.title)) ≡ Ok located
     → (base : ℕ) × (base_for g earlier t ≡ Some base) × (place_after g (earlier ++ located_at t base ∷ []) more ≡ Ok located)
 place_step g earlier t more located None is h = absurd (cc h)

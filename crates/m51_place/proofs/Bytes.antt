@@ -2,7 +2,6 @@
 use Rattle.std.proofs.Common.{◌≡◌, inl, inr, ℕ, zero, suc, ◌+◌, ◌<◌, ◌≤◌, true, false, Bool, cond, ◌&&◌, List, [], ◌∷◌, Some, refl, sym, ap, ◌∙◌, arith}
 use Rattle.std.specs.Prelude.{nat_le, nat_lt, slice_get}
 use Rattle.std.specs.Bool.{Decides}
-use Rattle.std.proofs.lemmas.Bool.{false≢true}
 use Rattle.std.proofs.lemmas.Bool.Decides.{Decides-ltb}
 use Rattle.std.proofs.lemmas.Bool.{and_parts}
 use Rattle.std.proofs.lemmas.Bool.{cases_lt}
@@ -23,14 +22,14 @@ abbrev pub bytes_below : ℕ → ℕ → ℕ → ℕ
 bytes_below zero base size = 0
 bytes_below (suc n) base size = one_if (has_byte base size n) + bytes_below n base size
 
-none_yet : (n base size : ℕ) → n ≤ base → bytes_below n base size ≡ 0
+pub none_yet : (n base size : ℕ) → n ≤ base → bytes_below n base size ≡ 0
 none_yet zero base size h = refl
 none_yet (suc n) base size h = elim (cases_Bool (has_byte base size n)) as (λ _. bytes_below (suc n) base size ≡ 0) [
   | inl is ↦ absurd (omega (arith, h, ((has_byte_tells base size n).0 is).0))
   | inr not_is ↦ let here : one_if (has_byte base size n) ≡ 0 = ap one_if not_is in omega (arith, here, none_yet n base size (omega (arith, h)))
 ]
 
-some_yet : (n base size : ℕ) → base ≤ n → n ≤ base + size → base + bytes_below n base size ≡ n
+pub some_yet : (n base size : ℕ) → base ≤ n → n ≤ base + size → base + bytes_below n base size ≡ n
 some_yet zero base size h k = omega (arith, h)
 some_yet (suc n) base size h k = elim (cases_lt n base) as (λ _. base + bytes_below (suc n) base size ≡ suc n) [
   | inl before ↦

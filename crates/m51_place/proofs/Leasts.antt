@@ -58,7 +58,7 @@ some_none : (x : ℕ) → Some x ≡ None → ⊥
 some_none x h = cc h
 
 -- the first that passes, along a range
-first_in : (p : ℕ → Bool) (n from x : ℕ) → find p (range_with_len from n) ≡ Some x → (k : ℕ) → from ≤ k → k < x → p k ≡ false
+pub first_in : (p : ℕ → Bool) (n from x : ℕ) → find p (range_with_len from n) ≡ Some x → (k : ℕ) → from ≤ k → k < x → p k ≡ false
 first_in p zero from x h k up less = absurd (none-some x h)
 first_in p (suc n) from x h k up less = elim (cases_Bool (p from)) as (λ _. p k ≡ false) [
   | inl here ↦
@@ -73,7 +73,7 @@ first_in p (suc n) from x h k up less = elim (cases_Bool (p from)) as (λ _. p k
       ]
 ]
 
-none_in : (p : ℕ → Bool) (n from : ℕ) → find p (range_with_len from n) ≡ None → (k : ℕ) → from ≤ k → k < from + n → p k ≡ false
+pub none_in : (p : ℕ → Bool) (n from : ℕ) → find p (range_with_len from n) ≡ None → (k : ℕ) → from ≤ k → k < from + n → p k ≡ false
 none_in p zero from h k up less = absurd (omega (arith, up, less))
 none_in p (suc n) from h k up less = elim (cases_Bool (p from)) as (λ _. p k ≡ false) [
   | inl here ↦ absurd (some_none from (sym (ap (λ (b : Bool). cond b (Some from) (find p (range_with_len (from + 1) n))) here) ∙ h))

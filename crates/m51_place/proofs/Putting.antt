@@ -17,7 +17,7 @@ use Rattle.m51_place.specs.Order.{comes_before, put}
 abbrev pub place_in : {X : Type 0} → (X → Bool) → List X → ℕ
 place_in p xs = unwrap_or (position p xs) (length xs)
 
-front_within : {X : Type 0} → (p : X → Bool) (xs : List X) → position_or_len p xs ≤ length xs
+pub front_within : {X : Type 0} → (p : X → Bool) (xs : List X) → position_or_len p xs ≤ length xs
 front_within p [] = omega arith
 front_within p (x ∷ xs) = elim (p x) as (λ b. cond (not b) (1 + position_or_len p xs) 0 ≤ suc (length xs)) [ true ↦ omega arith | false ↦ omega (arith, front_within p xs) ]
 

@@ -1,8 +1,7 @@
 -- How many units reach a unit: more along each edge.
-use Rattle.std.proofs.Common.{◌≡◌, inl, inr, ℕ, zero, suc, ◌+◌, ◌<◌, ◌≤◌, true, false, Bool, refl, sym, ap, subst, arith}
+use Rattle.std.proofs.Common.{◌≡◌, inl, inr, ℕ, ◌<◌, false}
 use Rattle.m51_graph.proofs.Climbing.{tally, tally_lt}
 use Rattle.m51_module.specs.Walks.{Edges, HasEdge, Reaches}
-use Rattle.m51_module.proofs.Units.{same_or_not}
 use Rattle.m51_module.proofs.Reach.{reach_edge, reach_on}
 use Rattle.m51_graph.specs.Leading.{leads}
 use Rattle.m51_graph.proofs.Deciding.{leads_tells}

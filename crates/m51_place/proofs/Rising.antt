@@ -22,10 +22,10 @@ use Rattle.m51_place.proofs.Ranks.{order_moves, put_moves}
 use Rattle.m51_place.proofs.Whole.{order_of_two}
 
 -- one level of the order: a number, and what follows where the numbers are the same
-abbrev Goes : ℕ → ℕ → Bool → Type 0
+abbrev pub Goes : ℕ → ℕ → Bool → Type 0
 Goes x y next = (x < y) ⊎ ((x ≡ y) × (next ≡ true))
 
-goes_tells : (x y : ℕ) (next : Bool) → Decides (before_by x y next) (Goes x y next)
+pub goes_tells : (x y : ℕ) (next : Bool) → Decides (before_by x y next) (Goes x y next)
 goes_tells x y next =
     or_decides (nat_lt x y) (nat_eq x y && next) (Decides-ltb x y) (and_decides (nat_eq x y) next (Decides-eqb x y) (λ h. h, λ h. h))
 
@@ -92,13 +92,13 @@ rank_trans a b c =
     level_trans (class_number a.class) (class_number b.class) (class_number c.class) _ _ _
     (group_trans a.group b.group c.group _ _ _ (numbers_trans a.number b.number c.number))
 
-abbrev Earlier : Ranked → Ranked → Type 0
+abbrev pub Earlier : Ranked → Ranked → Type 0
 Earlier t u = comes_before t.rank u.rank ≡ true
 
-head_pairs : (u : Ranked) (more : List Ranked) → AllPairs Earlier (u ∷ more) → All (Earlier u) more
+pub head_pairs : (u : Ranked) (more : List Ranked) → AllPairs Earlier (u ∷ more) → All (Earlier u) more
 head_pairs u more h k d below = h 0 (suc k) d (omega arith) (omega (arith, below))
 
-tail_pairs : (u : Ranked) (more : List Ranked) → AllPairs Earlier (u ∷ more) → AllPairs Earlier more
+pub tail_pairs : (u : Ranked) (more : List Ranked) → AllPairs Earlier (u ∷ more) → AllPairs Earlier more
 tail_pairs u more h i j d less below = h (suc i) (suc j) d (omega (arith, less)) (omega (arith, below))
 
 abbrev IsBelow : ℕ → Ranked → Type 0

@@ -2,12 +2,12 @@
 use Rattle.std.proofs.Common.{◌≡◌, ◌≢◌, inl, inr, ℕ, ◌+◌, ◌<◌, true, false, Bool, cond, List, [], ◌∷◌, ◌++◌, get_or, Option, Some, None, Result, Ok, refl, sym, ap, subst, ◌∙◌, arith}
 use Rattle.std.specs.Prelude.{filter}
 use Rattle.std.specs.List.{All, list_any}
-use Rattle.std.proofs.lemmas.Bool.{cases_Bool, false≢true}
+use Rattle.std.proofs.lemmas.Bool.{cases_Bool}
 use Rattle.std.proofs.lemmas.List.Elements.{All-nil, All-cons, All-head, All-tail, All-append, All-map}
 use Rattle.m51_cells.proofs.KindLaws.{absolute_is}
 use Rattle.m51_cells.specs.declared.kind.Kind.TheVariants.{Code, Number}
 use Rattle.m51_cells.specs.declared.kind.Reloc.{Reloc}
-use Rattle.m51_cells.specs.declared.kind.Reloc.TheVariants.{Abs, Unit as UnitType, Bitaddressable, Inpage, Inblock, Page}
+use Rattle.m51_cells.specs.declared.kind.Reloc.TheVariants.{Abs}
 use Rattle.m51_cells.specs.Fits.{allows, Fits}
 use Rattle.m51_cells.proofs.KindLaws.{overlay_kind, overlay_reloc}
 use Rattle.m51_control.specs.declared.control.Control.{Control}

@@ -1,8 +1,8 @@
 -- The layout of what was placed is sound.
 use Rattle.std.proofs.Common.{◌≡◌, ◌≢◌, inl, inr, ℕ, zero, suc, ◌+◌, ◌<◌, ◌≤◌, true, false, Bool, cond, List, [], ◌∷◌, ◌++◌, length, map, get_or, Option, Some, None, refl, sym, ap, subst, ◌∙◌, arith}
-use Rattle.std.specs.Prelude.{◌==◌, slice_get, option_map}
+use Rattle.std.specs.Prelude.{slice_get, option_map}
 use Rattle.std.specs.Option.{option_map_or}
-use Rattle.std.specs.List.{Contains, filter, range_with_len}
+use Rattle.std.specs.List.{Contains, range_with_len}
 use Rattle.std.proofs.lemmas.Bool.Decides.{Decides-eqb}
 use Rattle.std.proofs.lemmas.List.{append-nil}
 use Rattle.std.proofs.lemmas.List.Elements.{All-get_or, Contains-append_cases}
@@ -24,7 +24,7 @@ use Rattle.m51_module.specs.Sound.{IsFit, IsSound}
 use Rattle.m51_module.specs.Rising.{Rises}
 use Rattle.m51_module.proofs.Conflicts.{conflict_back, related_there}
 use Rattle.m51_module.proofs.Reach.{reach_edge}
-use Rattle.m51_module.proofs.Owning.{contains_behind, first_or_behind, none_in_empty, pair_of_owner}
+use Rattle.m51_module.proofs.Owning.{contains_behind, first_or_behind, none_in_empty, owners_by, pair_of_owner}
 use Rattle.m51_resolve.specs.declared.segment.JoinedSegment.{JoinedSegment}
 use Rattle.m51_graph.specs.declared.parts.GraphParts.{GraphParts}
 use Rattle.m51_graph.specs.Drawing.{edge_test}
@@ -53,7 +53,7 @@ image_in f xs k x h =
     let at : slice_get (map f xs) k ≡ Some (f x) = slice_get-map f xs k ∙ ap (option_map f) h in
     (k, slice_get_within (map f xs) k (f x) at, get_or_from_slice_get (map f xs) k (f x) (f x) at)
 
-map_at : {A B : Type 0} (f : A → B) (xs : List A) (k : ℕ) (y : B) (read : Option A) → slice_get xs k ≡ read → slice_get (map f xs) k ≡ Some y → (x : A) × (slice_get xs k ≡ Some x) × (f x ≡ y)
+pub map_at : {A B : Type 0} (f : A → B) (xs : List A) (k : ℕ) (y : B) (read : Option A) → slice_get xs k ≡ read → slice_get (map f xs) k ≡ Some y → (x : A) × (slice_get xs k ≡ Some x) × (f x ≡ y)
 map_at f xs k y None is h = absurd (no_image f y (sym (slice_get-map f xs k ∙ ap (option_map f) is) ∙ h))
 map_at f xs k y (Some x) is h = (x, is, same_Some (f x) y (sym (slice_get-map f xs k ∙ ap (option_map f) is) ∙ h))
 
@@ -65,7 +65,7 @@ number_of : (e : Numbered) (number : Option ℕ) → e.number ≡ number → (e.
 number_of e None is h = absurd (h is)
 number_of e (Some n) is h = (n, is)
 
-owner_number : (g : GraphParts) (e : Numbered) (number : Option ℕ) (unit : ℕ) → e.number ≡ number → Contains (owners_of_extent g e) unit → (n : ℕ) × (e.number ≡ Some n) × Contains (owners_at g n) unit
+pub owner_number : (g : GraphParts) (e : Numbered) (number : Option ℕ) (unit : ℕ) → e.number ≡ number → Contains (owners_of_extent g e) unit → (n : ℕ) × (e.number ≡ Some n) × Contains (owners_at g n) unit
 owner_number g e None unit is h = absurd (none_in_empty unit (subst (λ (number : Option ℕ). Contains (option_map_or (owners_at g) number []) unit) is h))
 owner_number g e (Some n) unit is h = (n, is, subst (λ (number : Option ℕ). Contains (option_map_or (owners_at g) number []) unit) is h)
 
@@ -91,26 +91,22 @@ paired g first (e ∷ es) place unit h = elim (Contains-append_cases (pairs_with
   | inr behind ↦ let rest = paired g (first + 1) es place unit behind in record { k = suc rest.k; place_is = omega (arith, rest.place_is); e = rest.e; at = rest.at; owner = rest.owner }
 ]
 
--- the owners of one index
-abbrev chosen : Bool → ℕ × ℕ → List (ℕ × ℕ) → ℕ → List ℕ
-chosen b pair more s = map (λ (p : ℕ × ℕ). p.1) (cond b (pair ∷ filter (λ (p : ℕ × ℕ). p.0 == s) more) (filter (λ (p : ℕ × ℕ). p.0 == s) more))
-
 owners_head : (place s : ℕ) (owners : List ℕ) (more : List (ℕ × ℕ)) → place ≡ s → owners_of (pairs_with place owners ++ more) s ≡ owners ++ owners_of more s
 owners_head place s [] more is = refl
 owners_head place s (u ∷ us) more is =
-    ap (λ (b : Bool). chosen b (place, u) (pairs_with place us ++ more) s) ((Decides-eqb place s).1 is)
+    ap (λ (b : Bool). owners_by b (place, u) (pairs_with place us ++ more) s) ((Decides-eqb place s).1 is)
     ∙ ap (λ (xs : List ℕ). u ∷ xs) (owners_head place s us more is)
 
 owners_skip : (place s : ℕ) (owners : List ℕ) (more : List (ℕ × ℕ)) → place ≢ s → owners_of (pairs_with place owners ++ more) s ≡ owners_of more s
 owners_skip place s [] more ne = refl
 owners_skip place s (u ∷ us) more ne =
-    ap (λ (b : Bool). chosen b (place, u) (pairs_with place us ++ more) s) (other_number place s ne) ∙ owners_skip place s us more ne
+    ap (λ (b : Bool). owners_by b (place, u) (pairs_with place us ++ more) s) (other_number place s ne) ∙ owners_skip place s us more ne
 
 owners_before : (g : GraphParts) (first : ℕ) (es : List Numbered) (s : ℕ) → s < first → owners_of (owner_pairs g first es) s ≡ []
 owners_before g first [] s less = refl
 owners_before g first (e ∷ es) s less = owners_skip first s (owners_of_extent g e) (owner_pairs g (first + 1) es) (omega (arith, less)) ∙ owners_before g (first + 1) es s (omega (arith, less))
 
-owners_there : (g : GraphParts) (first : ℕ) (es : List Numbered) (k : ℕ) (e : Numbered) → slice_get es k ≡ Some e → owners_of (owner_pairs g first es) (first + k) ≡ owners_of_extent g e
+pub owners_there : (g : GraphParts) (first : ℕ) (es : List Numbered) (k : ℕ) (e : Numbered) → slice_get es k ≡ Some e → owners_of (owner_pairs g first es) (first + k) ≡ owners_of_extent g e
 owners_there g first [] k e h = absurd (cc h)
 owners_there g first (x ∷ es) zero e h =
     let same : x ≡ e = cc h in
@@ -134,7 +130,7 @@ unfolding callers_of
 callers_rise g unit =
     AllPairs-filter (λ x y. x < y) (λ caller. edge_test g.edges caller unit) (range_with_len 0 (length g.units)) (range_rises (length g.units))
 
-abbrev others_of : GraphParts → Bool → ℕ → List ℕ
+abbrev pub others_of : GraphParts → Bool → ℕ → List ℕ
 others_of g argument own = cond argument (callers_of g own) []
 
 others_rise : (g : GraphParts) (argument : Bool) (own : ℕ) → Rises (others_of g argument own)
@@ -163,7 +159,7 @@ module _ (segments : List JoinedSegment) (controls : List (ℕ × Control)) (g :
     is : e.placed ≡ p
     spot : IsSpot g segments e
 
-  spot_at : (s : ℕ) (e : Numbered) → slice_get located s ≡ Some e → IsSpot g segments e
+  pub spot_at : (s : ℕ) (e : Numbered) → slice_get located s ≡ Some e → IsSpot g segments e
   spot_at s e at = subst (λ x. IsSpot g segments x) (get_or_from_slice_get located s e e at) (All-get_or (IsSpot g segments) located s e (slice_get_within located s e at) whole.spots)
 
   stands : (s : ℕ) (p : Placed) → IsPlaced l s p → Stands s p
@@ -210,7 +206,7 @@ module _ (segments : List JoinedSegment) (controls : List (ℕ × Control)) (g :
       record { n = n; j = segment.0; at = segment.1; e = place.e; place = at; number = place.number; of = of; is_it = same_Some of.j segment.0 (sym of.is ∙ segment.1.segment) }
 
   -- roots are those of the graph
-  root_in : (vector unit : ℕ) → IsRootAt l vector unit → graph.IsRootAt g vector unit
+  pub root_in : (vector unit : ℕ) → IsRootAt l vector unit → graph.IsRootAt g vector unit
   root_in vector unit h =
       let u = unit_at unit h.unit_is.segment h.unit_is.unit_is in
       let same : u.e.placed ≡ h.is = same_Some u.e.placed h.is (sym (placed_at h.unit_is.segment u.e u.place) ∙ h.unit_is.placed) in
@@ -225,7 +221,7 @@ module _ (segments : List JoinedSegment) (controls : List (ℕ × Control)) (g :
       (subst (λ b. Contains (roots_of segments) (b, unit)) (ap (λ (x : JoinedSegment). x.base) (sym u.is_it) ∙ base)
       (subst (λ m. Contains (roots_of segments) (j.base, m)) number pair))
 
-  root_out : (vector unit : ℕ) → graph.IsRootAt g vector unit → IsRootAt l vector unit
+  pub root_out : (vector unit : ℕ) → graph.IsRootAt g vector unit → IsRootAt l vector unit
   root_out vector unit h =
       let root = root_found 0 (code_segments segments) vector unit (subst (λ (rs : List (ℕ × ℕ)). Contains rs (vector, unit)) shape.roots h) in
       let unit_is : root.k ≡ unit = omega (arith, root.number) in
@@ -249,10 +245,10 @@ module _ (segments : List JoinedSegment) (controls : List (ℕ × Control)) (g :
         base = (of.fixed abs).1 ∙ ap (λ (x : JoinedSegment). x.base) same ∙ root.base;
       }
 
-  lies_in : (vector unit : ℕ) → UnitLiesUnder l vector unit → graph.UnitLiesUnder g vector unit
+  pub lies_in : (vector unit : ℕ) → UnitLiesUnder l vector unit → graph.UnitLiesUnder g vector unit
   lies_in vector unit h = record { root = h.root; is_root = root_in vector h.root h.is_root; leads = h.leads }
 
-  lies_out : (vector unit : ℕ) → graph.UnitLiesUnder g vector unit → UnitLiesUnder l vector unit
+  pub lies_out : (vector unit : ℕ) → graph.UnitLiesUnder g vector unit → UnitLiesUnder l vector unit
   lies_out vector unit h = record { root = h.root; is_root = root_out vector h.root h.is_root; leads = h.leads }
 
   -- the layout has the units of the graph

@@ -66,7 +66,7 @@ memory_inside Abs base size at h from below = let ends : base + size ≤ 0x10000
 memory_inside UnitType base size at h from below = let ends : base + size ≤ 0x10000 = h in omega (arith, ends, below)
 memory_inside Bitaddressable base size at h from below = let ends : base + size ≤ 0x10000 = h in omega (arith, ends, below)
 
-direct_ends : (reloc : Reloc) (base size : ℕ) → Fits Direct reloc base size → base + size ≤ 0x80
+pub direct_ends : (reloc : Reloc) (base size : ℕ) → Fits Direct reloc base size → base + size ≤ 0x80
 direct_ends Bitaddressable base size h = omega (arith, h.1)
 direct_ends Abs base size h = h
 direct_ends UnitType base size h = h

@@ -1,7 +1,7 @@
 -- The fixed extents: what each is, which joined numbers they have, and that no two of them share a cell.
 use Rattle.std.proofs.Common.{◌≡◌, ℕ, suc, ◌+◌, ◌-◌, ◌*◌, ◌<◌, ◌≤◌, true, false, Bool, cond, nat_eq, List, [], ◌∷◌, ◌++◌, length, get_or, codes, Option, Some, None, unwrap_or, refl, sym, ap, subst, ◌∙◌, arith, append_assoc, length-append}
 use Rattle.std.specs.Prelude.{position, option_map}
-use Rattle.std.specs.Option.{option_map_or, option_or}
+use Rattle.std.specs.Option.{option_map_or}
 use Rattle.std.specs.List.{All, AllPairs, cons_option, position_or_len, sum_by}
 use Rattle.std.proofs.lemmas.Bool.{false≢true}
 use Rattle.std.proofs.lemmas.List.{append-nil}
@@ -35,10 +35,10 @@ use Rattle.m51_place.proofs.Spots.{absolute_spots, IsSpot}
 use Rattle.m51_place.proofs.Ranks.{extent_count, from_start}
 
 -- an extent that is no segment
-record IsFree (e : Numbered) : Type 0 where
-  number : e.number ≡ None
-  fit : IsFit e.placed
-  free : IsSegment e.placed.mark → ⊥
+pub record IsFree (e : Numbered) : Type 0 where
+  pub number : e.number ≡ None
+  pub fit : IsFit e.placed
+  pub free : IsSegment e.placed.mark → ⊥
 
 bank_free : (title : List ℕ) (base : ℕ) → base ≤ 24 → IsFree (bank title base)
 bank_free title base low = record {
@@ -56,7 +56,7 @@ bank_if_free : (used : Bool) (title : List ℕ) (base : ℕ) → base ≤ 24 →
 bank_if_free true title base low = All-cons IsFree (bank title base) [] (bank_free title base low) (All-nil IsFree)
 bank_if_free false title base low = All-nil IsFree
 
-banks_free : (modules : List ModuleParts) → All IsFree (banks_of modules)
+pub banks_free : (modules : List ModuleParts) → All IsFree (banks_of modules)
 banks_free modules =
     let one = bank_if (uses modules 2) (codes "BANK1") 8 in
     let two = bank_if (uses modules 4) (codes "BANK2") 16 in
@@ -117,7 +117,7 @@ reserve_free (Cut from names) e allowed is = absurd (cc is)
 reserve_free (NoOverlay name) e allowed is = absurd (cc is)
 reserve_free (Order class names) e allowed is = absurd (cc is)
 
-reserves_free : (controls : List (ℕ × Control)) → All (λ (line : ℕ × Control). IsAllowed line.1) controls → All IsFree (reserves_of controls)
+pub reserves_free : (controls : List (ℕ × Control)) → All (λ (line : ℕ × Control). IsAllowed line.1) controls → All IsFree (reserves_of controls)
 reserves_free [] allowed = All-nil IsFree
 reserves_free (line ∷ more) allowed =
     let A : ℕ × Control → Type 0 = λ l. IsAllowed l.1 in

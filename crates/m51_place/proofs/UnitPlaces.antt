@@ -6,9 +6,6 @@ use Rattle.std.proofs.lemmas.Bool.{false≢true}
 use Rattle.std.proofs.lemmas.Bool.Decides.{Decides-eqb}
 use Rattle.std.proofs.lemmas.List.Folds.{list_any_at}
 use Rattle.std.proofs.lemmas.Option.{same_Some}
-use Rattle.m51_cells.proofs.KindLaws.{code_is}
-use Rattle.m51_cells.specs.declared.kind.Kind.{Kind}
-use Rattle.m51_cells.specs.declared.kind.Kind.TheVariants.{Code, Xdata, Direct, Idata, Bits, Number}
 use Rattle.m51_module.specs.Roots.{vectors}
 use Rattle.m51_module.proofs.Owning.{contains_behind, first_or_behind, none_in_empty}
 use Rattle.m51_resolve.specs.declared.segment.JoinedSegment.{JoinedSegment}

@@ -1,6 +1,6 @@
 -- The units of a walk have together at most 256 bytes of overlaid DATA.
-use Rattle.std.proofs.Common.{◌≡◌, ◌≢◌, inl, inr, ℕ, zero, suc, ◌+◌, ◌-◌, ◌*◌, ◌<◌, ◌≤◌, true, false, Bool, cond, ◌&&◌, nat_eq, List, [], ◌∷◌, map, refl, sym, ap, subst, ◌∙◌, arith}
-use Rattle.std.specs.Prelude.{nat_lt}
+use Rattle.std.proofs.Common.{◌≡◌, ◌≢◌, inl, inr, ℕ, zero, suc, ◌+◌, ◌-◌, ◌*◌, ◌<◌, ◌≤◌, true, false, Bool, cond, ◌&&◌, nat_eq, List, [], ◌∷◌, map, Some, refl, sym, ap, subst, ◌∙◌, arith}
+use Rattle.std.specs.Prelude.{nat_lt, slice_get}
 use Rattle.std.specs.List.{Contains}
 use Rattle.std.proofs.lemmas.Bool.{false≢true}
 use Rattle.std.proofs.lemmas.Bool.Decides.{Decides-eqb, Decides-ltb}
@@ -14,17 +14,19 @@ use Rattle.m51_cells.specs.declared.kind.Kind.{Kind}
 use Rattle.m51_cells.specs.declared.kind.Kind.TheVariants.{Code, Xdata, Direct, Idata, Bits, Number}
 use Rattle.m51_cells.specs.declared.kind.Reloc.{Reloc}
 use Rattle.m51_cells.specs.declared.kind.Reloc.TheVariants.{Abs, Unit as UnitType, Bitaddressable, Inpage, Inblock, Page}
-use Rattle.m51_cells.specs.Extent.{extent_of, Covers}
+use Rattle.m51_cells.specs.Extent.{extent_of, Covers, Meet}
 use Rattle.m51_module.specs.declared.parts.LayoutParts.{LayoutParts}
 use Rattle.m51_module.specs.declared.placed.Mark.{Mark}
 use Rattle.m51_module.specs.declared.placed.Mark.TheVariants.{Bank, Reserve, Absolute, Plain, Overlaid}
 use Rattle.m51_module.specs.declared.placed.Placed.{Placed}
 use Rattle.m51_module.specs.Cells.{extent_at}
-use Rattle.m51_module.specs.Chains.{data_of, is_first, is_overlaid_data, weight_along, weight_of}
-use Rattle.m51_module.specs.Conflict.{Same, Before, After, Owners}
-use Rattle.m51_module.specs.Plan.{ExtentsConflict, IsPlaced, owners_of, Owns, UnitsRelated}
+use Rattle.m51_module.specs.Chains.{data_of, is_first, is_overlaid_data, sum_along, weight_along, weight_of}
+use Rattle.m51_module.specs.Conflict.{AreRelated, Same, Before, After, Owners}
+use Rattle.m51_module.specs.Plan.{layout_graph, owners_of}
+use Rattle.m51_module.specs.Program.{ProgramGraph}
+use Rattle.m51_module.specs.Roots.{LiesUnder}
 use Rattle.m51_cells.specs.Cells.{cells_in}
-use Rattle.m51_module.specs.Sound.{IsSound}
+use Rattle.m51_module.specs.Sound.{IsInside, IsSound}
 use Rattle.m51_module.specs.Walks.{Edges, IsWalk, Reaches}
 use Rattle.m51_module.proofs.Owning.{contains_behind, first_or_behind, none_in_empty}
 use Rattle.m51_module.proofs.Reach.{reach_edge, reach_from}
@@ -128,7 +130,7 @@ once_sum size (u ∷ us) own others h = elim (cases_Bool (nat_eq u own)) as (λ 
       omega (arith, zero_is, once_sum size us own others (omega (arith, h)))
 ]
 
-data_kind : (kind : Kind) (reloc : Reloc) (mark : Mark) → is_overlaid_data kind reloc mark ≡ true → (kind ≡ Direct) × (mark ≡ Overlaid)
+pub data_kind : (kind : Kind) (reloc : Reloc) (mark : Mark) → is_overlaid_data kind reloc mark ≡ true → (kind ≡ Direct) × (mark ≡ Overlaid)
 data_kind Direct UnitType Overlaid h = (refl, refl)
 data_kind Direct UnitType Bank h = absurd (false≢true h)
 data_kind Direct UnitType Reserve h = absurd (false≢true h)
@@ -148,134 +150,177 @@ data_kind Number reloc mark h = absurd (false≢true h)
 abbrev pub is_data : Placed → Bool
 is_data p = is_overlaid_data p.kind p.reloc p.mark
 
-module _ (l : LayoutParts) (sound : IsSound l) where
+-- Extents, the owners of each, and the graph of their program: no unit reaches itself, an owner lies under at most one
+-- root, and extents of which two owners are related share no cell.
+pub record AreKeptApart (p : ProgramGraph) (placed : List Placed) (owners : ℕ → List ℕ) : Type 0 where
+  pub inside : (n : ℕ) (e : Placed) → slice_get placed n ≡ Some e → IsInside (extent_at e)
+  pub no_cycle : (u : ℕ) → Reaches p.edges u u → ⊥
+  pub one_root : (n u x y : ℕ) → Contains (owners n) u → LiesUnder p x u → LiesUnder p y u → x ≡ y
+  pub apart : (n m one two : ℕ) (e f : Placed) → slice_get placed n ≡ Some e → slice_get placed m ≡ Some f → n ≢ m
+      → Contains (owners n) one → Contains (owners m) two → AreRelated p one two → Meet (extent_at e) (extent_at f) → ⊥
+
+-- those of a sound layout are so
+pub sound_apart : (l : LayoutParts) → IsSound l → AreKeptApart (layout_graph l) l.placed (owners_of l.owners)
+sound_apart l sound = record {
+  inside = λ n e at. (sound.fit n e at).inside;
+  no_cycle = sound.no_cycle;
+  one_root = sound.one_root;
+  apart = λ n m one two e f at at' ne first second related. sound.apart n m e f at at' ne (Owners one two first second related);
+}
+
+-- the size of an extent of overlaid DATA whose own unit is this one
+abbrev pub of_unit : (ℕ → List ℕ) → ℕ → ℕ → Placed → ℕ
+of_unit owners u n e = cond (is_data e && is_first u (owners n)) e.size 0
+
+module _ (p : ProgramGraph) (placed : List Placed) (owners : ℕ → List ℕ) (are : AreKeptApart p placed owners) where
+  abbrev IsAt : ℕ → Placed → Type 0
+  IsAt n e = slice_get placed n ≡ Some e
+
+  -- an owner of the one and an owner of the other are related
+  pub record HaveRelated (n m : ℕ) : Type 0 where
+    pub one : ℕ
+    pub two : ℕ
+    pub first : Contains (owners n) one
+    pub second : Contains (owners m) two
+    pub related : AreRelated p one two
+
   -- overlaid DATA ends in internal RAM
-  cell_in : (p : Placed) (byte : ℕ) → is_data p ≡ true → has_byte p.base p.size byte ≡ true → Covers (extent_at p) (record { space = Ram; at = 8 * byte })
-  cell_in p byte d h =
-      let kind = (data_kind p.kind p.reloc p.mark d).0 in
-      let inside = (has_byte_tells p.base p.size byte).0 h in
-      subst (λ k. Covers (extent_of k p.base p.size) (record { space = Ram; at = 8 * byte })) (sym kind)
+  cell_in : (e : Placed) (byte : ℕ) → is_data e ≡ true → has_byte e.base e.size byte ≡ true → Covers (extent_at e) (record { space = Ram; at = 8 * byte })
+  cell_in e byte d h =
+      let kind = (data_kind e.kind e.reloc e.mark d).0 in
+      let inside = (has_byte_tells e.base e.size byte).0 h in
+      subst (λ k. Covers (extent_of k e.base e.size) (record { space = Ram; at = 8 * byte })) (sym kind)
       (record { space = refl; from = omega (arith, inside.0); below = omega (arith, inside.1) })
 
-  ends_in : (n : ℕ) (p : Placed) → IsPlaced l n p → is_data p ≡ true → 0 < p.size → p.base + p.size ≤ 256
-  ends_in n p at d some =
-      let last : ℕ = p.base + p.size - 1 in
-      let in_last : has_byte p.base p.size last ≡ true = (has_byte_tells p.base p.size last).1 (omega (arith, some), omega (arith, some)) in
-      let kind = (data_kind p.kind p.reloc p.mark d).0 in
-      let below : 8 * last < 2048 = subst (λ k. 8 * last < cells_in (extent_of k p.base p.size).space) kind ((sound.fit n p at).inside (record { space = Ram; at = 8 * last }) (cell_in p last d in_last)) in
+  ends_in : (n : ℕ) (e : Placed) → IsAt n e → is_data e ≡ true → 0 < e.size → e.base + e.size ≤ 256
+  ends_in n e at d some =
+      let last : ℕ = e.base + e.size - 1 in
+      let in_last : has_byte e.base e.size last ≡ true = (has_byte_tells e.base e.size last).1 (omega (arith, some), omega (arith, some)) in
+      let kind = (data_kind e.kind e.reloc e.mark d).0 in
+      let below : 8 * last < 2048 = subst (λ k. 8 * last < cells_in (extent_of k e.base e.size).space) kind (are.inside n e at (record { space = Ram; at = 8 * last }) (cell_in e last d in_last)) in
       omega (arith, below, some)
 
   -- segments of overlaid DATA, each two of them in conflict, have no more bytes than they cover
   module _ (test : ℕ → Bool) (hit : ℕ → Bool)
-      (conflict : (n m : ℕ) (p q : Placed) → n < m → IsPlaced l n p → IsPlaced l m q → is_data p ≡ true → is_data q ≡ true → test n ≡ true → test m ≡ true → ExtentsConflict l n m)
-      (first_met : (byte n : ℕ) (p : Placed) → IsPlaced l n p → is_data p ≡ true → has_byte p.base p.size byte ≡ true → hit byte ≡ true) where
+      (conflict : (n m : ℕ) (e f : Placed) → n < m → IsAt n e → IsAt m f → is_data e ≡ true → is_data f ≡ true → test n ≡ true → test m ≡ true → HaveRelated n m)
+      (first_met : (byte n : ℕ) (e : Placed) → IsAt n e → is_data e ≡ true → test n ≡ true → has_byte e.base e.size byte ≡ true → hit byte ≡ true) where
     abbrev pub chosen : ℕ → Placed → Bool
-    chosen n p = is_data p && test n
+    chosen n e = is_data e && test n
 
     abbrev pub chosen_size : ℕ → Placed → ℕ
-    chosen_size n p = cond (chosen n p) p.size 0
+    chosen_size n e = cond (chosen n e) e.size 0
 
-    apart : (byte n m : ℕ) (p q : Placed) → n < m → IsPlaced l n p → IsPlaced l m q → chosen n p ≡ true → chosen m q ≡ true → has_byte p.base p.size byte ≡ true → has_byte q.base q.size byte ≡ true → ⊥
-    apart byte n m p q less at at' c c' h h' =
-        let a = and_parts (is_data p) (test n) c in
-        let b = and_parts (is_data q) (test m) c' in
-        sound.apart n m p q at at' (omega (arith, less)) (conflict n m p q less at at' a.0 b.0 a.1 b.1) (record { space = Ram; at = 8 * byte }, cell_in p byte a.0 h, cell_in q byte b.0 h')
+    apart : (byte n m : ℕ) (e f : Placed) → n < m → IsAt n e → IsAt m f → chosen n e ≡ true → chosen m f ≡ true → has_byte e.base e.size byte ≡ true → has_byte f.base f.size byte ≡ true → ⊥
+    apart byte n m e f less at at' c c' h h' =
+        let a = and_parts (is_data e) (test n) c in
+        let b = and_parts (is_data f) (test m) c' in
+        let have = conflict n m e f less at at' a.0 b.0 a.1 b.1 in
+        are.apart n m have.one have.two e f at at' (λ same. absurd (omega (arith, less, same))) have.first have.second have.related
+        (record { space = Ram; at = 8 * byte }, cell_in e byte a.0 h, cell_in f byte b.0 h')
 
-    met_chosen : (byte n : ℕ) (p : Placed) → IsPlaced l n p → chosen n p ≡ true → has_byte p.base p.size byte ≡ true → hit byte ≡ true
-    met_chosen byte n p at c h = first_met byte n p at (and_parts (is_data p) (test n) c).0 h
+    met_chosen : (byte n : ℕ) (e : Placed) → IsAt n e → chosen n e ≡ true → has_byte e.base e.size byte ≡ true → hit byte ≡ true
+    met_chosen byte n e at c h = let both = and_parts (is_data e) (test n) c in first_met byte n e at both.0 both.1 h
 
-    sized : (n : ℕ) (p : Placed) → IsPlaced l n p → chosen_size n p ≤ cond (chosen n p) (bytes_below 256 p.base p.size) 0
-    sized n p at = elim (cases_Bool (chosen n p)) as (λ _. cond (chosen n p) p.size 0 ≤ cond (chosen n p) (bytes_below 256 p.base p.size) 0) [
+    sized : (n : ℕ) (e : Placed) → IsAt n e → chosen_size n e ≤ cond (chosen n e) (bytes_below 256 e.base e.size) 0
+    sized n e at = elim (cases_Bool (chosen n e)) as (λ _. cond (chosen n e) e.size 0 ≤ cond (chosen n e) (bytes_below 256 e.base e.size) 0) [
       | inl c ↦
-          let left : cond (chosen n p) p.size 0 ≡ p.size = ap (λ (b : Bool). cond b p.size 0) c in
-          let right : cond (chosen n p) (bytes_below 256 p.base p.size) 0 ≡ bytes_below 256 p.base p.size = ap (λ (b : Bool). cond b (bytes_below 256 p.base p.size) 0) c in
-          elim (cases_lt 0 p.size) as (λ _. cond (chosen n p) p.size 0 ≤ cond (chosen n p) (bytes_below 256 p.base p.size) 0) [
-            | inl some ↦ omega (arith, left, right, all_bytes 256 p.base p.size (ends_in n p at (and_parts (is_data p) (test n) c).0 some))
+          let left : cond (chosen n e) e.size 0 ≡ e.size = ap (λ (b : Bool). cond b e.size 0) c in
+          let right : cond (chosen n e) (bytes_below 256 e.base e.size) 0 ≡ bytes_below 256 e.base e.size = ap (λ (b : Bool). cond b (bytes_below 256 e.base e.size) 0) c in
+          elim (cases_lt 0 e.size) as (λ _. cond (chosen n e) e.size 0 ≤ cond (chosen n e) (bytes_below 256 e.base e.size) 0) [
+            | inl some ↦ omega (arith, left, right, all_bytes 256 e.base e.size (ends_in n e at (and_parts (is_data e) (test n) c).0 some))
             | inr none ↦ omega (arith, left, none)
           ]
-      | inr c ↦ let left : cond (chosen n p) p.size 0 ≡ 0 = ap (λ (b : Bool). cond b p.size 0) c in omega (arith, left)
+      | inr c ↦ let left : cond (chosen n e) e.size 0 ≡ 0 = ap (λ (b : Bool). cond b e.size 0) c in omega (arith, left)
     ]
 
-    pub no_more_than_covered : sum_from chosen_size 0 l.placed ≤ tally hit 256
+    pub no_more_than_covered : sum_from chosen_size 0 placed ≤ tally hit 256
     no_more_than_covered =
-        let bytes = sum_le chosen_size (λ n p. cond (chosen n p) (bytes_below 256 p.base p.size) 0) l.placed 0 l.placed (items_start l.placed) sized in
-        let most = no_more_than_met (λ (p : Placed). p.base) (λ (p : Placed). p.size) chosen hit l.placed apart met_chosen 256 in
+        let bytes = sum_le chosen_size (λ n e. cond (chosen n e) (bytes_below 256 e.base e.size) 0) placed 0 placed (items_start placed) sized in
+        let most = no_more_than_met (λ (e : Placed). e.base) (λ (e : Placed). e.size) chosen hit placed apart met_chosen 256 in
         omega (arith, bytes, most)
 
   -- the bytes of a list of units
   abbrev pub of_units : List ℕ → ℕ → Placed → ℕ
-  of_units units n p = cond (is_data p) (own_sum p.size units (owners_of l.owners n)) 0
+  of_units units n e = cond (is_data e) (own_sum e.size units (owners n)) 0
 
-  one_unit : (u number : ℕ) (rest : List Placed) → data_of l u number rest ≡ sum_from (λ n (p : Placed). cond (is_data p && is_first u (owners_of l.owners n)) p.size 0) number rest
-  one_unit u number [] = refl
-  one_unit u number (p ∷ more) = omega (arith, one_unit u (number + 1) more)
-
-  sum_by_nil : weight_along l [] ≡ 0
-  sum_by_nil = refl
-
-  split : (u : ℕ) (us : List ℕ) (n : ℕ) (p : Placed) → cond (is_data p && is_first u (owners_of l.owners n)) p.size 0 + of_units us n p ≤ of_units (u ∷ us) n p
-  split u us n p = elim (is_data p) as (λ b. cond (b && is_first u (owners_of l.owners n)) p.size 0 + cond b (own_sum p.size us (owners_of l.owners n)) 0 ≤ cond b (own_sum p.size (u ∷ us) (owners_of l.owners n)) 0) [
+  split : (u : ℕ) (us : List ℕ) (n : ℕ) (e : Placed) → of_unit owners u n e + of_units us n e ≤ of_units (u ∷ us) n e
+  split u us n e = elim (is_data e) as (λ b. cond (b && is_first u (owners n)) e.size 0 + cond b (own_sum e.size us (owners n)) 0 ≤ cond b (own_sum e.size (u ∷ us) (owners n)) 0) [
     | true ↦ omega arith
     | false ↦ omega arith
   ]
 
-  pub along : (units : List ℕ) → weight_along l units ≤ sum_from (of_units units) 0 l.placed
-  along [] = omega (arith, sum_by_nil)
-  along (u ∷ us) =
-      let first : ℕ → Placed → ℕ = λ n p. cond (is_data p && is_first u (owners_of l.owners n)) p.size 0 in
-      let joined = sum_le (λ n p. first n p + of_units us n p) (of_units (u ∷ us)) l.placed 0 l.placed (items_start l.placed) (λ n p at. split u us n p) in
-      omega (arith, sum_by-cons (λ (n : ℕ). n) (weight_of l u) (map (weight_of l) us), one_unit u 0 l.placed, sum_add first (of_units us) 0 l.placed, along us, joined)
+  -- where a unit weighs what it owns
+  module _ (w : ℕ → ℕ) (weighs : (u : ℕ) → w u ≡ sum_from (of_unit owners u) 0 placed) where
+    sum_by_nil : sum_along w [] ≡ 0
+    sum_by_nil = refl
 
-  -- units of which each two are related, and of which none that owns a segment stands twice
-  module _ (units : List ℕ) (once : (n own : ℕ) → Owns l own n → times own units ≤ 1) (related : (a b : ℕ) → Contains units a → Contains units b → UnitsRelated l a b) where
-    abbrev of_list : ℕ → Bool
-    of_list n = nat_lt 0 (own_times units (owners_of l.owners n))
+    pub along : (units : List ℕ) → sum_along w units ≤ sum_from (of_units units) 0 placed
+    along [] = omega (arith, sum_by_nil)
+    along (u ∷ us) =
+        let first : ℕ → Placed → ℕ = of_unit owners u in
+        let joined = sum_le (λ n e. first n e + of_units us n e) (of_units (u ∷ us)) placed 0 placed (items_start placed) (λ n e at. split u us n e) in
+        omega (arith, sum_by-cons (λ (n : ℕ). n) (w u) (map w us), weighs u, sum_add first (of_units us) 0 placed, along us, joined)
 
-    own_of : (n : ℕ) (owners : List ℕ) → owners_of l.owners n ≡ owners → nat_lt 0 (own_times units owners) ≡ true → (own : ℕ) × Owns l own n × Contains units own
-    own_of n [] is h = absurd (omega (arith, (Decides-ltb 0 0).0 h))
-    own_of n (own ∷ others) is h = (own, subst (λ (us : List ℕ). Contains us own) (sym is) (0, omega arith, refl), present own units ((Decides-ltb 0 (times own units)).0 h))
+    -- units of which each two are related, and of which none that owns a segment stands twice
+    module _ (units : List ℕ) (once : (n own : ℕ) → Contains (owners n) own → times own units ≤ 1) (related : (a b : ℕ) → Contains units a → Contains units b → AreRelated p a b) where
+      abbrev of_list : ℕ → Bool
+      of_list n = nat_lt 0 (own_times units (owners n))
 
-    in_conflict : (n m : ℕ) (p q : Placed) → n < m → IsPlaced l n p → IsPlaced l m q → is_data p ≡ true → is_data q ≡ true → of_list n ≡ true → of_list m ≡ true → ExtentsConflict l n m
-    in_conflict n m p q less at at' d d' h h' =
-        let a = own_of n (owners_of l.owners n) refl h in
-        let b = own_of m (owners_of l.owners m) refl h' in
-        Owners a.0 b.0 a.1 b.1 (related a.0 b.0 a.2 b.2)
+      own_of : (n : ℕ) (all : List ℕ) → owners n ≡ all → nat_lt 0 (own_times units all) ≡ true → (own : ℕ) × Contains (owners n) own × Contains units own
+      own_of n [] is h = absurd (omega (arith, (Decides-ltb 0 0).0 h))
+      own_of n (own ∷ others) is h = (own, subst (λ (us : List ℕ). Contains us own) (sym is) (0, omega arith, refl), present own units ((Decides-ltb 0 (times own units)).0 h))
 
-    owner_bound : (n size : ℕ) (owners : List ℕ) → owners_of l.owners n ≡ owners → own_sum size units owners ≤ cond (nat_lt 0 (own_times units owners)) size 0
-    owner_bound n size [] is = omega (arith, no_owner_sum size units)
-    owner_bound n size (own ∷ others) is = elim (cases_Bool (nat_lt 0 (times own units))) as (λ _. own_sum size units (own ∷ others) ≤ cond (nat_lt 0 (times own units)) size 0) [
-      | inl some ↦
-          let right : cond (nat_lt 0 (times own units)) size 0 ≡ size = ap (λ (b : Bool). cond b size 0) some in
-          let owns : Owns l own n = subst (λ (us : List ℕ). Contains us own) (sym is) (0, omega arith, refl) in
-          omega (arith, right, once_sum size units own others (once n own owns))
-      | inr none ↦
-          let zero_is : times own units ≡ 0 = elim (cases_lt 0 (times own units)) as (λ _. times own units ≡ 0) [ inl less ↦ absurd (false≢true (sym none ∙ (Decides-ltb 0 (times own units)).1 less)) | inr z ↦ omega (arith, z) ] in
-          omega (arith, absent_sum size units own others zero_is)
-    ]
+      in_conflict : (n m : ℕ) (e f : Placed) → n < m → IsAt n e → IsAt m f → is_data e ≡ true → is_data f ≡ true → of_list n ≡ true → of_list m ≡ true → HaveRelated n m
+      in_conflict n m e f less at at' d d' h h' =
+          let a = own_of n (owners n) refl h in
+          let b = own_of m (owners m) refl h' in
+          record { one = a.0; two = b.0; first = a.1; second = b.1; related = related a.0 b.0 a.2 b.2 }
 
-    listed : (n : ℕ) (p : Placed) → of_units units n p ≤ cond (is_data p && of_list n) p.size 0
-    listed n p = elim (is_data p) as (λ b. cond b (own_sum p.size units (owners_of l.owners n)) 0 ≤ cond (b && of_list n) p.size 0) [
-      | true ↦ owner_bound n p.size (owners_of l.owners n) refl
-      | false ↦ omega arith
-    ]
+      owner_bound : (n size : ℕ) (all : List ℕ) → owners n ≡ all → own_sum size units all ≤ cond (nat_lt 0 (own_times units all)) size 0
+      owner_bound n size [] is = omega (arith, no_owner_sum size units)
+      owner_bound n size (own ∷ others) is = elim (cases_Bool (nat_lt 0 (times own units))) as (λ _. own_sum size units (own ∷ others) ≤ cond (nat_lt 0 (times own units)) size 0) [
+        | inl some ↦
+            let right : cond (nat_lt 0 (times own units)) size 0 ≡ size = ap (λ (b : Bool). cond b size 0) some in
+            let owns : Contains (owners n) own = subst (λ (us : List ℕ). Contains us own) (sym is) (0, omega arith, refl) in
+            omega (arith, right, once_sum size units own others (once n own owns))
+        | inr none ↦
+            let zero_is : times own units ≡ 0 = elim (cases_lt 0 (times own units)) as (λ _. times own units ≡ 0) [ inl less ↦ absurd (false≢true (sym none ∙ (Decides-ltb 0 (times own units)).1 less)) | inr z ↦ omega (arith, z) ] in
+            omega (arith, absent_sum size units own others zero_is)
+      ]
 
-    pub units_bound : (hit : ℕ → Bool) → ((byte n : ℕ) (p : Placed) → IsPlaced l n p → is_data p ≡ true → has_byte p.base p.size byte ≡ true → hit byte ≡ true) → weight_along l units ≤ tally hit 256
-    units_bound hit first_met =
-        omega (
-          arith,
-          along units,
-          sum_le (of_units units) (λ n (p : Placed). cond (is_data p && of_list n) p.size 0) l.placed 0 l.placed (items_start l.placed) (λ n p at. listed n p),
-          no_more_than_covered of_list hit in_conflict first_met,
-        )
+      listed : (n : ℕ) (e : Placed) → of_units units n e ≤ cond (is_data e && of_list n) e.size 0
+      listed n e = elim (is_data e) as (λ b. cond b (own_sum e.size units (owners n)) 0 ≤ cond (b && of_list n) e.size 0) [
+        | true ↦ owner_bound n e.size (owners n) refl
+        | false ↦ omega arith
+      ]
 
-  -- the units of a walk
-  walk_related : (u : ℕ) (more : List ℕ) → IsWalk l.edges u more → (a b : ℕ) → Contains (u ∷ more) a → Contains (u ∷ more) b → UnitsRelated l a b
-  walk_related u more walk a b p q = elim (in_line l.edges u more a b walk p q) as (λ _. UnitsRelated l a b) [ One same ↦ Same same | First r ↦ Before r | Second r ↦ After r ]
+      pub units_bound : sum_along w units ≤ tally (λ byte. true) 256
+      units_bound =
+          omega (
+            arith,
+            along units,
+            sum_le (of_units units) (λ n (e : Placed). cond (is_data e && of_list n) e.size 0) placed 0 placed (items_start placed) (λ n e at. listed n e),
+            no_more_than_covered of_list (λ byte. true) in_conflict (λ byte n e at d of h. refl),
+          )
 
-  all_hit : (n : ℕ) → tally (λ byte. true) n ≡ n
-  all_hit zero = refl
-  all_hit (suc n) = omega (arith, all_hit n)
+all_hit : (n : ℕ) → tally (λ byte. true) n ≡ n
+all_hit zero = refl
+all_hit (suc n) = omega (arith, all_hit n)
 
-  pub walk_bound : (u : ℕ) (more : List ℕ) → IsWalk l.edges u more → weight_along l (u ∷ more) ≤ 256
-  walk_bound u more walk =
-      omega (arith, all_hit 256, units_bound (u ∷ more) (λ n own owns. once_in_walk l.edges sound.no_cycle u more own walk) (walk_related u more walk) (λ byte. true) (λ byte n p at d h. refl))
+-- the units of a walk
+walk_related : (p : ProgramGraph) (u : ℕ) (more : List ℕ) → IsWalk p.edges u more → (a b : ℕ) → Contains (u ∷ more) a → Contains (u ∷ more) b → AreRelated p a b
+walk_related p u more walk a b h k = elim (in_line p.edges u more a b walk h k) as (λ _. AreRelated p a b) [ One same ↦ Same same | First r ↦ Before r | Second r ↦ After r ]
+
+-- a unit of a layout weighs what it owns
+pub layout_weighs : (l : LayoutParts) (u number : ℕ) (rest : List Placed) → data_of l u number rest ≡ sum_from (of_unit (owners_of l.owners) u) number rest
+layout_weighs l u number [] = refl
+layout_weighs l u number (e ∷ more) = omega (arith, layout_weighs l u (number + 1) more)
+
+pub walk_bound : (l : LayoutParts) (sound : IsSound l) (u : ℕ) (more : List ℕ) → IsWalk l.edges u more → weight_along l (u ∷ more) ≤ 256
+walk_bound l sound u more walk =
+    omega (
+      arith,
+      all_hit 256,
+      units_bound (layout_graph l) l.placed (owners_of l.owners) (sound_apart l sound) (weight_of l) (λ v. layout_weighs l v 0 l.placed) (u ∷ more)
+          (λ n own owns. once_in_walk l.edges sound.no_cycle u more own walk) (walk_related (layout_graph l) u more walk),
+    )

@@ -44,13 +44,13 @@ pub record IsWhole (g : GraphParts) (segments : List JoinedSegment) (located : L
   pub once : (m : ℕ) → m < length segments → sum_by (extent_count m) located ≡ 1
   pub few : length located < 65536
 
-unless_none : {V : Type 0} (rule : Option Refusal) (after : Result V Refusal) (v : V) → unless rule after ≡ Ok v → (rule ≡ None) × (after ≡ Ok v)
+pub unless_none : {V : Type 0} (rule : Option Refusal) (after : Result V Refusal) (v : V) → unless rule after ≡ Ok v → (rule ≡ None) × (after ≡ Ok v)
 unless_none None after v h = (refl, h)
 unless_none (Some refusal) after v h = absurd (cc h)
 
 -- what is placed in an order
 module _ (g : GraphParts) (controls : List (ℕ × Control)) (segments : List JoinedSegment) (is : IsOf segments controls g) (joined : All IsJoined segments) where
-  later_spots : (order : List Ranked) (later : List Numbered) → AllZip IsPlacedRanked order later → All (IsRankedOf g segments) order → All (IsSpot g segments) later
+  pub later_spots : (order : List Ranked) (later : List Numbered) → AllZip IsPlacedRanked order later → All (IsRankedOf g segments) order → All (IsSpot g segments) later
   later_spots [] [] h all = All-nil (IsSpot g segments)
   later_spots [] (e ∷ later) h all = absurd h
   later_spots (t ∷ order) [] h all = absurd h
@@ -61,7 +61,7 @@ module _ (g : GraphParts) (controls : List (ℕ × Control)) (segments : List Jo
       (subst (λ x. IsSpot g segments x) (sym placed.is) (placed_spot segments controls g is joined t placed.base ranked placed.low placed.fits))
       (later_spots order later h.1 (All-tail (IsRankedOf g segments) t order all))
 
-later_count : (m : ℕ) (order : List Ranked) (later : List Numbered) → AllZip IsPlacedRanked order later → sum_by (extent_count m) later ≡ sum_by (ranked_count m) order
+pub later_count : (m : ℕ) (order : List Ranked) (later : List Numbered) → AllZip IsPlacedRanked order later → sum_by (extent_count m) later ≡ sum_by (ranked_count m) order
 later_count m [] [] h = refl
 later_count m [] (e ∷ later) h = absurd h
 later_count m (t ∷ order) [] h = absurd h
@@ -143,7 +143,7 @@ one_counted m (x ∷ es) zero e h number =
     omega (arith, sum_by-cons (extent_count m) x es, here)
 one_counted m (x ∷ es) (suc k) e h number = omega (arith, sum_by-cons (extent_count m) x es, one_counted m es k e h number)
 
-two_counted : (m : ℕ) (es : List Numbered) (i j : ℕ) (e f : Numbered) → i < j → slice_get es i ≡ Some e → slice_get es j ≡ Some f → e.number ≡ Some m → f.number ≡ Some m → 2 ≤ sum_by (extent_count m) es
+pub two_counted : (m : ℕ) (es : List Numbered) (i j : ℕ) (e f : Numbered) → i < j → slice_get es i ≡ Some e → slice_get es j ≡ Some f → e.number ≡ Some m → f.number ≡ Some m → 2 ≤ sum_by (extent_count m) es
 two_counted m [] i j e f less h k p q = absurd (cc h)
 two_counted m (x ∷ es) i zero e f less h k p q = absurd (omega (arith, less))
 two_counted m (x ∷ es) zero (suc j) e f less h k p q =

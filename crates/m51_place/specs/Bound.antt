@@ -2,6 +2,7 @@
 use Rattle.std.specs.Prelude.{◌≡◌, ◌↔◌, ℕ, zero, suc, ◌+◌, ◌≤◌, Bool, true, false, ◌&&◌, nat_le, nat_lt}
 use Rattle.std.specs.Prelude.{if◌then◌else◌, List, [], ◌∷◌}
 use Rattle.std.specs.List.{list_any, sum_by}
+use Rattle.m51_cells.specs.declared.kind.Reloc.TheVariants.{Unit as UnitType}
 use Rattle.m51_module.specs.declared.linked.Chain.{Chain}
 use Rattle.m51_module.specs.declared.parts.LayoutParts.{LayoutParts}
 use Rattle.m51_module.specs.declared.placed.Placed.{Placed}
@@ -21,6 +22,14 @@ count_below test (suc n) = (if test n then 1 else 0) + count_below test n
 -- the bytes of internal RAM that overlaid DATA covers
 abbrev pub covered_bytes : LayoutParts → ℕ
 covered_bytes l = count_below (λ byte. list_any (covers_byte byte) l.placed) 256
+
+-- the extent would be overlaid DATA of type UNIT if its type were that one, and has the byte of internal RAM
+abbrev pub overlays_byte : ℕ → Placed → Bool
+overlays_byte byte p = is_overlaid_data p.kind UnitType p.mark && (nat_le p.base byte && nat_lt byte (p.base + p.size))
+
+-- the bytes of internal RAM that overlaid DATA of any type covers: the figure that a map has
+abbrev pub overlaid_bytes : LayoutParts → ℕ
+overlaid_bytes l = count_below (λ byte. list_any (overlays_byte byte) l.placed) 256
 
 -- the first of the owners passes a test
 abbrev pub own_passes : (ℕ → Bool) → List ℕ → Bool

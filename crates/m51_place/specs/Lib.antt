@@ -6,6 +6,7 @@ pub mod Heaviest
 pub mod Laws
 pub mod Naming
 pub mod Order
+pub mod Overlay
 pub mod Placement
 pub mod Places
 pub mod Raising

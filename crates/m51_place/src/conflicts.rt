@@ -1,4 +1,4 @@
-//! Extents that stand in the way of a segment.
+//! Extents that are in the way of a segment.
 ghost use Rattle.std.specs.Prelude.{◌≡◌, ◌<◌, IfOk, length};
 ghost use Rattle.std.specs.List.{All};
 ghost use Rattle.m51_place.specs.Conflicts.{in_conflict};

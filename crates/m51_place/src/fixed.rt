@@ -2,6 +2,7 @@
 ghost use Rattle.std.specs.Prelude.{◌≡◌, ◌<◌, ◌≤◌, ◌+◌, codes, None, ◌-◌, ◌/◌, ◌%◌, ◌≢◌, ◌++◌, [], ◌∷◌, map, nat_eq};
 ghost use Rattle.std.specs.Prelude.{true, IfOk, OnOk, length};
 ghost use Rattle.std.specs.Char.{to_ascii_uppercase};
+ghost use Rattle.m51_cells.specs.declared.limits.TheConstants.{MOST_SEGMENTS};
 ghost use Rattle.m51_cells.specs.Name.{is_name};
 ghost use Rattle.m51_control.specs.Controls.{AreKept, IsAllowed};
 ghost use Rattle.m51_control.specs.Reserve.{IsRange};
@@ -166,7 +167,7 @@ fn absolute(number: u16, segment: &JoinedSegment) -> Numbered
 
 // Adds the absolute segments, in joined order.
 fn add_absolutes(located: &mut Vec<Numbered>, segments: &[JoinedSegment]) -> Result<(), NoMemory>
-    requires { length segments.now ≤ 2000 }
+    requires { length segments.now ≤ MOST_SEGMENTS }
     ensures { OnOk result (located.new.items ≡ located.old.items ++ absolutes_from 0 segments.now) }
 {
     for (number, segment) in segments.iter().enumerate() {

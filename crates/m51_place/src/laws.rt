@@ -2,6 +2,8 @@
 //! function that does nothing.
 ghost use Rattle.m51_place.specs.Bound.{WeightIsLeast};
 ghost use Rattle.m51_place.specs.Laws.{ConflictIsConflict, LeastIsLeast, OrderRises, SharingIsMeeting};
+ghost use Rattle.m51_place.specs.Overlay.{FigureIsWeight, OverlayFits, OverlayRefused, PlacingIsTight};
+ghost use Rattle.m51_place.specs.Overlay.{WeightsAgree};
 
 /// The segments of overlaid DATA on the heaviest chains, and those whose unit lies under no root, are each two in
 /// conflict. So no sound layout covers fewer bytes by overlaid DATA than the weight: what the chains have together, and
@@ -10,6 +12,47 @@ ghost use Rattle.m51_place.specs.Laws.{ConflictIsConflict, LeastIsLeast, OrderRi
 /// Source: own choice ("Heaviest chains").
 pub fn weight_is_least()
     ensures { WeightIsLeast }
+{}
+
+/// Where each overlaid segment is DATA of type UNIT and no argument segment, and the bytes below 80H that no extent
+/// placed before them covers in any bit are one run, placing covers exactly the weight by overlaid DATA: a sound
+/// layout covers no fewer bytes. So the run has at least as many bytes as the weight.
+///
+/// Source: own choice ("Heaviest chains").
+pub fn placing_is_tight()
+    ensures { PlacingIsTight }
+{}
+
+/// Under the same condition the bytes of internal RAM that overlaid DATA of any type covers are as many: a map has the
+/// weight as its figure of overlaid bytes.
+///
+/// Source: own choice ("Heaviest chains").
+pub fn figure_is_weight()
+    ensures { FigureIsWeight }
+{}
+
+/// Under the same condition, where L9 does not come and that run has as many bytes as the weight of the graph, there is
+/// a base for each overlaid segment: L12 comes for none of them.
+///
+/// Source: own choice ("Heaviest chains").
+pub fn overlay_fits()
+    ensures { OverlayFits }
+{}
+
+/// Under the same condition L12 names an overlaid segment exactly where the weight of the graph exceeds the length of
+/// that run, and neither L9 comes nor L12 for a segment before the overlaid ones.
+///
+/// Source: own choice ("Heaviest chains").
+pub fn overlay_is_refused()
+    ensures { OverlayRefused }
+{}
+
+/// The weight of a graph, which is said of its chains and the sizes of joined segments, is the weight of each layout
+/// that placing gives over it.
+///
+/// Source: own choice ("Heaviest chains").
+pub fn weights_agree()
+    ensures { WeightsAgree }
 {}
 
 /// The decision by which two extents share a cell: it is whether a cell is in both.
@@ -33,7 +76,7 @@ pub fn order_rises()
     ensures { OrderRises }
 {}
 
-/// The decision by which an earlier extent stands in the way of a segment: it is the conflict of the two segments.
+/// The decision by which an earlier extent is in the way of a segment: it is the conflict of the two segments.
 ///
 /// Source: RL51 guide.
 pub fn conflict_is_conflict()

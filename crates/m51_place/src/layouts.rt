@@ -2,6 +2,7 @@
 ghost use Rattle.std.specs.Prelude.{◌≡◌, ◌<◌, ◌≤◌, ◌++◌, if◌then◌else◌, [], ◌∷◌, map, position, IfOk, IfSome, OnOk};
 ghost use Rattle.std.specs.Prelude.{Some, length, slice_get};
 ghost use Rattle.std.specs.List.{All, range_with_len};
+ghost use Rattle.m51_cells.specs.declared.limits.TheConstants.{MOST_SEGMENTS};
 ghost use Rattle.m51_graph.specs.Drawing.{edge_test};
 ghost use Rattle.m51_place.specs.Conflicts.{callers_of, is_argument_at, owners_at, owners_with};
 ghost use Rattle.m51_place.specs.Placement.{is_number, owner_pairs, owners_of_extent, pairs_with, parts_of, place_of};
@@ -62,7 +63,7 @@ pub(crate) fn places(
     count: usize,
 ) -> Result<Vec<u16>, NoMemory>
     requires few { length located.now < 65536 }
-    requires count { count ≤ 2000 }
+    requires count { count ≤ MOST_SEGMENTS }
     ensures { IfOk result (λ places. places.items ≡ map (place_of located.now) (range_with_len 0 count)) }
 {
     let mut places = Vec::new(alloc);

@@ -19,7 +19,8 @@ mod tests;
 
 pub use chaining::heaviest;
 pub use laws::{
-    conflict_is_conflict, least_is_least, order_rises, sharing_is_meeting, weight_is_least,
+    conflict_is_conflict, figure_is_weight, least_is_least, order_rises, overlay_fits,
+    overlay_is_refused, placing_is_tight, sharing_is_meeting, weight_is_least, weights_agree,
 };
 pub use numbered::Numbered;
 pub use placing::{Placing, place, place_all};

@@ -3,6 +3,7 @@ ghost use Rattle.std.specs.Prelude.{◌≡◌, ◌<◌, ◌≤◌, ◌||◌, ◌
 ghost use Rattle.std.specs.Prelude.{IfOk, IfSome, OnOk, length, slice_get};
 ghost use Rattle.std.specs.List.{position_or_len};
 ghost use Rattle.std.specs.Str.{bytes_eq};
+ghost use Rattle.m51_cells.specs.declared.limits.TheConstants.{MOST_SEGMENTS};
 ghost use Rattle.m51_module.specs.Roots.{vectors};
 ghost use Rattle.m51_graph.specs.Graphs.{lies_under};
 ghost use Rattle.m51_graph.specs.Leading.{leads};
@@ -221,7 +222,7 @@ fn ranked_segments(
     controls: &[(u32, Control)],
     segments: &[JoinedSegment],
 ) -> Result<Vec<Ranked>, NoMemory>
-    requires few { length segments.now ≤ 2000 }
+    requires few { length segments.now ≤ MOST_SEGMENTS }
     requires own { length graph.now.own ≡ length segments.now }
     ensures { IfOk result (λ ranked. ranked.items ≡ ranked_from graph.now controls.now 0 segments.now) }
 {
@@ -255,7 +256,7 @@ pub(crate) fn order(
     controls: &[(u32, Control)],
     segments: &[JoinedSegment],
 ) -> Result<Vec<Ranked>, NoMemory>
-    requires few { length segments.now ≤ 2000 }
+    requires few { length segments.now ≤ MOST_SEGMENTS }
     requires own { length graph.now.own ≡ length segments.now }
     ensures { IfOk result (λ order. order.items ≡ order_of graph.now controls.now segments.now) }
 {

@@ -111,7 +111,7 @@ fn locate(
 /// joined segment: the fixed extents (register banks in use, reserves, absolute segments), and then each relocatable
 /// segment in the order of placing, at the least base at which it fits and no earlier extent in conflict covers one of
 /// its cells. The refusals, in their order: L9, the first fixed extent that meets an earlier one, and the first that it
-/// meets; L12, the first segment for which there is no base. Want of memory may come in place of any answer.
+/// meets; L12, the first segment for which there is no base. Out of memory may come in place of any answer.
 ///
 /// Source: RL51 guide.
 pub fn place_all(

@@ -25,7 +25,7 @@ pub enum Group {
     Stack,
 }
 
-/// Where a segment stands in the order: by class, by group, and by joined number.
+/// Where a segment is in the order: by class, by group, and by joined number.
 ///
 /// Source: RL51 guide.
 #[derive(Clone, Copy)]

@@ -130,6 +130,17 @@ fn base_of(layout: &Result<Layout, Refusal>, title: &[u8]) -> Option<u16> {
     }
 }
 
+// The name that L12 has, of five bytes.
+fn refused_title(layout: &Result<Layout, Refusal>) -> Option<[u8; 5]> {
+    match layout {
+        Err(Refusal::L12 { name }) => match name.bytes() {
+            [a, b, c, d, e] => Some([*a, *b, *c, *d, *e]),
+            _ => None,
+        },
+        _ => None,
+    }
+}
+
 #[test]
 fn a_segment_takes_the_least_base_that_is_free(rt: HostRuntime) -> Result<(), Fail> {
     let mut object = begin(rt.alloc())?;
@@ -217,6 +228,87 @@ fn a_ladder_of_forty_layers_weighs_forty(rt: HostRuntime) -> Result<(), Fail> {
     assert_eq!(rt; base_of(&layout, &name_of(b"?DT?", 0)), Some(8));
     assert_eq!(rt; base_of(&layout, &name_of(b"?DT?", 1)), Some(8));
     assert_eq!(rt; base_of(&layout, &name_of(b"?DT?", 79)), Some(47));
+    Ok(())
+}
+
+// Adds a unit of one byte, and its local of so many bytes.
+fn add_unit(
+    alloc: Global,
+    object: &mut Vec<u8>,
+    unit: &[u8],
+    local: &[u8],
+    bytes: u8,
+) -> Result<(), Fail> {
+    add_segment(alloc, object, plain(CODE, 1), unit)?;
+    add_segment(alloc, object, relocatable(DATA, UNIT, 1, bytes), local)
+}
+
+// The layout of two chains of calls from the reset, of A and C and of B and D, whose locals have so many bytes.
+fn two_chains(alloc: Global, sizes: [u8; 4]) -> Result<Result<Layout, Refusal>, Fail> {
+    let mut object = begin(alloc)?;
+    add_unit(alloc, &mut object, b"?PR?A", b"?DT?A", sizes[0])?;
+    add_unit(alloc, &mut object, b"?PR?B", b"?DT?B", sizes[1])?;
+    add_unit(alloc, &mut object, b"?PR?C", b"?DT?C", sizes[2])?;
+    add_unit(alloc, &mut object, b"?PR?D", b"?DT?D", sizes[3])?;
+    end(&mut object)?;
+    layout_of(
+        alloc,
+        &object,
+        b"OVERLAY(@0000 > ?PR?A, ?PR?B)\nOVERLAY(?PR?A > ?PR?C)\nOVERLAY(?PR?B > ?PR?D)",
+    )
+}
+
+// The bytes of DATA from 8 to 7F are one run of 120.
+#[test]
+fn sibling_chains_fill_the_run_and_no_more(rt: HostRuntime) -> Result<(), Fail> {
+    let full = two_chains(rt.alloc(), [70, 60, 50, 60])?;
+    assert_eq!(rt; weight(rt.alloc(), &full)?, 120);
+    assert_eq!(rt; base_of(&full, b"?DT?A"), Some(8));
+    assert_eq!(rt; base_of(&full, b"?DT?C"), Some(78));
+    assert_eq!(rt; base_of(&full, b"?DT?B"), Some(8));
+    assert_eq!(rt; base_of(&full, b"?DT?D"), Some(68));
+    let first = two_chains(rt.alloc(), [70, 60, 51, 60])?;
+    assert_eq!(rt; refused_title(&first), Some(*b"?DT?C"));
+    let second = two_chains(rt.alloc(), [70, 60, 50, 61])?;
+    assert_eq!(rt; refused_title(&second), Some(*b"?DT?D"));
+    Ok(())
+}
+
+// The lowest bits that are free for a segment with these bits at 0.
+fn first_free(taken: u32, bits: u32) -> u32 {
+    let mut place = bits;
+    for _turn in 0..8 {
+        if place & taken == 0 {
+            return place;
+        }
+        place = place.wrapping_mul(2);
+    }
+    place
+}
+
+// A calls B, and C calls B and D: the locals of A and D have two bytes, those of B and C one. By level they take three
+// bytes, as many as the heaviest chain has. Placed by size, those of A and D come first, and B's and C's lie above.
+#[test]
+fn an_order_by_size_takes_a_byte_more(rt: HostRuntime) -> Result<(), Fail> {
+    let mut object = begin(rt.alloc())?;
+    add_unit(rt.alloc(), &mut object, b"?PR?A", b"?DT?A", 2)?;
+    add_unit(rt.alloc(), &mut object, b"?PR?B", b"?DT?B", 1)?;
+    add_unit(rt.alloc(), &mut object, b"?PR?C", b"?DT?C", 1)?;
+    add_unit(rt.alloc(), &mut object, b"?PR?D", b"?DT?D", 2)?;
+    end(&mut object)?;
+    let lines =
+        b"OVERLAY(@0000 > ?PR?A, ?PR?C)\nOVERLAY(?PR?A > ?PR?B)\nOVERLAY(?PR?C > ?PR?B, ?PR?D)";
+    let layout = layout_of(rt.alloc(), &object, lines)?;
+    assert_eq!(rt; weight(rt.alloc(), &layout)?, 3);
+    assert_eq!(rt; base_of(&layout, b"?DT?A"), Some(8));
+    assert_eq!(rt; base_of(&layout, b"?DT?C"), Some(8));
+    assert_eq!(rt; base_of(&layout, b"?DT?B"), Some(10));
+    assert_eq!(rt; base_of(&layout, b"?DT?D"), Some(9));
+    let a = first_free(0, 0b11);
+    let d = first_free(0, 0b11);
+    let b = first_free(a, 0b1);
+    let c = first_free(b | d, 0b1);
+    assert_eq!(rt; (a | b | c | d).count_ones(), 4);
     Ok(())
 }
 

@@ -23,7 +23,7 @@ pub fn names_are_free()
     ensures { NamesAreFree }
 {}
 
-/// Each register stands for its direct address, and each named bit for its bit address.
+/// Each register is its direct address, and each named bit its bit address.
 ///
 /// Source: family manual.
 pub fn rows_are_read()
@@ -38,7 +38,7 @@ pub fn reserved_words_stand_for_nothing()
 {}
 
 /// Each byte with named bits is a register whose eight bits have addresses, from its own upward; and the name of a bit
-/// stands for what the dot gives.
+/// is what the dot gives.
 ///
 /// Source: family manual.
 pub fn bytes_have_bits()

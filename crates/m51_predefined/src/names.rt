@@ -1,4 +1,4 @@
-//! What names stand for before any definition of a module.
+//! What names mean before any definition of a module.
 ghost use Rattle.std.specs.Prelude.{◌≡◌};
 ghost use Rattle.m51_predefined.specs.Predefined.{predefined_of};
 
@@ -6,7 +6,7 @@ use crate::tables::{bit_named, register_named};
 use m51_cells::{Kind, Name};
 use m51_expr::{Value, plain};
 
-/// What a name stands for before any definition of the module: a special function register of the 8052 is its direct
+/// What a name means before any definition of the module: a special function register of the 8052 is its direct
 /// address, from 80H, of class DATA; a named bit is its bit address, of class BIT; both are numbers without a base.
 /// `None` for each other name. No reserved word is predefined, nor is `AR0` to `AR7`.
 ///

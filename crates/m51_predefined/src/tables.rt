@@ -5,7 +5,7 @@ ghost use Rattle.std.specs.Str.{bytes_eq};
 ghost use Rattle.m51_predefined.specs.Registers.{row, address_in, registers};
 ghost use Rattle.m51_predefined.specs.Bits.{bits};
 
-// A name, and the address that it stands for.
+// A name, and its address.
 type Row = (&'static [u8], u8);
 
 // The special function registers with their direct addresses.

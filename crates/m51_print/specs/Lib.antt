@@ -3,3 +3,5 @@ pub mod Lines
 pub mod Listing
 pub mod Map
 pub mod Refusals
+pub mod Stack
+pub mod Summary

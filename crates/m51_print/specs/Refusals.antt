@@ -3,12 +3,13 @@ use Rattle.std.specs.Prelude.{ℕ, List, [], ◌++◌, codes, flat_map}
 use Rattle.std.specs.Fmt.{decimal}
 use Rattle.m51_cells.specs.declared.limits.TheConstants.{MOST_FILES, MOST_FILE_BYTES, MOST_CONTROL_LINES}
 use Rattle.m51_cells.specs.declared.limits.TheConstants.{MOST_SCRIPT_LINES, MOST_MODULES, MOST_SEGMENTS, MOST_UNITS}
+use Rattle.m51_cells.specs.declared.limits.TheConstants.{MOST_MODULE_SEGMENTS, MOST_SOURCE_LINES, MOST_POINTS}
 use Rattle.m51_cells.specs.Hex.{hex4}
 use Rattle.m51_module.specs.declared.linked.Quantity.{Quantity}
 use Rattle.m51_module.specs.declared.linked.Quantity.TheVariants.{Files, Bytes, ControlLines, ScriptLines, Modules}
-use Rattle.m51_module.specs.declared.linked.Quantity.TheVariants.{Segments, Units}
+use Rattle.m51_module.specs.declared.linked.Quantity.TheVariants.{Segments, Units, Parts, Lines, Points}
 use Rattle.m51_module.specs.declared.linked.Refusal.{Refusal}
-use Rattle.m51_module.specs.declared.linked.Refusal.TheVariants.{L0, L1, L2, L3, L4, L5, L6, L7, L8, L9, L10, L11, L12}
+use Rattle.m51_module.specs.declared.linked.Refusal.TheVariants.{L1, L2, L3, L4, L5, L6, L7, L8, L9, L10, L11, L12}
 use Rattle.m51_module.specs.declared.linked.Refusal.TheVariants.{L13, Limit, Memory}
 
 -- a name after a blank
@@ -24,6 +25,9 @@ quantity_word ScriptLines = codes "SCRIPTLINES"
 quantity_word Modules = codes "MODULES"
 quantity_word Segments = codes "SEGMENTS"
 quantity_word Units = codes "UNITS"
+quantity_word Parts = codes "PARTS"
+quantity_word Lines = codes "LINES"
+quantity_word Points = codes "POINTS"
 
 -- how many there may be
 abbrev pub most_of : Quantity → ℕ
@@ -34,6 +38,9 @@ most_of ScriptLines = MOST_SCRIPT_LINES
 most_of Modules = MOST_MODULES
 most_of Segments = MOST_SEGMENTS
 most_of Units = MOST_UNITS
+most_of Parts = MOST_MODULE_SEGMENTS
+most_of Lines = MOST_SOURCE_LINES
+most_of Points = MOST_POINTS
 
 -- what a limit is of, and its number
 abbrev pub limit_text : Quantity → List ℕ
@@ -41,7 +48,6 @@ limit_text what = quantity_word what ++ codes " " ++ decimal (most_of what)
 
 -- a refusal: its number and the names, each after a blank; never asked of out of memory, which has no text
 abbrev pub refusal_words : Refusal → List ℕ
-refusal_words L0 = codes "LINK L0"
 refusal_words (L1 name) = codes "LINK L1" ++ after_blank name
 refusal_words (L2 name) = codes "LINK L2" ++ after_blank name
 refusal_words (L3 name) = codes "LINK L3" ++ after_blank name

@@ -1,4 +1,4 @@
-//! The texts that a build and a run write: the listing, the map, the lines of a record, and refusals.
+//! The texts that a command writes: listing, map, lines of a record, summary, stack bound, and refusals.
 #![tactic(auto)]
 
 mod lines;
@@ -9,12 +9,17 @@ mod putting;
 mod refusals;
 mod rows;
 mod sources;
+mod stack;
+mod summary;
 mod titles;
 
 pub use lines::{end_line, trace_line};
 pub use map::map_text;
+pub use overlaid::overlaid_below;
 pub use refusals::refusal_text;
 pub use sources::listing;
+pub use stack::{stack_refusal_text, stack_text};
+pub use summary::summary_text;
 
 #[cfg(test)]
 mod tests;

@@ -34,8 +34,10 @@ fn is_overlaid(address: u32, placed: &[Placed]) -> bool
 }
 
 /// How many of the first addresses of internal RAM lie in some overlaid segment of DATA.
+///
+/// Source: own choice ("Texts").
 #[tactic(auto, using(crate::proofs::Steps::overlaid_steps))]
-pub(crate) fn overlaid_below(placed: &[Placed], count: u32) -> u32
+pub fn overlaid_below(placed: &[Placed], count: u32) -> u32
     ensures count { result ≡ overlaid_below placed.now count }
     ensures bound { result ≤ count }
 {

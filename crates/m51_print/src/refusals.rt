@@ -5,8 +5,8 @@ ghost use Rattle.m51_print.specs.Refusals.{refusal_words, refusal_text};
 
 use crate::pushing::{push_decimal, push_hex4, push_text};
 use m51_cells::{
-    MOST_CONTROL_LINES, MOST_FILE_BYTES, MOST_FILES, MOST_MODULES, MOST_SCRIPT_LINES,
-    MOST_SEGMENTS, MOST_UNITS, Name, NoMemory,
+    MOST_CONTROL_LINES, MOST_FILE_BYTES, MOST_FILES, MOST_MODULE_SEGMENTS, MOST_MODULES,
+    MOST_POINTS, MOST_SCRIPT_LINES, MOST_SEGMENTS, MOST_SOURCE_LINES, MOST_UNITS, Name, NoMemory,
 };
 use m51_module::{Quantity, Refusal};
 use std::alloc::Global;
@@ -41,6 +41,9 @@ fn quantity_word(what: Quantity) -> &'static [u8]
         Quantity::Modules => b"MODULES",
         Quantity::Segments => b"SEGMENTS",
         Quantity::Units => b"UNITS",
+        Quantity::Parts => b"PARTS",
+        Quantity::Lines => b"LINES",
+        Quantity::Points => b"POINTS",
     }
 }
 
@@ -56,6 +59,9 @@ fn most_of(what: Quantity) -> usize
         Quantity::Modules => MOST_MODULES,
         Quantity::Segments => MOST_SEGMENTS,
         Quantity::Units => MOST_UNITS,
+        Quantity::Parts => MOST_MODULE_SEGMENTS,
+        Quantity::Lines => MOST_SOURCE_LINES,
+        Quantity::Points => MOST_POINTS,
     }
 }
 
@@ -118,8 +124,8 @@ fn push_field(text: &mut Vec<u8>, name: &Name, offset: u16) -> Result<(), NoMemo
     push_hex4(text, offset)
 }
 
-// Appends a limit.
-fn push_limit(text: &mut Vec<u8>, what: Quantity) -> Result<(), NoMemory>
+/// Appends a limit.
+pub(crate) fn push_limit(text: &mut Vec<u8>, what: Quantity) -> Result<(), NoMemory>
     ensures { OnOk result (text.new.items ≡ text.old.items ++ refusal_words (Refusal.Limit what)) }
 {
     push_text(text, b"LIMIT ")?;
@@ -132,7 +138,6 @@ fn push_refusal(text: &mut Vec<u8>, refusal: &Refusal) -> Result<(), NoMemory>
     ensures { OnOk result (text.new.items ≡ text.old.items ++ refusal_words refusal.now) }
 {
     match refusal {
-        Refusal::L0 => push_text(text, b"LINK L0"),
         Refusal::L1 { name } => push_named(text, b"LINK L1", name),
         Refusal::L2 { name } => push_named(text, b"LINK L2", name),
         Refusal::L3 { name } => push_named(text, b"LINK L3", name),

@@ -84,7 +84,7 @@ fn fixup_sign(marked: bool) -> &'static [u8]
     if marked { b"*" } else { b" " }
 }
 
-// Appends what stands before the text of the line.
+// Appends what comes before the text of the line.
 #[tactic(auto, unfolding(crate::specs::Listing::row_front))]
 fn push_front(text: &mut Vec<u8>, row: &Row) -> Result<(), NoMemory>
     requires { row.now.count ≤ 3 }

@@ -7,9 +7,15 @@ ghost use Rattle.m51_print.specs.Listing.{IsRowOf};
 use crate::map::{push_chain_line, push_segments, push_unit_line};
 use crate::overlaid::overlaid_below;
 use crate::rows::push_row;
-use crate::{end_line, listing, refusal_text, trace_line};
+use crate::stack::{push_proc_line, push_root_line};
+use crate::{
+    end_line, listing, refusal_text, stack_refusal_text, stack_text, summary_text, trace_line,
+};
 use m51_cells::{Bytes, Cell, Entry, Event, Kind, ListOf, Name, NoMemory, Reloc, Space, Why};
-use m51_module::{Mark, Placed, Quantity, Refusal, Row, SourceFile};
+use m51_module::{
+    Mark, Placed, Proc, Quantity, Refusal, RootDepth, Row, SourceFile, StackBound, StackError,
+    Start, Tally, sample,
+};
 use std::alloc::Global;
 use std::test::Fail;
 
@@ -163,7 +169,6 @@ fn a_refusal_tells_its_names(rt: HostRuntime) -> Result<(), Fail> {
     let one = Name::at(0);
     let two = Name::at(0x0B);
     let units = vec![in alloc; one, name]?;
-    assert!(rt; reads(alloc, &Refusal::L0, b"LINK L0\n")?);
     assert!(rt; reads(alloc, &Refusal::L1 { name }, b"LINK L1 BUF\n")?);
     assert!(rt; reads(alloc, &Refusal::L2 { name }, b"LINK L2 BUF\n")?);
     assert!(rt; reads(alloc, &Refusal::L3 { name }, b"LINK L3 BUF\n")?);
@@ -219,6 +224,9 @@ fn a_limit_tells_its_number(rt: HostRuntime) -> Result<(), Fail> {
     assert!(rt; reads(alloc, &limit(Quantity::Modules), b"LIMIT MODULES 255\n")?);
     assert!(rt; reads(alloc, &limit(Quantity::Segments), b"LIMIT SEGMENTS 2000\n")?);
     assert!(rt; reads(alloc, &limit(Quantity::Units), b"LIMIT UNITS 1000\n")?);
+    assert!(rt; reads(alloc, &limit(Quantity::Parts), b"LIMIT PARTS 254\n")?);
+    assert!(rt; reads(alloc, &limit(Quantity::Lines), b"LIMIT LINES 65535\n")?);
+    assert!(rt; reads(alloc, &limit(Quantity::Points), b"LIMIT POINTS 1000000\n")?);
     Ok(())
 }
 
@@ -348,5 +356,115 @@ fn a_row_tells_a_fixup_and_a_number_as_long_as_it_is(rt: HostRuntime) -> Result<
     assert!(rt; is_row_line(rt.alloc(), &long, b"NOP", b"123456 0000 00      NOP\n")?);
     let empty = row(0, 65535, None, 0, [0; 3]);
     assert!(rt; is_row_line(rt.alloc(), &empty, b"", b"65535              \n")?);
+    Ok(())
+}
+
+#[test]
+fn a_run_of_a_generated_program_has_four_lines(rt: HostRuntime) -> Result<(), Fail> {
+    let alloc = rt.alloc();
+    let layout = sample::layout(alloc)?;
+    let tally = Tally {
+        entries: 1,
+        steps: 20,
+        cycle: 31,
+        event: None,
+    };
+    let text = summary_text(alloc, 7, 5, 6, &tally, &layout)?;
+    let expected = b"UNITS 7\nOVERLAID 5 OF 6 BYTES\nENTRIES 1\nEND 20 STEPS 31 CYCLES\n";
+    assert_eq!(rt; text.as_slice(), expected.as_slice());
+    Ok(())
+}
+
+#[test]
+fn an_echo_has_its_lines_of_the_stack_bound(rt: HostRuntime) -> Result<(), Fail> {
+    let mut text = Vec::new(rt.alloc());
+    let conv = Name::of(b"?PR?CONV").ok_or("a name")?;
+    push_proc_line(&mut text, 3, &conv, 0)?;
+    push_proc_line(&mut text, 0x0B, &Name::at(0x0B), 300)?;
+    push_root_line(&mut text, &Name::at(0), 11, &[Start::Reset, Start::At(3)])?;
+    push_root_line(&mut text, &Name::at(0x0B), 0, &[Start::At(0x0B)])?;
+    let expected = b"PROC 0003 ?PR?CONV 0\n\
+        PROC 000B @000B 300\n\
+        STACK @0000 11 RESET,0003\n\
+        STACK @000B 0 000B\n";
+    assert_eq!(rt; text.as_slice(), expected.as_slice());
+    Ok(())
+}
+
+#[test]
+fn a_bound_has_procedures_then_roots_then_the_greatest_sp(rt: HostRuntime) -> Result<(), Fail> {
+    let alloc = rt.alloc();
+    let layout = sample::layout(alloc)?;
+    let proc = Proc {
+        at: 0x2000,
+        unit: 0,
+        depth: 2,
+    };
+    let root = RootDepth {
+        root: 0,
+        depth: 11,
+        path: ListOf::of(vec![in alloc; Start::Reset]?),
+    };
+    let bound = StackBound {
+        procs: ListOf::of(vec![in alloc; proc]?),
+        roots: ListOf::of(vec![in alloc; root]?),
+        total: 0xAD,
+    };
+    let text = stack_text(alloc, &bound, &layout)?;
+    let expected = b"PROC 2000 @0000 2\nSTACK @0000 11 RESET\nBOUND AD\n";
+    assert_eq!(rt; text.as_slice(), expected.as_slice());
+    Ok(())
+}
+
+fn tells(alloc: Global, error: StackError, expected: &[u8]) -> Result<bool, NoMemory>
+    requires { error ≢ StackError.Memory }
+{
+    let text = stack_refusal_text(alloc, &error)?;
+    Ok(text.as_slice() == expected)
+}
+
+#[test]
+fn a_refused_bound_tells_its_start_and_address(rt: HostRuntime) -> Result<(), Fail> {
+    let alloc = rt.alloc();
+    let start = Start::At(0x3A);
+    let reset = Start::Reset;
+    assert!(rt;
+        tells(
+            alloc,
+            StackError::K1 {
+                start: reset,
+                at: 0
+            },
+            b"STACK K1 RESET AT 0000\n"
+        )?
+    );
+    assert!(rt;
+        tells(
+            alloc,
+            StackError::K2 { start, at: 0xFFF0 },
+            b"STACK K2 003A AT FFF0\n"
+        )?
+    );
+    assert!(rt;
+        tells(
+            alloc,
+            StackError::K3 { start, at: 4 },
+            b"STACK K3 003A AT 0004\n"
+        )?
+    );
+    assert!(rt; tells(alloc, StackError::K4 { start: reset }, b"STACK K4 RESET\n")?);
+    assert!(rt; tells(alloc, StackError::K4 { start }, b"STACK K4 003A\n")?);
+    assert!(rt;
+        tells(
+            alloc,
+            StackError::K5 {
+                start: reset,
+                at: 0
+            },
+            b"STACK K5 RESET AT 0000\n"
+        )?
+    );
+    assert!(rt; tells(alloc, StackError::K6, b"STACK K6\n")?);
+    assert!(rt; tells(alloc, StackError::Limit, b"LIMIT POINTS 1000000\n")?);
     Ok(())
 }

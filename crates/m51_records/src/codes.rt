@@ -1,4 +1,4 @@
-//! The numbers that stand for kinds, types and forms in records.
+//! The numbers of kinds, types and forms in records.
 ghost use Rattle.std.specs.Prelude.{◌≡◌, ◌<◌};
 ghost use Rattle.m51_records.specs.Codes.{kind_number, kind_of, reloc_number, reloc_of, form_number, form_of};
 

@@ -6,7 +6,7 @@ use byteorder::{ByteOrder, LittleEndian};
 use m51_cells::NoMemory;
 use m51_module::ObjError;
 
-/// The place of the first of these bytes, the last of which stand before the end.
+/// The offset of the first of these bytes, the last of which come before the end.
 ///
 /// Source: own choice ("Places in object files").
 pub fn place(end: u32, bytes: &[u8]) -> u32

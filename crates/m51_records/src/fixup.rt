@@ -20,7 +20,7 @@ use m51_cells::{Base, MOST_FIXUPS, NoMemory};
 use m51_module::{External, Fixup, Form, ObjError, Piece, Segment};
 use std::alloc::Global;
 
-// Whether no field before stands in a later segment.
+// Whether no field before is in a later segment.
 fn field_segment_follows(before: &[Fixup], segment: u8) -> bool
     ensures { result ≡ field_segment_follows (latest before.now) segment }
 {
@@ -30,7 +30,7 @@ fn field_segment_follows(before: &[Fixup], segment: u8) -> bool
     }
 }
 
-// The number of a segment, and the bytes after it. O5 where it is not there, O4 where a field before stands in a later
+// The number of a segment, and the bytes after it. O5 where it is not there, O4 where a field before is in a later
 // one.
 #[tactic(auto, unfolding(crate::specs::Fixups::fixup_segment_at))]
 fn fixup_segment_at<'a>(
@@ -101,7 +101,7 @@ fn ends_below(piece: &Piece, offset: u16) -> bool
     piece.offset <= offset && piece.bytes.len() <= usize::from(offset - piece.offset)
 }
 
-// Whether the piece ends at that place of the segment, or stands before it.
+// Whether the piece ends at that place of the segment, or comes before it.
 fn ends_by(piece: &Piece, segment: u8, offset: u16) -> bool
     ensures { result ≡ ends_by segment offset piece.now }
 {

@@ -15,7 +15,7 @@ use m51_cells::{Bytes, MOST_PIECE_BYTES, NoMemory, is_code};
 use m51_module::{ObjError, Piece, Segment};
 use std::alloc::Global;
 
-// Whether no piece before stands in a later segment.
+// Whether no piece before is in a later segment.
 fn segment_follows(before: &[Piece], segment: u8) -> bool
     ensures { result ≡ segment_follows (latest before.now) segment }
 {
@@ -26,7 +26,7 @@ fn segment_follows(before: &[Piece], segment: u8) -> bool
 }
 
 // A segment of program memory, its number, and the bytes after the number. O5 where it is not there; O4 where it is of
-// another memory, or the piece before stands in a later one.
+// another memory, or the piece before is in a later one.
 #[tactic(auto, unfolding(crate::specs::Contents::code_segment_at))]
 fn code_segment_at<'a>(
     segments: &[Segment],

@@ -176,7 +176,7 @@ fn parts_at(
 /// Errors: the first test that fails, record by record and in a record field by field, with its place in the file.
 /// `O1` where the bytes end inside a record or before one that must come; `O2` where a checksum is wrong; `O3` where a
 /// record of another type must come; `O4` where a field is cut off, out of range or against a rule; `O5` where a
-/// segment or an external is numbered that is not there. `Memory` is the one other error.
+/// segment or an external is numbered that is not there. `Memory` is the only other error.
 ///
 /// Source: own choice ("Object records").
 pub fn module_at(
@@ -215,7 +215,7 @@ fn front_of(alloc: Global, bytes: &[u8]) -> Result<(Module, usize), ObjError>
 /// Errors: the first test that fails, record by record and in a record field by field. `O1` where the bytes end inside
 /// a record or before one that must come; `O2` where a checksum is wrong; `O3` where a record of another type must
 /// come; `O4` where a field is cut off, out of range or against a rule; `O5` where a segment or an external is numbered
-/// that is not there. `Memory` is the one other error.
+/// that is not there. `Memory` is the only other error.
 ///
 /// Source: own choice ("Object records").
 pub fn read_module(alloc: Global, bytes: &[u8]) -> Result<(Module, usize), ObjError>

@@ -43,7 +43,7 @@ pub(crate) trait Reader: Drop {
 
     ghost knows: { Self → List Self.Item → Type 0 };
 
-    /// The item whose record has these contents: they end at that place, and these items stand before it.
+    /// The item whose record has these contents: they end at that offset, and these items come before it.
     fn read(
         &mut self,
         alloc: Global,
@@ -65,7 +65,7 @@ fn push<T: Drop>(items: &mut Vec<T>, item: T) -> Result<(), NoMemory>
     Ok(())
 }
 
-/// The items whose records of that type stand at the front of the bytes, and the bytes after them. They end with the
+/// The items whose records of that type come first in the bytes, and the bytes after them. They end with the
 /// file, at its total length; the first record has that number.
 ///
 /// Errors: those of the frame of a record and of its fields; out of memory.

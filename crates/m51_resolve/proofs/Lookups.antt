@@ -43,7 +43,7 @@ get-append (x ∷ xs) ys n = ap (slice_get (x ∷ (xs ++ ys))) (suc_add (length 
   suc_add : (a b : ℕ) → suc a + b ≡ suc (a + b)
   suc_add a b = omega arith
 
-get_left : {A : Type 0} (xs ys : List A) (n : ℕ) (x : A) → slice_get xs n ≡ Some x → slice_get (xs ++ ys) n ≡ Some x
+pub get_left : {A : Type 0} (xs ys : List A) (n : ℕ) (x : A) → slice_get xs n ≡ Some x → slice_get (xs ++ ys) n ≡ Some x
 get_left [] ys n x h = cc
 get_left (y ∷ xs) ys zero x h = h
 get_left (y ∷ xs) ys (suc n) x h = get_left xs ys n x h

@@ -58,15 +58,15 @@ start_least Bitaddressable end = omega arith
 start_least Inpage end = omega arith
 start_least Inblock end = omega arith
 
-end_least : (end : ℕ) (xs : List Segment) → end ≤ end_after end xs
+pub end_least : (end : ℕ) (xs : List Segment) → end ≤ end_after end xs
 end_least end [] = omega arith
 end_least end (x ∷ xs) = let a = start_least x.reloc end in let b = end_least (start_after x.reloc end + x.size) xs in omega arith
 
-end-append : (end : ℕ) (xs ys : List Segment) → end_after end (xs ++ ys) ≡ end_after (end_after end xs) ys
+pub end-append : (end : ℕ) (xs ys : List Segment) → end_after end (xs ++ ys) ≡ end_after (end_after end xs) ys
 end-append end [] ys = refl
 end-append end (x ∷ xs) ys = end-append (start_after x.reloc end + x.size) xs ys
 
-filter_at : (p : Segment → Bool) (before : List Segment) (s : Segment) (after : List Segment) → p s ≡ true
+pub filter_at : (p : Segment → Bool) (before : List Segment) (s : Segment) (after : List Segment) → p s ≡ true
     → filter p (before ++ s ∷ after) ≡ filter p before ++ s ∷ filter p after
 filter_at p before s after h = filter-append p before (s ∷ after) ∙ ap (λ b. filter p before ++ cond b (s ∷ filter p after) (filter p after)) h
 
@@ -98,7 +98,7 @@ pub any-map : {X Y : Type 0} (q : Y → Bool) (g : X → Y) (xs : List X) → li
 any-map q g [] = refl
 any-map q g (x ∷ xs) = ap (λ b. q (g x) || b) (any-map q g xs)
 
-most_fits : (kind : Kind) (reloc : Reloc) → most_of kind reloc ≤ 65535
+pub most_fits : (kind : Kind) (reloc : Reloc) → most_of kind reloc ≤ 65535
 most_fits Code Abs = lit≤ tt
 most_fits Xdata Abs = lit≤ tt
 most_fits Direct Abs = lit≤ tt

@@ -8,6 +8,8 @@ use Rattle.m51_module.specs.declared.parts.ModuleParts.{ModuleParts}
 use Rattle.m51_module.specs.declared.symbol.External.{External}
 use Rattle.m51_module.specs.declared.symbol.Public.{Public}
 use Rattle.m51_module.specs.Library.{defines, has_public}
+pub use Rattle.m51_module.specs.WorkNames.{is_in as wanted_in}
+use Rattle.m51_module.specs.WorkNames.{NotesNames}
 use Rattle.m51_resolve.specs.declared.definitions.Defined.{Defined}
 use Rattle.m51_resolve.specs.declared.publics.Definition.{Definition}
 use Rattle.m51_resolve.specs.Choice.{wants}
@@ -66,14 +68,9 @@ defined_by modules name =
 pub record AreDefinitions (modules : List ModuleParts) (table : List (List ℕ × Defined)) : Type 0 where
   pub each : (name : List ℕ) → value_in table name ≡ defined_by modules name
 
--- the set has that name
-abbrev pub wanted_in : List (List ℕ) → List ℕ → Bool
-wanted_in names name = list_any (bytes_eq name) names
-
 -- the set has the names of these externals too
-pub record Wants (old : List (List ℕ)) (externals : List External) (new : List (List ℕ)) : Type 0 where
-  pub each : (name : List ℕ)
-      → wanted_in new name ≡ (wanted_in old name || list_any (λ e. bytes_eq e.name name) externals)
+abbrev pub Wants : List (List ℕ) → List External → List (List ℕ) → Type 0
+Wants old externals new = NotesNames (λ (e : External). e.name) old externals new
 
 -- the set has the externals of these modules
 pub record AreWanted (modules : List ModuleParts) (names : List (List ℕ)) : Type 0 where

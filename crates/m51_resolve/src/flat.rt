@@ -1,5 +1,6 @@
 //! The segments and the externals of all modules in one list, and where those of each module begin.
 ghost use Rattle.std.specs.Prelude.{◌≡◌, ◌*◌, ◌≤◌, All, IfOk, OnOk, length};
+ghost use Rattle.m51_cells.specs.declared.limits.TheConstants.{MOST_MODULE_SEGMENTS};
 ghost use Rattle.m51_module.specs.Validity.{IsValid};
 ghost use Rattle.m51_resolve.specs.Joining.{all_segments};
 ghost use Rattle.m51_resolve.specs.Kept.{AreStarts};
@@ -16,11 +17,11 @@ pub(crate) struct Flat<T> {
     pub starts: Vec<usize>,
 }
 
-// The segments of the modules: at most 254 of each.
+// The segments of the modules: each has at most MOST_MODULE_SEGMENTS.
 pub(crate) fn all_segments(alloc: Global, modules: &[Module]) -> Result<Flat<Segment>, NoMemory>
     ensures all { IfOk result (λ all. all.items.items ≡ all_segments modules.now) }
     ensures starts { IfOk result (λ all. AreStarts (λ m. m.segments) modules.now all.starts.items) }
-    ensures few { IfOk result (λ all. length all.items.items ≤ 254 * length modules.now) }
+    ensures few { IfOk result (λ all. length all.items.items ≤ MOST_MODULE_SEGMENTS * length modules.now) }
     ensures valid { OnOk result (All IsValid modules.now) }
 {
     let mut items = Vec::new(alloc);

@@ -138,14 +138,14 @@ fn join_chosen(
 /// Chooses the modules of a link, resolves their externals and joins their segments.
 ///
 /// The given modules are chosen, and then the members of libraries that they want: each the first, in order of library
-/// and member, that is not chosen and has a public which a chosen module wants and none defines, until there is none.
+/// and member, that is not chosen and has a public which a chosen module needs and none defines, until there is none.
 ///
 /// The first rule that fails is the refusal, in this order: `Limit` where there are more than 255 modules; `L1`, the
 /// first public that another module defines too; `L2`, the first external that no module defines; `L3`, the first
 /// external whose kind does not agree with that of its public; `L4`, the first joined segment whose parts differ in
 /// kind, type, OVERLAYABLE or ARGUMENT; `Limit` where there are more than 2,000 joined segments, and where there are
 /// more than 1,000 units; `L5`, the first joined segment that is too large. Publics and externals come in order of
-/// their modules, and in a module as they stand there. `Memory` is the one other error.
+/// their modules, and in a module in its order. `Memory` is the only other error.
 ///
 /// Source: RL51 guide.
 pub fn resolve(

@@ -66,7 +66,7 @@ fn told(answer: &Result<Joined, Refusal>) -> (u8, Name) {
     }
 }
 
-// What is told of these modules without libraries.
+// What is known of these modules without libraries.
 fn refused(alloc: Global, modules: Vec<Module>) -> (u8, Name) {
     told(&resolve(alloc, modules, &[]))
 }

@@ -1,5 +1,6 @@
 -- What a board script says, line by line.
-use Rattle.std.specs.Prelude.{ℕ, ◌+◌, true, false, ◌==◌, nat_lt, if◌then◌else◌, List, [], ◌∷◌, length, Option, Some, None, Result, Ok, Err}
+use Rattle.std.specs.Prelude.{ℕ, ◌+◌, true, false, ◌==◌, nat_lt, if◌then◌else◌, List, [], ◌∷◌, length, Option, Some}
+use Rattle.std.specs.Prelude.{None, Result, Ok, Err}
 use Rattle.std.specs.Str.Lines.{lines as lines_of}
 use Rattle.m51_cells.specs.declared.limits.TheConstants.{MOST_SCRIPT_LINES}
 use Rattle.m51_script.specs.declared.error.ScriptError.{ScriptError}
@@ -14,7 +15,11 @@ use Rattle.m51_script.specs.Timing.{IsTimed, latest_cycle, with_line}
 
 -- no lines: the fill is 00H, the levels are FFH, and no frame arrives
 abbrev pub plain_script : Script
-plain_script = record { fill = 0; pins = record { cycles = []; items = [] }; frames = record { cycles = []; items = [] } }
+plain_script = record {
+  fill = 0;
+  pins = record { cycles = []; items = [] };
+  frames = record { cycles = []; items = [] };
+}
 
 -- nothing is read: there was neither a FILL nor a timed line
 abbrev pub unread : Reading
@@ -82,7 +87,7 @@ script_of_lines all = if nat_lt MOST_SCRIPT_LINES (length all) then Err Limit el
 abbrev pub script_of : List ℕ → Result Script ScriptError
 script_of bytes = script_of_lines (lines_of bytes)
 
--- why a file is refused; want of memory is no refusal
+-- why a file is refused; out of memory is no refusal
 abbrev pub refusal_of : ScriptError → Option ScriptError
 refusal_of Memory = None
 refusal_of refusal = Some refusal

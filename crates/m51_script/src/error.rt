@@ -23,7 +23,7 @@ pub enum ScriptError {
     /// There are over 65,536 lines.
     #[error("the script has too many lines")]
     Limit,
-    /// Want of memory.
+    /// Out of memory.
     #[error("out of memory")]
     Memory,
 }

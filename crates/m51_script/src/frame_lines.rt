@@ -39,7 +39,7 @@ impl FrameLines {
 
     // One more line, whose cycle is not below those before.
     //
-    // Error: want of memory.
+    // Error: out of memory.
     pub(crate) fn with(self, cycle: u32, frame: Frame) -> Result<FrameLines, NoMemory>
         requires order { Ascends 0 cycle self.cycles }
         requires range { cycle ≤ latest_cycle }

@@ -21,7 +21,7 @@ pub(crate) struct Change {
     pub(crate) level: u8,
 }
 
-// PIN lines in their order, which contracts see as their cycles and changes. Beside each stand the levels of all ports
+// PIN lines in their order, which contracts see as their cycles and changes. Beside each are the levels of all ports
 // from its cycle on.
 #[derive(Drop)]
 pub(crate) struct PinLines {
@@ -68,7 +68,7 @@ impl PinLines {
 
     // One more line, whose cycle is not below those before.
     //
-    // Error: want of memory.
+    // Error: out of memory.
     pub(crate) fn with(self, cycle: u32, change: Change) -> Result<PinLines, NoMemory>
         requires order { Ascends 0 cycle self.cycles }
         requires range { cycle ≤ latest_cycle }

@@ -224,7 +224,7 @@ fn read_lines(alloc: Global, bytes: &[u8]) -> Result<Script, ScriptError>
 /// or begins with `;` is skipped, and counts. The others are `FILL hh`, `PIN cycle Pn hh`, `RX cycle hh` and
 /// `RX cycle hh b`: a cycle has 1 to 10 decimal digits, hh 1 to 4 hexadecimal ones, and n and b one decimal digit each.
 ///
-/// Errors: `Limit` for over 65,536 lines; else, of the first refused line, counted from 1, the first of these; or want
+/// Errors: `Limit` for over 65,536 lines; else, of the first refused line, counted from 1, the first of these; or out
 /// of memory:
 ///
 /// - `S1`: it has no such form, or is a FILL after another or after a timed line.

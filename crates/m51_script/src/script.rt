@@ -25,7 +25,7 @@ pub struct Script {
 impl Script {
     /// The script without lines: the fill is 00H, the levels are FFH, and no frame arrives.
     ///
-    /// Error: want of memory.
+    /// Error: out of memory.
     ///
     /// Source: own choice ("Scripts").
     pub fn plain(alloc: Global) -> Result<Script, NoMemory>

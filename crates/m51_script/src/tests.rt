@@ -95,7 +95,7 @@ fn numbers_have_their_ranges(rt: HostRuntime) -> Result<(), Fail> {
 }
 
 #[test]
-fn blanks_stand_between_parts_alone(rt: HostRuntime) -> Result<(), Fail> {
+fn blanks_stand_only_between_parts(rt: HostRuntime) -> Result<(), Fail> {
     assert!(rt; refused(&rt, b" FILL 00") == Some(ScriptError::S1 { line: 1 }));
     assert!(rt; refused(&rt, b"FILL 00 ") == Some(ScriptError::S1 { line: 1 }));
     assert!(rt; refused(&rt, b"RX 5 41 ") == Some(ScriptError::S1 { line: 1 }));

@@ -8,12 +8,11 @@ use Rattle.std.specs.Prelude.{flat_map}
 use Rattle.std.specs.Io.KnownBytes.{Appends}
 use Rattle.std.proofs.KnownBytes.{Appends-nil, Appends-trans}
 use Rattle.m51_cells.specs.declared.event.Event.{Event}
-use Rattle.m51_sim.specs.declared.runs.Told.{Told}
-use Rattle.m51_cells.specs.Outside.{AppendsFront}
+use Rattle.m51_sim.specs.declared.runs.Entries.{Entries}
 use Rattle.m51_sim.specs.Writing.{StopsWithin}
 use Rattle.m51_print.specs.Lines.{entry_line, last_line}
 use Rattle.m51_sim.specs.Runs.{State, Machine, Record, entries_of, no_step, with_step, record_of}
-use Rattle.m51_sim.specs.Run.{IsAdvance, IsCut, IsWhole, entry_lines, lines_after, record_text, StandsAtCut}
+use Rattle.m51_sim.specs.Run.{IsAdvance, IsCut, IsWhole, entry_lines, lines_after, record_text}
 use Rattle.m51_sim.proofs.Sums.{appended, record_sum, record_goes, record_stops, record_zero}
 
 -- the first steps are performed, and the lines of their entries are written
@@ -34,7 +33,7 @@ pub entry_lines-appended : {M : Type 0} (r next : Record M) → entry_lines (app
 entry_lines-appended r next = flat_map-append entry_line r.entries next.entries
 
 -- the lines of what a step tells
-abbrev pub lines_of : Told → List ℕ
+abbrev pub lines_of : Entries → List ℕ
 lines_of told = flat_map entry_line (entries_of told)
 
 -- bytes, and then a part of what follows
@@ -54,14 +53,14 @@ module _ {M : Type 0} (titles : List (List ℕ)) (machine : Machine M) where
   record_of_rest before now first done rest all s going e = rw (e, going.last) (record_sum machine done rest first going.event)
 
   -- a step more
-  pub record_of_next : (before now : Option (List ℕ)) (first : State M) (done : ℕ) (old new : State M) (told : Told)
+  pub record_of_next : (before now : Option (List ℕ)) (first : State M) (done : ℕ) (old new : State M) (told : Entries)
       → IsGoing before now machine first done old → IsAdvance (machine old) (Ok told) old new
       → record_of machine (done + 1) first ≡ appended (record_of machine done first) (with_step told (no_step None new))
   record_of_next before now first done old new told going h =
       record_of_rest before now first done 1 (done + 1) old going refl
       ∙ ap (λ r. appended (record_of machine done first) r) (record_goes machine 0 1 told old new refl h ∙ ap (λ r. with_step told r) (record_zero machine new))
 
-  pub lines_of_next : (before now : Option (List ℕ)) (first : State M) (done : ℕ) (old new : State M) (told : Told)
+  pub lines_of_next : (before now : Option (List ℕ)) (first : State M) (done : ℕ) (old new : State M) (told : Entries)
       → IsGoing before now machine first done old → IsAdvance (machine old) (Ok told) old new
       → lines_after machine first (done + 1) ≡ lines_after machine first done ++ lines_of told
   lines_of_next before now first done old new told going h =
@@ -69,7 +68,7 @@ module _ {M : Type 0} (titles : List (List ℕ)) (machine : Machine M) where
       ∙ entry_lines-appended (record_of machine done first) (with_step told (no_step None new))
       ∙ ap (λ es. lines_after machine first done ++ flat_map entry_line es) (append-nil (entries_of told))
 
-  pub going_on : (before m n : Option (List ℕ)) (first : State M) (done : ℕ) (old new : State M) (told : Told)
+  pub going_on : (before m n : Option (List ℕ)) (first : State M) (done : ℕ) (old new : State M) (told : Entries)
       → IsGoing before m machine first done old → IsAdvance (machine old) (Ok told) old new
       → Appends m n (lines_of told) → IsGoing before n machine first (done + 1) new
   going_on before m n first done old new told going h line =
@@ -82,7 +81,7 @@ module _ {M : Type 0} (titles : List (List ℕ)) (machine : Machine M) where
       }
 
   -- a write failed in the line of a step
-  pub cut_in_entry : (before m n : Option (List ℕ)) (all : ℕ) (first : State M) (done : ℕ) (old new : State M) (told : Told)
+  pub cut_in_entry : (before m n : Option (List ℕ)) (all : ℕ) (first : State M) (done : ℕ) (old new : State M) (told : Entries)
       → done < all → IsGoing before m machine first done old → IsAdvance (machine old) (Ok told) old new → StopsWithin m n (lines_of told)
       → IsCut before n titles machine all first new
   cut_in_entry before m n all first done old new told more going h cut =

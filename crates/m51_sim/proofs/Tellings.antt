@@ -1,5 +1,5 @@
 -- The lines of what a step tells, one entry after the other.
-use Rattle.std.proofs.Common.{◌≡◌, ℕ, ◌+◌, ◌≤◌, ◌<◌, List, ◌++◌, length, take, Option, Result, Ok, Err, sym, ap, subst, ◌∙◌, arith, length-append}
+use Rattle.std.proofs.Common.{◌≡◌, ℕ, ◌+◌, List, ◌++◌, length, take, Option, Result, Ok, Err, arith, length-append}
 use Rattle.std.proofs.Math.Seq.{take-append-add}
 use Rattle.std.proofs.lemmas.List.{take-append-le}
 use Rattle.std.proofs.lemmas.Grind.{flat_map-append}
@@ -7,27 +7,27 @@ use Rattle.std.specs.Prelude.{OnErr, flat_map, option_to_list}
 use Rattle.std.specs.Io.KnownBytes.{Appends}
 use Rattle.std.proofs.KnownBytes.{Appends-trans}
 use Rattle.m51_print.specs.Lines.{entry_line}
-use Rattle.m51_sim.specs.declared.runs.Told.{Told}
+use Rattle.m51_sim.specs.declared.runs.Entries.{Entries}
 use Rattle.m51_sim.specs.Runs.{entries_of}
 use Rattle.m51_sim.specs.Writing.{StopsWithin}
 
-two_lines : (told : Told) → flat_map entry_line (entries_of told) ≡ flat_map entry_line (option_to_list told.port) ++ flat_map entry_line (option_to_list told.sent)
+two_lines : (told : Entries) → flat_map entry_line (entries_of told) ≡ flat_map entry_line (option_to_list told.port) ++ flat_map entry_line (option_to_list told.sent)
 two_lines told = flat_map-append entry_line (option_to_list told.port) (option_to_list told.sent)
 
 -- both lines are written
-pub both_written : (a b c : Option (List ℕ)) (told : Told) → Appends a b (flat_map entry_line (option_to_list told.port)) → Appends b c (flat_map entry_line (option_to_list told.sent))
+pub both_written : (a b c : Option (List ℕ)) (told : Entries) → Appends a b (flat_map entry_line (option_to_list told.port)) → Appends b c (flat_map entry_line (option_to_list told.sent))
     → Appends a c (flat_map entry_line (entries_of told))
 both_written a b c told p q = rw (two_lines told) (Appends-trans a b c _ _ p q)
 
 -- the first is cut
-pub first_cut : (a b : Option (List ℕ)) (told : Told) → StopsWithin a b (flat_map entry_line (option_to_list told.port)) → StopsWithin a b (flat_map entry_line (entries_of told))
+pub first_cut : (a b : Option (List ℕ)) (told : Entries) → StopsWithin a b (flat_map entry_line (option_to_list told.port)) → StopsWithin a b (flat_map entry_line (entries_of told))
 first_cut a b told q =
     let xs = flat_map entry_line (option_to_list told.port) in
     let ys = flat_map entry_line (option_to_list told.sent) in
     rw (two_lines told) (q.0, omega (arith, length-append xs ys, q.1), rw (take-append-le q.0 xs ys (omega (arith, q.1))) q.2)
 
 -- the first is whole, and the second is cut
-pub second_cut : (a b c : Option (List ℕ)) (told : Told) → Appends a b (flat_map entry_line (option_to_list told.port)) → StopsWithin b c (flat_map entry_line (option_to_list told.sent))
+pub second_cut : (a b c : Option (List ℕ)) (told : Entries) → Appends a b (flat_map entry_line (option_to_list told.port)) → StopsWithin b c (flat_map entry_line (option_to_list told.sent))
     → StopsWithin a c (flat_map entry_line (entries_of told))
 second_cut a b c told p q =
     let xs = flat_map entry_line (option_to_list told.port) in
@@ -35,7 +35,7 @@ second_cut a b c told p q =
     rw (two_lines told) (length xs + q.0, omega (arith, length-append xs ys, q.1), rw (take-append-add xs ys q.0) (Appends-trans a b c xs (take q.0 ys) p q.2))
 
 -- the same of what a call answers
-pub cut_on : {T E : Type 0} (r : Result T E) (a b c : Option (List ℕ)) (told : Told) → Appends a b (flat_map entry_line (option_to_list told.port)) → OnErr r (StopsWithin b c (flat_map entry_line (option_to_list told.sent)))
+pub cut_on : {T E : Type 0} (r : Result T E) (a b c : Option (List ℕ)) (told : Entries) → Appends a b (flat_map entry_line (option_to_list told.port)) → OnErr r (StopsWithin b c (flat_map entry_line (option_to_list told.sent)))
     → OnErr r (StopsWithin a c (flat_map entry_line (entries_of told)))
 cut_on (Ok x) a b c told p q = tt
 cut_on (Err e) a b c told p q = second_cut a b c told p q

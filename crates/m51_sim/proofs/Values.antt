@@ -1,20 +1,14 @@
 -- The map of a memory.
-use Rattle.std.proofs.Common.{◌≡◌, ℕ, ◌+◌, ◌/◌, ◌%◌, Bool, true, false, cond, Option, Some, None, refl, sym, ap, ◌∙◌, arith, rules}
-use Rattle.std.specs.Prelude.{◌==◌, nat_eq, nat_lt, slice_index}
+use Rattle.std.proofs.Common.{◌≡◌, ℕ, ◌/◌, ◌%◌, Bool, true, false, cond, Option, Some, None, refl, ap, ◌∙◌}
+use Rattle.std.specs.Prelude.{nat_lt, slice_index}
 use Rattle.std.specs.Int.{bit_at}
 use Rattle.std.proofs.lemmas.Bool.{lt-ltb}
 use Rattle.m51_flat.specs.declared.state.Put.{Put}
-use Rattle.m51_flat.specs.declared.state.Put.TheVariants.{Nothing, Byte, Bit, Xbyte}
-use Rattle.m51_flat.specs.States.{CellState, Holds, Absent, States, ram_written, state_over, states_after, xram_written}
+use Rattle.m51_flat.specs.States.{CellState, Holds, Absent, ram_written, state_over, states_after, xram_written}
 use Rattle.m51_flat.specs.Reads.{CellMap}
 use Rattle.m51_flat.specs.Flat.{FlatBytes, filled_cells, flat_cells}
-use Rattle.m51_flat.specs.Sfr.{flag, has_register, latch, pcon}
-use Rattle.m51_flat.specs.declared.state.Cpu.{Cpu}
-use Rattle.m51_flat.specs.Reset.{reset_cpu}
 use Rattle.m51_flat.specs.Causes.{IsWhole}
-use Rattle.m51_sim.specs.Runs.{State}
-use Rattle.m51_alu.specs.Arithmetic.{bit_of}
-use Rattle.m51_sim.specs.FlatMachine.{filled_map, flat_start, map_after, replaced}
+use Rattle.m51_sim.specs.FlatMachine.{filled_map, map_after, replaced}
 use Rattle.m51_sim.specs.Boards.{map_of, value_of, values_of}
 
 -- maps with the same values are one
@@ -53,11 +47,3 @@ filled_of fill memory e =
     ∙ same_map (values_of (filled_cells fill)) (filled_map fill)
     (λ n. inside_value (nat_lt n 2048) (bit_at fill (n % 8)))
     (λ n. inside_value (nat_lt n 65536) fill)
-
--- a processor and a memory before the first cycle
-abbrev pub state_of : Cpu → FlatBytes → State CellMap
-state_of cpu memory = record { cpu = cpu; cycle = 0; memory = map_of memory }
-
--- after a reset it is the start of the flat machine
-pub start_of : (fill : ℕ) (cpu : Cpu) (memory : FlatBytes) → cpu ≡ reset_cpu → flat_cells memory ≡ filled_cells fill → state_of cpu memory ≡ flat_start fill
-start_of fill cpu memory is filled = rw (is, filled_of fill memory filled) refl

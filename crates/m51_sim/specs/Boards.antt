@@ -1,31 +1,77 @@
 -- What contracts see of the boards, and which states of the two machines they stand for.
-use Rattle.std.specs.Prelude.{ℕ, List, if◌then◌else◌}
-use Rattle.m51_cells.specs.declared.cell.Space.{Space}
-use Rattle.m51_cells.specs.declared.cell.Space.TheVariants.{Ram, Xram, Code}
+use Rattle.std.specs.Prelude.{◌≡◌, ℕ, List, Option, Some, None, if◌then◌else◌, ◌&&◌}
 use Rattle.m51_module.specs.declared.parts.LayoutParts.{LayoutParts}
+use Rattle.m51_module.specs.Plan.{IsUnitAt}
 use Rattle.m51_flat.specs.declared.state.Cpu.{Cpu}
+use Rattle.m51_flat.specs.declared.state.Level.{Level}
 use Rattle.m51_flat.specs.States.{CellState, States, Holds, Absent, Fresh}
 use Rattle.m51_flat.specs.Reads.{CellMap}
 use Rattle.m51_flat.specs.Flat.{FlatBytes, flat_cells}
+use Rattle.m51_flat.specs.Sfr.{latch, sp}
+use Rattle.m51_timers_uart.specs.declared.periph.Periph.{Periph}
+use Rattle.m51_script.specs.declared.script.Script.{Script}
+use Rattle.m51_monitor.specs.Monitored.{Monitored, AreActivations, MonitorStandsFor, live_in}
+use Rattle.m51_monitor.specs.Records.{current}
+use Rattle.m51_monitor.specs.Rising.{HaveLevels, IsAbove, levels}
+use Rattle.m51_monitor.specs.Shared.{cell_state}
+use Rattle.m51_monitor.specs.Stores.{Stores, has_cell, is_common}
+use Rattle.m51_sim.specs.Cycles.{inputs_of}
 use Rattle.m51_sim.specs.Runs.{State}
-use Rattle.m51_sim.specs.SeparateMachine.{Stores, home_of, is_home, map_of_stores}
+use Rattle.m51_sim.specs.FlatMachine.{filled_map, reset_with}
+use Rattle.m51_sim.specs.SeparateMachine.{Separate, separate_start}
 
--- an image, the processor, the number of the machine cycle, and one memory
+-- an image, a script, the processor, the devices, and the number of the machine cycle
 pub record ChipState : Type 0 where
   pub image : List ℕ
+  pub script : Script
   pub cpu : Cpu
+  pub periph : Periph
   pub cycle : ℕ
-  pub memory : FlatBytes
 
--- the same with a layout
+-- the same with a monitor, and with one memory for all
 pub record BoardState : Type 0 where
-  pub layout : LayoutParts
   pub chip : ChipState
+  pub monitor : Monitored
+
+pub record FlatState : Type 0 where
+  pub chip : ChipState
+  pub memory : FlatBytes
 
 -- what a step leaves as it is
 pub record Loaded : Type 0 where
   pub layout : LayoutParts
   pub image : List ℕ
+  pub script : Script
+
+pub record FlatLoaded : Type 0 where
+  pub image : List ℕ
+  pub script : Script
+
+-- the state of a machine, with a memory
+abbrev pub state_with : {M : Type 0} → ChipState → M → State M
+state_with chip memory = record { cpu = chip.cpu; periph = chip.periph; cycle = chip.cycle; memory = memory }
+
+-- the value that a cell holds
+abbrev pub held_value : CellState → Option ℕ
+held_value (Holds v) = Some v
+held_value Absent = None
+held_value Fresh = None
+
+-- The stores for which a monitor stands, read off its memory: a live segment has what the memory holds in its cells,
+-- and the common store what it holds where no segment is; all else is unset.
+abbrev pub stores_read : Monitored → Stores
+stores_read m = record {
+  segment = λ t c.
+      if live_in m.layout m.records t && has_cell m.layout t c then held_value (cell_state m.store c) else None;
+  common = λ c. if is_common m.layout c then held_value (cell_state m.store c) else None;
+}
+
+abbrev pub memory_of : Monitored → Separate
+memory_of m = record { records = m.records; stores = stores_read m }
+
+-- the state of the separate machine
+abbrev pub separate_of : BoardState → State Separate
+separate_of board = state_with board.chip (memory_of board.monitor)
 
 -- what a cell holds; 0 where it holds nothing
 abbrev pub value_of : CellState → ℕ
@@ -41,27 +87,32 @@ abbrev pub map_of : FlatBytes → CellMap
 map_of memory = values_of (flat_cells memory)
 
 -- the state of the flat machine
-abbrev pub flat_of : ChipState → State CellMap
-flat_of chip = record { cpu = chip.cpu; cycle = chip.cycle; memory = map_of chip.memory }
+abbrev pub flat_of : FlatState → State CellMap
+flat_of board = state_with board.chip (map_of board.memory)
 
--- the value of a cell of that memory; program memory has none
-abbrev pub value_at : CellMap → Space → ℕ → ℕ
-value_at m Ram at = m.ram at
-value_at m Xram at = m.xram at
-value_at m Code at = 0
+-- What holds between the records and the processor: the current unit covers PC, SP is not below that of the topmost
+-- record, and the interrupts that have records were taken at the levels in progress, a low one below a high one.
+pub record IsInOrder (m : Monitored) (cpu : Cpu) : Type 0 where
+  pub covered : IsUnitAt m.layout cpu.pc (current m.records)
+  pub above : IsAbove m.records.returns 0 (latch cpu sp)
+  pub taken : List Level
+  pub have : HaveLevels m.records.returns taken (levels cpu)
 
--- the stores of a map: each has the values of the cells whose home it is, and 0 elsewhere
-abbrev pub stores_of : LayoutParts → CellMap → Stores
-stores_of layout m = λ home cell. if is_home home (home_of layout cell) then value_at m cell.space cell.at else 0
+-- A board stands for its separate state: the memory stands for the stores, the units of the records form walks from
+-- roots of which none runs twice, and records and processor are in order.
+pub record StandsForState (board : BoardState) : Type 0 where
+  pub stores : MonitorStandsFor board.monitor (stores_read board.monitor)
+  pub records : AreActivations board.monitor.layout board.monitor.records
+  pub order : IsInOrder board.monitor board.chip.cpu
 
--- the state over these stores
-abbrev pub parted : LayoutParts → State CellMap → State Stores
-parted layout s = record { cpu = s.cpu; cycle = s.cycle; memory = stores_of layout s.memory }
+-- a board after a reset, with this layout, image and script
+pub record IsStarted (layout : LayoutParts) (image : List ℕ) (script : Script) (board : BoardState) : Type 0 where
+  pub layout_is : board.monitor.layout ≡ layout
+  pub image_is : board.chip.image ≡ image
+  pub script_is : board.chip.script ≡ script
+  pub state : separate_of board ≡ reset_with (inputs_of script) (separate_start layout script.fill)
 
--- the state of the separate machine
-abbrev pub separate_of : BoardState → State Stores
-separate_of board = parted board.layout (flat_of board.chip)
-
--- the state of the flat machine whose map the stores give
-abbrev pub joined : LayoutParts → State Stores → State CellMap
-joined layout s = record { cpu = s.cpu; cycle = s.cycle; memory = map_of_stores layout s.memory }
+pub record IsFlatStarted (image : List ℕ) (script : Script) (board : FlatState) : Type 0 where
+  pub image_is : board.chip.image ≡ image
+  pub script_is : board.chip.script ≡ script
+  pub state : flat_of board ≡ reset_with (inputs_of script) (filled_map script.fill)

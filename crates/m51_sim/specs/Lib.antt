@@ -1,9 +1,13 @@
 pub mod Writing
 pub mod Runs
+pub mod Cycles
 pub mod Effects
 pub mod FlatMachine
 pub mod SeparateMachine
 pub mod Boards
-pub mod Laws
 pub mod Run
+pub mod Report
+pub mod Ready
+pub mod Laws
+pub mod StepLaws
 pub mod Sample

@@ -6,21 +6,23 @@ use Rattle.m51_cells.specs.Outside.{AppendsFront}
 use Rattle.m51_cells.specs.declared.event.Event.{Event}
 use Rattle.m51_print.specs.Lines.{entry_line, last_line}
 use Rattle.m51_sim.specs.declared.runs.Step.{Step}
+use Rattle.m51_sim.specs.declared.runs.Entries.{Entries}
 use Rattle.m51_sim.specs.declared.runs.Told.{Told}
+use Rattle.m51_module.specs.declared.tally.Tally.{Tally}
 use Rattle.m51_sim.specs.declared.runs.Step.TheVariants.{Done, Stopped}
 use Rattle.m51_sim.specs.declared.runs.RunEnd.{RunEnd}
 use Rattle.m51_sim.specs.declared.runs.RunEnd.TheVariants as ends
 use Rattle.m51_sim.specs.Runs.{State, Performed, Machine, Record, record_of}
 
 -- what a step that is performed tells, or the event of one that is stopped, which leaves the state
-abbrev pub IsAdvance : {M : Type 0} → Result (Performed M) Event → Result Told Event → State M → State M → Type 0
+abbrev pub IsAdvance : {M : Type 0} → Result (Performed M) Event → Result Entries Event → State M → State M → Type 0
 IsAdvance (Ok done) (Ok told) old new = (told ≡ done.told) × (new ≡ done.state)
 IsAdvance (Ok done) (Err told) old new = ⊥
 IsAdvance (Err event) (Ok told) old new = ⊥
 IsAdvance (Err event) (Err told) old new = (told ≡ event) × (new ≡ old)
 
 -- what an advance tells of its step
-abbrev pub step_told : Result Told Event → Step
+abbrev pub step_told : Result Entries Event → Step
 step_told (Ok told) = Done
 step_told (Err event) = Stopped event
 
@@ -30,6 +32,25 @@ IsStep (Ok done) Done old new = new ≡ done.state
 IsStep (Ok done) (Stopped told) old new = ⊥
 IsStep (Err event) Done old new = ⊥
 IsStep (Err event) (Stopped told) old new = (told ≡ event) × (new ≡ old)
+
+-- the event of a step that is stopped
+abbrev pub stopped_by : Step → Option Event
+stopped_by Done = None
+stopped_by (Stopped event) = Some event
+
+-- what an advance tells of its step, with the entries of one that is performed
+abbrev pub told_by : Result Entries Event → Told
+told_by (Ok told) = record { step = Done; port = told.port; sent = told.sent }
+told_by (Err event) = record { step = Stopped event; port = None; sent = None }
+
+-- a step is done and tells its entries, or it is stopped, tells none, and leaves the state
+abbrev pub IsToldStep : {M : Type 0} → Result (Performed M) Event → Told → State M → State M → Type 0
+IsToldStep (Ok done) told old new = (told ≡ told_by (Ok done.told)) × (new ≡ done.state)
+IsToldStep (Err event) told old new = (told ≡ told_by (Err event)) × (new ≡ old)
+
+-- the numbers of a record
+abbrev pub tally_of : {M : Type 0} → Record M → Tally
+tally_of r = record { entries = length r.entries; steps = r.steps; cycle = r.last.cycle; event = r.event }
 
 -- the lines of a record's entries
 abbrev pub entry_lines : {M : Type 0} → Record M → List ℕ

@@ -3,21 +3,23 @@ use Rattle.std.specs.Prelude.{ℕ, zero, suc, List, [], ◌++◌, Option, None, 
 use Rattle.m51_cells.specs.declared.event.Event.{Event}
 use Rattle.m51_cells.specs.declared.event.Entry.{Entry}
 use Rattle.m51_flat.specs.declared.state.Cpu.{Cpu}
-use Rattle.m51_sim.specs.declared.runs.Told.{Told}
+use Rattle.m51_timers_uart.specs.declared.periph.Periph.{Periph}
+use Rattle.m51_sim.specs.declared.runs.Entries.{Entries}
 
--- the processor, the number of the machine cycle, and a memory
+-- the processor, the devices, the number of the machine cycle, and a memory
 pub record State (M : Type 0) : Type 0 where
   pub cpu : Cpu
+  pub periph : Periph
   pub cycle : ℕ
   pub memory : M
 
 -- a step that is performed: the state after it, and the entries that it tells
 pub record Performed (M : Type 0) : Type 0 where
   pub state : State M
-  pub told : Told
+  pub told : Entries
 
 -- the entries that a step tells, that of a port first
-abbrev pub entries_of : Told → List Entry
+abbrev pub entries_of : Entries → List Entry
 entries_of told = option_to_list told.port ++ option_to_list told.sent
 
 -- a machine: the step from each state, which is performed, or stopped by an event
@@ -36,7 +38,7 @@ abbrev pub no_step : {M : Type 0} → Option Event → State M → Record M
 no_step event s = record { entries = []; event = event; steps = 0; last = s }
 
 -- a step that is performed, and then a run
-abbrev pub with_step : {M : Type 0} → Told → Record M → Record M
+abbrev pub with_step : {M : Type 0} → Entries → Record M → Record M
 with_step told r = record {
   entries = entries_of told ++ r.entries;
   event = r.event;

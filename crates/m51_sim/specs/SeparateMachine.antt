@@ -1,151 +1,116 @@
--- The separate machine: each plain or absolute segment of data memory has a store of its own, and all other cells are
--- of a common one. Its program stays inside its units. A machine cycle adds 1 to the cycle number and changes nothing
--- else, and no interrupt is taken.
-use Rattle.std.specs.Prelude.{ℕ, zero, suc, ◌+◌, ◌%◌, Bool, true, false, ◌&&◌, ◌==◌, nat_le, nat_lt, if◌then◌else◌}
-use Rattle.std.specs.Prelude.{List, [], ◌∷◌, Option, Some, None, Result, Ok, Err}
-use Rattle.std.specs.List.{list_any}
+-- The separate machine: records of what is active, and a store for each segment.
+use Rattle.std.specs.Prelude.{ℕ, zero, suc, ◌+◌, ◌%◌, Bool, true, ◌&&◌, if◌then◌else◌, List, Option, Some, None, Result}
+use Rattle.std.specs.Prelude.{Ok, Err}
 use Rattle.m51_cells.specs.declared.cell.Cell.{Cell}
-use Rattle.m51_cells.specs.declared.cell.Space.{Space}
-use Rattle.m51_cells.specs.declared.cell.Space.TheVariants.{Ram, Xram, Code as CodeSpace}
 use Rattle.m51_cells.specs.declared.event.Event.{Event}
-use Rattle.m51_cells.specs.declared.event.Event.TheVariants.{Transfer as LeavesUnits, Reserved}
-use Rattle.m51_cells.specs.declared.event.Why.TheVariants.{NoUnit, PastEnd}
-use Rattle.m51_cells.specs.declared.extent.Extent.{Extent}
-use Rattle.m51_cells.specs.declared.kind.Kind.{Kind}
-use Rattle.m51_cells.specs.declared.kind.Kind.TheVariants.{Code}
+use Rattle.m51_cells.specs.declared.event.Event.TheVariants as events
+use Rattle.m51_cells.specs.declared.event.Why.TheVariants.{PastEnd}
 use Rattle.m51_isa.specs.declared.instr.Instr.{Instr}
 use Rattle.m51_isa.specs.Table.{length_of}
 use Rattle.m51_module.specs.declared.parts.LayoutParts.{LayoutParts}
-use Rattle.m51_module.specs.declared.placed.Mark.{Mark}
-use Rattle.m51_module.specs.declared.placed.Mark.TheVariants.{Bank, Reserve, Absolute, Plain, Overlaid}
-use Rattle.m51_module.specs.declared.placed.Placed.{Placed}
-use Rattle.m51_module.specs.Cells.{extent_at}
 use Rattle.m51_flat.specs.declared.state.Cpu.{Cpu}
 use Rattle.m51_flat.specs.declared.state.Pins.{Pins}
-use Rattle.m51_flat.specs.declared.state.Put.{Put}
-use Rattle.m51_flat.specs.declared.state.Transfer.{Transfer}
-use Rattle.m51_flat.specs.declared.state.Transfer.TheVariants.{Next}
 use Rattle.m51_flat.specs.declared.state.Effect.{Effect}
-use Rattle.m51_flat.specs.Reads.{CellMap}
-use Rattle.m51_flat.specs.Flags.{idl}
-use Rattle.m51_flat.specs.States.{ram_cell, written_to, xram_cell}
-use Rattle.m51_flat.specs.Sfr.{flag, pcon}
-use Rattle.m51_flat.specs.Reset.{reset_cpu}
-use Rattle.m51_sim.specs.Runs.{State, Machine}
-use Rattle.m51_sim.specs.Effects.{performs}
-use Rattle.m51_sim.specs.FlatMachine.{filled_at, idle_effect, instr_at, instr_effect, outer, replaced}
+use Rattle.m51_flat.specs.declared.state.Outcome.{Outcome}
+use Rattle.m51_flat.specs.declared.state.Outcome.TheVariants as outcome
+use Rattle.m51_flat.specs.Meaning.{outcome_of}
+use Rattle.m51_flat.specs.States.{States}
+use Rattle.m51_irq.specs.Vectoring.{vectored}
+use Rattle.m51_monitor.specs.declared.step.Move.{Move}
+use Rattle.m51_monitor.specs.declared.step.Move.TheVariants.{Stay}
+use Rattle.m51_monitor.specs.Found.{unit_found}
+use Rattle.m51_monitor.specs.Judgement.{judge_of}
+use Rattle.m51_monitor.specs.Monitored.{live_in, started, stores_after}
+use Rattle.m51_monitor.specs.Records.{Records, current}
+use Rattle.m51_monitor.specs.Resolved.{outside_of, resolved_cells, segment_over}
+use Rattle.m51_monitor.specs.Stores.{Stores, filled_stores}
+use Rattle.m51_monitor.specs.Transfers.{is_at, moved}
+use Rattle.m51_sim.specs.declared.attempt.Attempt.{Attempt}
+use Rattle.m51_sim.specs.declared.attempt.Attempt.TheVariants.{Vectoring, Idling, Executing, Refusing}
+use Rattle.m51_sim.specs.declared.judging.Allowed.{Allowed}
+use Rattle.m51_sim.specs.Cycles.{Inputs}
+use Rattle.m51_sim.specs.Runs.{State, Performed, Machine}
+use Rattle.m51_sim.specs.Effects.{attempt_of, idle_effect, performed}
 
--- whose store a cell is in: that of the placed segment of this number, or the common one
-pub data Home : Type 0 where
-  Segment : ℕ → Home
-  Common : Home
+-- which units are active, and the stores
+pub record Separate : Type 0 where
+  pub records : Records
+  pub stores : Stores
 
--- a segment has a store of its own; overlaid segments have none until there are activations
-abbrev pub has_store : Mark → Bool
-has_store Absolute = true
-has_store Plain = true
-has_store Bank = false
-has_store Reserve = false
-has_store Overlaid = false
+-- what each cell holds, or that it is outside or unset
+abbrev pub cells_of : LayoutParts → Separate → States
+cells_of l m = resolved_cells l (live_in l m.records) m.stores
 
--- both name one memory
-abbrev pub is_in : Space → Space → Bool
-is_in Ram Ram = true
-is_in Xram Xram = true
-is_in CodeSpace CodeSpace = true
-is_in space other = false
-
--- the extent covers the cell
-abbrev pub is_over : Extent → Cell → Bool
-is_over e cell = is_in e.space cell.space && nat_le e.first cell.at && nat_lt cell.at (e.first + e.len)
-
--- the segment, among these that are counted from a number on, that has a store and covers the cell; else the common one
-abbrev pub home_among : List Placed → ℕ → Cell → Home
-home_among [] number cell = Common
-home_among (p ∷ more) number cell =
-    if has_store p.mark && is_over (extent_at p) cell then Segment number else home_among more (number + 1) cell
-
-abbrev pub home_of : LayoutParts → Cell → Home
-home_of layout cell = home_among layout.placed 0 cell
-
-abbrev pub is_home : Home → Home → Bool
-is_home (Segment one) (Segment other) = one == other
-is_home Common Common = true
-is_home home other = false
-
--- all stores: in each of them a value for each cell
-abbrev pub Stores : Type 0
-Stores = Home → Cell → ℕ
-
--- what a cell holds is what the store of its home has
-abbrev pub map_of_stores : LayoutParts → Stores → CellMap
-map_of_stores layout stores = record {
-  ram = λ n. stores (home_of layout (ram_cell n)) (ram_cell n);
-  xram = λ n. stores (home_of layout (xram_cell n)) (xram_cell n);
-}
-
--- a put changes cells in the stores of their homes alone
-abbrev pub stores_after : LayoutParts → Put → Stores → Stores
-stores_after layout put stores = λ home cell.
-    if is_home home (home_of layout cell) then replaced (written_to put cell) (stores home cell) else stores home cell
-
--- a segment of program memory; a register bank or a reserve is no segment
-abbrev pub is_code : Kind → Mark → Bool
-is_code Code Bank = false
-is_code Code Reserve = false
-is_code Code mark = true
-is_code kind mark = false
-
--- it is a unit, and covers the address
-abbrev pub unit_covers : ℕ → Placed → Bool
-unit_covers address p = is_code p.kind p.mark && nat_le p.base address && nat_lt address (p.base + p.size)
-
--- some unit covers the address
-abbrev pub has_unit : LayoutParts → ℕ → Bool
-has_unit layout address = list_any (unit_covers address) layout.placed
-
--- the unit that covers the first address, which is the current one where that is the program counter, covers the other
-abbrev pub in_unit_of : LayoutParts → ℕ → ℕ → Bool
-in_unit_of layout pc address = list_any (λ p. unit_covers pc p && unit_covers address p) layout.placed
-
--- so many bytes from the program counter on lie in the current unit
-abbrev pub lie_inside : LayoutParts → ℕ → ℕ → Bool
-lie_inside layout pc zero = true
-lie_inside layout pc (suc count) = lie_inside layout pc count && in_unit_of layout pc ((pc + count) % 65536)
-
--- the next instruction must lie in the current unit, and the target of each other transfer in some unit
-abbrev pub unless_leaves : LayoutParts → ℕ → Effect → Transfer → Result Effect Event
-unless_leaves layout pc e Next = if in_unit_of layout pc e.cpu.pc then Ok e else Err (LeavesUnits PastEnd pc e.cpu.pc)
-unless_leaves layout pc e other = if has_unit layout e.cpu.pc then Ok e else Err (LeavesUnits NoUnit pc e.cpu.pc)
-
--- the transfer is judged where there is an effect
-abbrev pub transferred : LayoutParts → ℕ → Result Effect Event → Result Effect Event
-transferred layout pc (Ok e) = unless_leaves layout pc e e.transfer
-transferred layout pc (Err event) = Err event
+-- so many bytes from the address on lie in the unit
+abbrev pub lie_inside : LayoutParts → ℕ → ℕ → ℕ → Bool
+lie_inside l unit pc zero = true
+lie_inside l unit pc (suc count) = lie_inside l unit pc count && is_at (unit_found l ((pc + count) % 65536)) unit
 
 -- first of all, the bytes of an instruction must lie in the current unit
-abbrev pub separate_instr : LayoutParts → List ℕ → Cpu → CellMap → Pins → Option Instr → Result Effect Event
-separate_instr layout image cpu m pins None = Err (Reserved cpu.pc)
-separate_instr layout image cpu m pins (Some instr) =
-    if lie_inside layout cpu.pc (length_of instr)
-    then transferred layout cpu.pc (instr_effect image cpu m pins instr)
-    else Err (LeavesUnits PastEnd cpu.pc ((cpu.pc + length_of instr) % 65536))
+abbrev pub unless_past_end : LayoutParts → Separate → ℕ → ℕ → Result Allowed Event → Result Allowed Event
+unless_past_end l m pc count rest =
+    if lie_inside l (current m.records) pc count then rest
+    else Err (events.Transfer PastEnd pc ((pc + count) % 65536))
 
--- what a step comes to, with these levels of the pins
-unfoldable pub separate_effect : LayoutParts → List ℕ → Cpu → CellMap → Pins → Result Effect Event
-separate_effect layout image cpu m pins =
-    if flag cpu pcon idl then Ok (idle_effect cpu) else separate_instr layout image cpu m pins (instr_at image cpu.pc)
+-- last of all, the transfer of control must be allowed
+abbrev pub with_move : Effect → Result Move Event → Result Allowed Event
+with_move e (Ok step) = Ok (record { effect = e; step = step })
+with_move e (Err event) = Err event
+
+-- the event of a cell that holds no value; it is in a live segment, since only those have unset cells
+abbrev pub unwritten_in : Cell → ℕ → Option ℕ → Event
+unwritten_in c at (Some segment) = events.Unwritten c segment at
+unwritten_in c at None = events.Outside c at
+
+-- in between, the first read without a value, the first put outside, and power-down
+abbrev pub concludes : LayoutParts → Separate → Cpu → Outcome → Result Allowed Event
+concludes l m cpu (outcome.Done e) = with_move e (judge_of l m.records cpu e)
+concludes l m cpu (outcome.Outside c) = Err (events.Outside c cpu.pc)
+concludes l m cpu (outcome.Unset c) = Err (unwritten_in c cpu.pc (segment_over l (live_in l m.records) c))
+concludes l m cpu outcome.PowerDown = Err (events.PowerDown cpu.pc)
+
+-- what an instruction comes to over the stores; a cell that is outside may be neither read nor written
+abbrev pub instr_outcome : LayoutParts → Separate → Cpu → Instr → List ℕ → Pins → Outcome
+instr_outcome l m cpu instr image pins =
+    let cells = cells_of l m in outcome_of cpu cells (outside_of cells) instr image pins
+
+-- what a step comes to, with these levels of the pins: the first event, or the effect and how it changes the records
+unfoldable pub separate_effect : LayoutParts → List ℕ → Cpu → Separate → Pins → Attempt → Result Allowed Event
+separate_effect l image cpu m pins (Vectoring source) =
+    concludes l m cpu (vectored cpu (outside_of (cells_of l m)) source)
+separate_effect l image cpu m pins Idling = Ok (record { effect = idle_effect cpu; step = Stay })
+separate_effect l image cpu m pins (Executing instr) =
+    unless_past_end l m cpu.pc (length_of instr) (concludes l m cpu (instr_outcome l m cpu instr image pins))
+separate_effect l image cpu m pins Refusing = unless_past_end l m cpu.pc 1 (Err (events.Reserved cpu.pc))
+
+-- the puts, the first one first, where the records before say which stores are live, and the change of the records,
+-- after which the stores of dead segments are unset
+abbrev pub memory_after : LayoutParts → Separate → Allowed → Separate
+memory_after l m allowed =
+    let records = moved m.records allowed.effect allowed.step in
+    record { records = records; stores = stores_after l m.records records allowed.effect m.stores }
+
+-- an effect that is allowed is performed; an event changes nothing
+abbrev pub separate_performs : LayoutParts → Inputs → State Separate → Result Allowed Event
+    → Result (Performed Separate) Event
+separate_performs l inputs s (Ok allowed) = Ok (performed inputs s allowed.effect (memory_after l s.memory allowed))
+separate_performs l inputs s (Err event) = Err event
 
 -- the separate machine of a layout, which holds an image
-abbrev pub separate_machine : LayoutParts → List ℕ → Machine Stores
-separate_machine layout image s =
-    performs (stores_after layout) s (separate_effect layout image s.cpu (map_of_stores layout s.memory) outer)
+abbrev pub separate_machine : LayoutParts → List ℕ → Inputs → Machine Separate
+separate_machine l image inputs s =
+    separate_performs l inputs s
+    (separate_effect l image s.cpu s.memory (inputs.pins s.cycle) (attempt_of image s.cpu))
 
--- each store has the fill in the cells that are its own
-abbrev pub filled_stores : LayoutParts → ℕ → Stores
-filled_stores layout fill = λ home cell.
-    if is_home home (home_of layout cell) then filled_at fill cell.space cell.at else 0
+-- the unit of 0000H, which the reset names
+abbrev pub or_zero : Option ℕ → ℕ
+or_zero None = 0
+or_zero (Some unit) = unit
 
--- the separate machine after a reset
-abbrev pub separate_start : LayoutParts → ℕ → State Stores
-separate_start layout fill = record { cpu = reset_cpu; cycle = 0; memory = filled_stores layout fill }
+abbrev pub reset_unit : LayoutParts → ℕ
+reset_unit l = or_zero (unit_found l 0)
+
+-- The memory after a reset: only the unit of 0000H is active, each plain segment and the common store have the fill,
+-- and overlaid segments are unset.
+abbrev pub separate_start : LayoutParts → ℕ → Separate
+separate_start l fill = record { records = started (reset_unit l); stores = filled_stores l fill }

@@ -1,99 +1,183 @@
 //! A board whose program keeps to its units, and whose segments have stores of their own.
-ghost use Rattle.std.specs.Prelude.{◌≡◌, ◌≤◌, ℕ, true, IfErr, IfOk, length};
+ghost use Rattle.std.specs.Option.{ForSome};
+ghost use Rattle.std.specs.Prelude.{◌≡◌, ◌≤◌, ℕ, IfErr, IfOk, List, length};
 ghost use Rattle.m51_cells.specs.declared.limits.TheConstants.{MOST_STEPS};
 ghost use Rattle.m51_cells.specs.Outside.{Rose};
 ghost use Rattle.m51_module.specs.Plan.{IsRootAt};
+ghost use Rattle.m51_module.specs.declared.parts.LayoutParts.{LayoutParts};
+ghost use Rattle.m51_monitor.specs.Monitored.{live_in};
+ghost use Rattle.m51_monitor.specs.Related.{OneLive};
 ghost use Rattle.m51_print.specs.Lines.{HasText, titles_of};
-ghost use Rattle.m51_sim.specs.Boards.{flat_of, map_of, parted, separate_of};
-ghost use Rattle.m51_sim.specs.Run.{Ended, IsAdvance, IsStep, step_told};
-ghost use Rattle.m51_sim.specs.FlatMachine.{outer};
-ghost use Rattle.m51_sim.specs.SeparateMachine.{has_unit, separate_effect, separate_machine, separate_start};
+ghost use Rattle.m51_script.specs.declared.script.Script.{Script as ScriptState};
+ghost use Rattle.m51_sim.specs.Boards.{IsInOrder, IsStarted, StandsForState, memory_of, separate_of, state_with};
+ghost use Rattle.m51_sim.specs.Cycles.{AreFew, inputs_of, with_extra};
+ghost use Rattle.m51_sim.specs.Report.{IsReport};
+ghost use Rattle.m51_sim.specs.Run.{Ended, IsAdvance, IsStep, IsToldStep, step_told, stopped_by, tally_of, told_by};
+ghost use Rattle.m51_sim.specs.Runs.{record_of};
+ghost use Rattle.m51_sim.specs.SeparateMachine.{separate_machine};
 
 use crate::chip::Chip;
-use crate::runs::{RunEnd, Step, Steps, Told, run};
+use crate::cycles::Timed;
+use crate::judging::{commit, judge, stand};
+use crate::runs::{Entries, RunEnd, Step, Steps, Told, count_run, run};
 use crate::sink::Sink;
-use crate::units::{lie_inside, unless_leaves};
-use m51_cells::{Event, NoMemory, Why};
-use m51_flat::Effect;
-use m51_isa::length;
-use m51_module::{Image, Layout, Placed};
+use m51_cells::{Event, NoMemory};
+use m51_module::{Image, Layout, Placed, Tally};
+use m51_monitor::Monitor;
+use m51_script::Script;
 use std::alloc::Global;
 use std::marker::Model;
 
-/// A board that runs a linked program. Each plain or absolute segment of data memory has a store of its own; all other
-/// cells are of a common one. Overlaid segments have none until there are activations.
+/// A board that runs a linked program: each segment of data memory has a store of its own, and control keeps to the
+/// units and edges of the layout. Only `make` takes memory.
 ///
 /// Source: own choice ("Boards").
 #[derive(Drop)]
 pub struct Board {
-    layout: Layout,
     chip: Chip,
+    monitor: Monitor,
 }
 
 impl Model for Board {
-    ghost use Rattle.std.specs.Prelude.{◌≡◌, true};
-    ghost use Rattle.m51_sim.specs.Boards.{BoardState};
-    ghost use Rattle.m51_sim.specs.SeparateMachine.{has_unit};
+    ghost use Rattle.m51_sim.specs.Boards.{BoardState, IsInOrder};
 
     ghost Value = { BoardState };
 
-    ghost view = { λ b. record { layout = b.layout; chip = b.chip } };
+    ghost view = { λ b. record { chip = b.chip; monitor = b.monitor } };
 
-    ghost invariant = { λ b. has_unit b.layout b.chip.cpu.pc ≡ true };
+    ghost invariant = { λ b. IsInOrder b.monitor b.chip.cpu };
 }
 
 impl Board {
-    /// A board with this layout, which has a root at 0000H, and this image, after a reset: each store has the fill 00H.
-    /// Want of memory is the one refusal.
+    /// A board with this layout, which has a root at 0000H, this image and this script, after a reset: plain segments
+    /// and the common store have the script's fill, and overlaid segments are unset. Out of memory is the only error.
     ///
     /// Source: own choice ("Boards").
-    pub fn make(alloc: Global, layout: Layout, image: Image) -> Result<Board, NoMemory>
+    pub fn make(
+        alloc: Global,
+        layout: Layout,
+        image: Image,
+        script: Script,
+    ) -> Result<Board, NoMemory>
         requires { (unit : ℕ) × IsRootAt layout 0 unit }
-        ensures layout { IfOk result (λ board. board.layout ≡ layout) }
-        ensures image { IfOk result (λ board. board.chip.image ≡ image) }
-        ensures start { IfOk result (λ board. separate_of board ≡ separate_start layout 0) }
+        ensures { IfOk result (IsStarted layout image script) }
     {
-        // A layout is sound, so its root is not empty.
-        let _ = layout.placed();
-        let chip = Chip::make(alloc, image)?;
-        Ok(Board { layout, chip })
+        let monitor = Monitor::start(alloc, layout, script.fill())?;
+        stand(&monitor);
+        Ok(Board {
+            chip: Chip::make(image, script),
+            monitor,
+        })
     }
 
-    /// One step.
+    /// One step. One that is stopped changes nothing, and the next step answers the same.
     ///
     /// Source: own choice ("Runs").
     pub fn step(&mut self) -> Step
-        ensures layout { self.new.layout ≡ self.old.layout }
-        ensures image { self.new.chip.image ≡ self.old.chip.image }
-        ensures step { IsStep (separate_machine self.old.layout self.old.chip.image (separate_of self.old)) result
+        ensures step { IsStep (separate_machine self.old.monitor.layout self.old.chip.image
+            (inputs_of self.old.chip.script) (separate_of self.old)) result
             (separate_of self.old) (separate_of self.new) }
+        ensures layout { self.new.monitor.layout ≡ self.old.monitor.layout }
+        ensures image { self.new.chip.image ≡ self.old.chip.image }
+        ensures script { self.new.chip.script ≡ self.old.chip.script }
     {
-        let answer = self.advance();
+        let answer = advance_alone(&mut self.monitor, &mut self.chip);
         step_told(answer)
+    }
+
+    /// One step with further frames, which come after the script's of their cycle, and its entries. Of one cycle there
+    /// are at most seven.
+    ///
+    /// Source: own choice ("Frames of other boards").
+    pub fn step_on(&mut self, extra: &[Timed]) -> Told
+        requires { AreFew extra.now }
+        ensures step { IsToldStep (separate_machine self.old.monitor.layout self.old.chip.image
+            (with_extra extra.now (inputs_of self.old.chip.script)) (separate_of self.old)) result
+            (separate_of self.old) (separate_of self.new) }
+        // The segment of an event is one of the placed extents, and its cell one of RAM or of external data memory.
+        ensures text { ForSome (stopped_by result.step) (HasText (length self.old.monitor.layout.placed)) }
+        ensures layout { self.new.monitor.layout ≡ self.old.monitor.layout }
+        ensures image { self.new.chip.image ≡ self.old.chip.image }
+        ensures script { self.new.chip.script ≡ self.old.chip.script }
+    {
+        let answer = advance(&mut self.monitor, &mut self.chip, extra);
+        told_by(answer)
     }
 
     /// At most `n` steps, 1 to 10,000,000, with a line for each entry and the last line.
     ///
-    /// WriteFault: the sink has failed. The board stands after the step whose line is not whole, or after the last step
+    /// WriteFault: the sink has failed. The board is after the step whose line is not whole, or after the last step
     /// where that line is the last. It may be run on.
     ///
     /// Source: own choice ("Runs").
     pub fn run<S: Sink>(&mut self, n: u32, out: &mut S) -> RunEnd
         requires { (1 ≤ n) × (n ≤ MOST_STEPS) }
-        ensures ended { Ended (S.state out.old).text (S.state out.new).text (titles_of self.old.layout.placed)
-            (separate_machine self.old.layout self.old.chip.image) n
+        ensures ended { Ended (S.state out.old).text (S.state out.new).text (titles_of self.old.monitor.layout.placed)
+            (separate_machine self.old.monitor.layout self.old.chip.image (inputs_of self.old.chip.script)) n
             (separate_of self.old) (separate_of self.new) result }
-        ensures layout { self.new.layout ≡ self.old.layout }
+        ensures report { (l : LayoutParts) (image : List ℕ) (script : ScriptState) → IsStarted l image script self.old
+            → IsReport l image script n (S.state out.old).text (S.state out.new).text result }
+        ensures layout { self.new.monitor.layout ≡ self.old.monitor.layout }
         ensures image { self.new.chip.image ≡ self.old.chip.image }
+        ensures script { self.new.chip.script ≡ self.old.chip.script }
         ensures later { (S.state out.old).faults ≤ (S.state out.new).faults }
         ensures fault { result ≡ RunEnd.WriteFault → Rose (S.state out.old).faults (S.state out.new).faults }
     {
         run(self, n, out)
     }
+
+    /// The numbers of at most `n` steps, 1 to 10,000,000, which are performed as `run` performs them.
+    ///
+    /// Source: own choice ("Runs").
+    pub fn tally(&mut self, n: u32) -> Tally
+        requires { (1 ≤ n) × (n ≤ MOST_STEPS) }
+        ensures tally { result ≡ tally_of (record_of (separate_machine self.old.monitor.layout self.old.chip.image
+            (inputs_of self.old.chip.script)) n (separate_of self.old)) }
+        ensures last { separate_of self.new ≡ (record_of (separate_machine self.old.monitor.layout self.old.chip.image
+            (inputs_of self.old.chip.script)) n (separate_of self.old)).last }
+        // The segment of an event is one of the placed extents, and its cell one of RAM or of external data memory.
+        ensures text { ForSome result.event (HasText (length self.old.monitor.layout.placed)) }
+        ensures layout { self.new.monitor.layout ≡ self.old.monitor.layout }
+        ensures image { self.new.chip.image ≡ self.old.chip.image }
+        ensures script { self.new.chip.script ≡ self.old.chip.script }
+    {
+        count_run(self, n)
+    }
+
+    /// The layout that `make` was given.
+    ///
+    /// Source: own choice ("Boards").
+    pub fn layout(&self) -> &Layout
+        ensures { result.now ≡ self.now.monitor.layout }
+    {
+        self.monitor.layout()
+    }
+
+    /// The number of the machine cycle in which the next step starts.
+    ///
+    /// Source: own choice ("Runs").
+    pub fn cycle(&self) -> u64
+        ensures { result ≡ self.now.chip.cycle }
+    {
+        self.chip.cycle()
+    }
+
+    /// Nothing: what holds of a board at every moment. Its memory represents the separate stores that contracts see,
+    /// the units of its records form walks from roots of which none runs twice, PC lies in the current unit, SP is not
+    /// below that of the topmost record, the interrupts that have records were taken at the levels in progress, and at
+    /// most one live segment covers a cell.
+    ///
+    /// Source: own choice ("Boards").
+    pub fn stands(&self)
+        ensures state { StandsForState self.now }
+        ensures one { OneLive self.now.monitor.layout (live_in self.now.monitor.layout self.now.monitor.records) }
+    {
+        stand(&self.monitor);
+    }
 }
 
 // What an advance tells of its step.
-fn step_told(answer: Result<Told, Event>) -> Step
+fn step_told(answer: Result<Entries, Event>) -> Step
     ensures { result ≡ step_told answer }
 {
     match answer {
@@ -102,69 +186,82 @@ fn step_told(answer: Result<Told, Event>) -> Step
     }
 }
 
-// The effect of the next step, or the event that stops it.
-#[tactic(auto, unfolding(crate::specs::SeparateMachine::separate_effect))]
-fn judge(layout: &Layout, chip: &Chip) -> Result<Effect, Event>
-    requires { has_unit layout.now chip.now.cpu.pc ≡ true }
-    ensures value { result ≡ separate_effect layout.now chip.now.image chip.now.cpu (map_of chip.now.memory) outer }
-    ensures covered { IfOk result (λ e. has_unit layout.now e.cpu.pc ≡ true) }
-    ensures text { IfErr result (HasText (length layout.now.placed)) }
+// The same, with the entries of a step that is performed.
+fn told_by(answer: Result<Entries, Event>) -> Told
+    ensures { result ≡ told_by answer }
 {
-    if chip.is_idle() {
-        return Ok(chip.idle());
-    }
-    let pc = chip.pc();
-    let Some(instr) = chip.instr() else {
-        return Err(Event::Reserved { at: pc });
-    };
-    if !lie_inside(layout, pc, length(&instr)) {
-        return Err(Event::Transfer {
-            why: Why::PastEnd,
-            from: pc,
-            to: pc.wrapping_add(u16::from(length(&instr))),
-        });
-    }
-    match chip.effect(&instr) {
-        Ok(effect) => unless_leaves(layout, pc, effect),
-        Err(stopped) => Err(stopped),
+    match answer {
+        Ok(Entries { port, sent }) => Told {
+            step: Step::Done,
+            port,
+            sent,
+        },
+        Err(event) => Told {
+            step: Step::Stopped(event),
+            port: None,
+            sent: None,
+        },
     }
 }
 
 // Performs a step and gives what it tells, or gives the event that stops it.
-fn advance(layout: &Layout, chip: &mut Chip) -> Result<Told, Event>
-    requires { has_unit layout.now chip.old.cpu.pc ≡ true }
-    ensures covered { has_unit layout.now chip.new.cpu.pc ≡ true }
+fn advance(monitor: &mut Monitor, chip: &mut Chip, extra: &[Timed]) -> Result<Entries, Event>
+    requires order { IsInOrder monitor.old chip.old.cpu }
+    requires few { AreFew extra.now }
+    ensures order { IsInOrder monitor.new chip.new.cpu }
+    ensures layout { monitor.new.layout ≡ monitor.old.layout }
     ensures image { chip.new.image ≡ chip.old.image }
-    ensures step { IsAdvance (separate_machine layout.now chip.old.image (parted layout.now (flat_of chip.old))) result
-        (parted layout.now (flat_of chip.old)) (parted layout.now (flat_of chip.new)) }
-    ensures text { IfErr result (HasText (length layout.now.placed)) }
+    ensures script { chip.new.script ≡ chip.old.script }
+    ensures step { IsAdvance (separate_machine monitor.old.layout chip.old.image
+        (with_extra extra.now (inputs_of chip.old.script)) (state_with chip.old (memory_of monitor.old))) result
+        (state_with chip.old (memory_of monitor.old)) (state_with chip.new (memory_of monitor.new)) }
+    ensures text { IfErr result (HasText (length monitor.old.layout.placed)) }
 {
-    match judge(layout, chip) {
-        Ok(effect) => Ok(chip.perform(&effect)),
+    stand(monitor);
+    match judge(monitor, chip) {
+        Ok(allowed) => {
+            commit(monitor, &allowed);
+            Ok(chip.pass(&allowed.effect, extra))
+        }
         Err(event) => Err(event),
     }
 }
 
+// The same with the script's frames only.
+fn advance_alone(monitor: &mut Monitor, chip: &mut Chip) -> Result<Entries, Event>
+    requires order { IsInOrder monitor.old chip.old.cpu }
+    ensures order { IsInOrder monitor.new chip.new.cpu }
+    ensures layout { monitor.new.layout ≡ monitor.old.layout }
+    ensures image { chip.new.image ≡ chip.old.image }
+    ensures script { chip.new.script ≡ chip.old.script }
+    ensures step { IsAdvance (separate_machine monitor.old.layout chip.old.image (inputs_of chip.old.script)
+        (state_with chip.old (memory_of monitor.old))) result
+        (state_with chip.old (memory_of monitor.old)) (state_with chip.new (memory_of monitor.new)) }
+    ensures text { IfErr result (HasText (length monitor.old.layout.placed)) }
+{
+    advance(monitor, chip, &[])
+}
+
 impl Steps for Board {
     ghost use Rattle.std.specs.Prelude.{ℕ, List};
-    ghost use Rattle.m51_module.specs.declared.parts.LayoutParts.{LayoutParts};
     ghost use Rattle.m51_sim.specs.Boards.{Loaded, separate_of};
-    ghost use Rattle.m51_sim.specs.SeparateMachine.{Stores, separate_machine};
+    ghost use Rattle.m51_sim.specs.Cycles.{inputs_of};
+    ghost use Rattle.m51_sim.specs.SeparateMachine.{Separate, separate_machine};
 
-    ghost Memory = { Stores };
+    ghost Memory = { Separate };
 
     ghost Fixed = { Loaded };
 
-    ghost fixed = { λ board. record { layout = board.layout; image = board.chip.image } };
+    ghost fixed = { λ b. record { layout = b.monitor.layout; image = b.chip.image; script = b.chip.script } };
 
-    ghost machine = { λ loaded. separate_machine loaded.layout loaded.image };
+    ghost machine = { λ loaded. separate_machine loaded.layout loaded.image (inputs_of loaded.script) };
 
     ghost state = { separate_of };
 
     ghost extents = { λ loaded. loaded.layout.placed };
 
-    fn advance(&mut self) -> Result<Told, Event> {
-        advance(&self.layout, &mut self.chip)
+    fn advance(&mut self) -> Result<Entries, Event> {
+        advance_alone(&mut self.monitor, &mut self.chip)
     }
 
     fn cycle(&self) -> u64 {
@@ -172,6 +269,6 @@ impl Steps for Board {
     }
 
     fn placed(&self) -> &[Placed] {
-        self.layout.placed()
+        self.monitor.layout().placed()
     }
 }

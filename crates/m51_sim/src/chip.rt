@@ -1,32 +1,34 @@
-//! An image, the processor, the number of the machine cycle, and one memory.
-ghost use Rattle.std.specs.Prelude.{◌≡◌, ℕ, IfErr, IfOk, slice_index};
-ghost use Rattle.m51_print.specs.Lines.{HasText};
-ghost use Rattle.m51_flat.specs.Flags.{idl};
-ghost use Rattle.m51_flat.specs.Sfr.{flag, pcon};
-ghost use Rattle.m51_sim.specs.Boards.{flat_of, map_of};
-ghost use Rattle.m51_sim.specs.Effects.{cycles_on, effected, entry_of, latch_address, told_of};
-ghost use Rattle.m51_sim.specs.FlatMachine.{flat_start, idle_effect, instr_at, instr_effect, map_after, outer};
+//! An image, a script, the processor, the devices, and the number of the machine cycle.
+ghost use Rattle.std.specs.Prelude.{◌≡◌, length, slice_index};
+ghost use Rattle.m51_flat.specs.Reset.{reset_cpu};
+ghost use Rattle.m51_timers_uart.specs.LineLaws.{written_to};
+ghost use Rattle.m51_timers_uart.specs.Tick.{reset_periph};
+ghost use Rattle.m51_sim.specs.Cycles.{AreFew, cycles_passed, inputs_of, with_extra};
+ghost use Rattle.m51_sim.specs.Effects.{attempt_by, attempt_of, changed_by, executing, idle_effect};
+ghost use Rattle.m51_sim.specs.Effects.{instr_at, latch_address, port_entry};
 
-use crate::runs::Told;
-use m51_cells::{Entry, Event, NoMemory};
+use crate::attempt::Attempt;
+use crate::cycles::{Passing, Timed, pass_cycles};
+use crate::runs::Entries;
+use m51_cells::Entry;
 use m51_flat::addresses::{P0, P1, P2, P3, PCON};
 use m51_flat::flags::IDL;
-use m51_flat::{CellStore, Cpu, Effect, FlatRam, Outcome, Pins, Put, Transfer, exec, reset};
+use m51_flat::{Cpu, Effect, Pins, Put, Source, Transfer, reset};
+use m51_irq::choose;
 use m51_isa::{Instr, decode};
 use m51_module::Image;
-use std::alloc::Global;
+use m51_script::Script;
+use m51_timers_uart::Periph;
 use std::marker::Model;
 
-// The byte that memory has everywhere after a reset.
-const FILL: u8 = 0x00;
-
-/// What both boards have. One memory serves all segments.
+/// What both boards have beside their memories.
 #[derive(Drop)]
 pub(crate) struct Chip {
     image: Image,
+    script: Script,
     cpu: Cpu,
+    periph: Periph,
     cycle: u64,
-    memory: FlatRam,
 }
 
 impl Model for Chip {
@@ -34,22 +36,41 @@ impl Model for Chip {
 
     ghost Value = { ChipState };
 
-    ghost view = { λ c. record { image = c.image; cpu = c.cpu; cycle = c.cycle; memory = c.memory } };
+    ghost view = { λ c. record {
+      image = c.image;
+      script = c.script;
+      cpu = c.cpu;
+      periph = c.periph;
+      cycle = c.cycle;
+    } };
 }
 
 impl Chip {
-    // With this image, after a reset, and with the fill everywhere.
-    pub(crate) fn make(alloc: Global, image: Image) -> Result<Chip, NoMemory>
-        ensures image { IfOk result (λ chip. chip.image ≡ image) }
-        ensures start { IfOk result (λ chip. flat_of chip ≡ flat_start 0) }
+    // With this image and script, after a reset.
+    pub(crate) fn make(image: Image, script: Script) -> Chip
+        ensures { result ≡ record {
+          image = image;
+          script = script;
+          cpu = reset_cpu;
+          periph = reset_periph ((inputs_of script).pins 0);
+          cycle = 0;
+        } }
     {
-        let memory = FlatRam::filled(alloc, FILL)?;
-        Ok(Chip {
+        let periph = Periph::reset(&script.pins_at(0));
+        Chip {
             image,
+            script,
             cpu: reset(),
+            periph,
             cycle: 0,
-            memory,
-        })
+        }
+    }
+
+    // The processor.
+    pub(crate) fn cpu(&self) -> &Cpu
+        ensures { result.now ≡ self.now.cpu }
+    {
+        &self.cpu
     }
 
     // The address of the next instruction.
@@ -66,41 +87,59 @@ impl Chip {
         self.cycle
     }
 
-    // Whether PCON asks for idle cycles.
-    pub(crate) fn is_idle(&self) -> bool
-        ensures { result ≡ flag self.now.cpu pcon idl }
+    // The bytes of the image.
+    pub(crate) fn bytes(&self) -> &[u8]
+        ensures list { result.now ≡ self.now.image }
+        ensures whole { length result.now ≡ 65536 }
     {
-        self.cpu.flag(PCON, IDL)
+        self.image.bytes()
     }
 
-    // A machine cycle without an instruction.
-    pub(crate) fn idle(&self) -> Effect
-        ensures { result ≡ idle_effect self.now.cpu }
+    // The levels that the outside gives the pins.
+    pub(crate) fn pins(&self) -> Pins
+        ensures { result ≡ (inputs_of self.now.script).pins self.now.cycle }
     {
-        let mut cpu = self.cpu;
-        cpu.held = false;
-        Effect {
-            cpu,
-            first: Put::Nothing,
-            second: Put::Nothing,
-            transfer: Transfer::Next,
-            port: None,
-            sbuf: None,
-            cycles: 1,
+        self.script.pins_at(self.cycle)
+    }
+
+    // What the next step is.
+    #[tactic(auto, unfolding(crate::specs::Effects::attempt_of))]
+    pub(crate) fn attempt(&self) -> Attempt
+        ensures { result ≡ attempt_of self.now.image self.now.cpu }
+    {
+        self.attempt_by(choose(&self.cpu))
+    }
+
+    // The same, where it is known which interrupt is to be taken.
+    fn attempt_by(&self, taken: Option<Source>) -> Attempt
+        ensures { result ≡ attempt_by self.now.image self.now.cpu taken }
+    {
+        match taken {
+            Some(source) => Attempt::Vectoring(source),
+            None => {
+                if self.cpu.flag(PCON, IDL) {
+                    Attempt::Idling
+                } else {
+                    self.fetch()
+                }
+            }
         }
     }
 
-    // The instruction at the program counter, unless it is the reserved opcode.
-    #[tactic(auto, unfolding(crate::specs::FlatMachine::instr_at))]
-    pub(crate) fn instr(&self) -> Option<Instr>
-        ensures { result ≡ instr_at self.now.image self.now.cpu.pc }
+    // The instruction at the program counter, or the reserved opcode.
+    #[tactic(auto, unfolding(crate::specs::Effects::instr_at))]
+    fn fetch(&self) -> Attempt
+        ensures { result ≡ executing (instr_at self.now.image self.now.cpu.pc) }
     {
         let pc = self.cpu.pc;
-        decode([
+        match decode([
             self.byte(pc),
             self.byte(pc.wrapping_add(1)),
             self.byte(pc.wrapping_add(2)),
-        ])
+        ]) {
+            None => Attempt::Refusing,
+            Some(instr) => Attempt::Executing(instr),
+        }
     }
 
     // The byte of the image at an address.
@@ -110,59 +149,67 @@ impl Chip {
         self.image.bytes()[usize::from(address)]
     }
 
-    // The effect of an instruction, unless it would power down.
-    pub(crate) fn effect(&self, instr: &Instr) -> Result<Effect, Event>
-        ensures value { result ≡ instr_effect self.now.image self.now.cpu (map_of self.now.memory) outer instr.now }
-        ensures text { (count : ℕ) → IfErr result (HasText count) }
-    {
-        match exec(
-            &self.cpu,
-            &self.memory,
-            instr,
-            self.image.bytes(),
-            &outer_pins(),
-        ) {
-            Outcome::Done(effect) => Ok(effect),
-            Outcome::PowerDown => Err(Event::PowerDown { at: self.cpu.pc }),
-            Outcome::Outside(_) | Outcome::Unset(_) => unreachable!(),
-        }
-    }
-
-    // Performs an effect, and gives what it tells.
-    pub(crate) fn perform(&mut self, effect: &Effect) -> Told
+    // Performs the step of an effect, but for its puts: its changes, and then its cycles.
+    pub(crate) fn pass(&mut self, effect: &Effect, extra: &[Timed]) -> Entries
+        requires { AreFew extra.now }
         ensures image { self.new.image ≡ self.old.image }
-        ensures cpu { self.new.cpu ≡ effect.now.cpu }
-        ensures state { flat_of self.new ≡ effected map_after (flat_of self.old) effect.now }
-        ensures told { result ≡ told_of self.old.cycle effect.now }
+        ensures script { self.new.script ≡ self.old.script }
+        ensures port { result.port ≡ port_entry self.old.cycle effect.now }
+        ensures passed { record {
+          cpu = self.new.cpu;
+          periph = self.new.periph;
+          cycle = self.new.cycle;
+          sent = result.sent;
+        } ≡ cycles_passed (with_extra extra.now (inputs_of self.old.script)) effect.now.cycles
+            (changed_by self.old.cycle self.old.periph effect.now) }
     {
-        let told = told_by(self.cycle, effect);
-        put(&mut self.memory, &effect.first);
-        put(&mut self.memory, &effect.second);
-        self.cpu = effect.cpu;
-        self.cycle = cycle_after(self.cycle, effect.cycles);
-        told
+        let mut passing = Passing {
+            cpu: effect.cpu,
+            periph: begun(self.periph, effect),
+            cycle: self.cycle,
+            sent: None,
+        };
+        pass_cycles(&self.script, extra, effect.cycles, &mut passing);
+        let port = port_entry(self.cycle, effect);
+        let Passing {
+            cpu,
+            periph,
+            cycle,
+            sent,
+        } = passing;
+        self.cpu = cpu;
+        self.periph = periph;
+        self.cycle = cycle;
+        Entries { port, sent }
     }
 }
 
-// The outside gives each pin the level 1.
-fn outer_pins() -> Pins
-    ensures { result ≡ outer }
+// A machine cycle without an instruction.
+pub(crate) fn idle(cpu: &Cpu) -> Effect
+    ensures { result ≡ idle_effect cpu.now }
 {
-    Pins { p: [0xFF; 4] }
+    let mut cpu = *cpu;
+    cpu.held = false;
+    Effect {
+        cpu,
+        first: Put::Nothing,
+        second: Put::Nothing,
+        transfer: Transfer::Next,
+        port: None,
+        sbuf: None,
+        cycles: 1,
+    }
 }
 
-// Writes the cells of a put.
-fn put(memory: &mut FlatRam, put: &Put)
-    ensures { map_of memory.new ≡ map_after put.now (map_of memory.old) }
+// The devices after a byte was written to SBUF, if one was.
+fn begun(periph: Periph, effect: &Effect) -> Periph
+    ensures { result ≡ written_to effect.now.cpu effect.now.sbuf periph }
 {
-    memory.put(put);
-}
-
-// The cycle number after some more cycles.
-fn cycle_after(cycle: u64, more: u8) -> u64
-    ensures { result ≡ cycles_on cycle more }
-{
-    cycle.saturating_add(u64::from(more))
+    let mut periph = periph;
+    if let Some(byte) = effect.sbuf {
+        periph.begin(&effect.cpu, byte);
+    }
+    periph
 }
 
 // The address of the latch of a port.
@@ -177,19 +224,9 @@ fn latch_address(port: u8) -> u8
     }
 }
 
-// What a step that starts in this cycle tells.
-fn told_by(cycle: u64, effect: &Effect) -> Told
-    ensures { result ≡ told_of cycle effect.now }
-{
-    Told {
-        port: port_entry(cycle, effect),
-        sent: None,
-    }
-}
-
 // The entry of a step that starts in this cycle, if it wrote the latch of a port.
 fn port_entry(cycle: u64, effect: &Effect) -> Option<Entry>
-    ensures { result ≡ entry_of cycle effect.now }
+    ensures { result ≡ port_entry cycle effect.now }
 {
     match effect.port {
         None => None,

@@ -1,18 +1,27 @@
 //! A board with one memory for all.
-ghost use Rattle.std.specs.Prelude.{◌≡◌, ◌≤◌, [], IfErr, IfOk};
+ghost use Rattle.std.specs.Prelude.{◌≡◌, ◌≤◌, ℕ, [], List, IfErr, IfOk};
 ghost use Rattle.m51_cells.specs.declared.limits.TheConstants.{MOST_STEPS};
 ghost use Rattle.m51_cells.specs.Outside.{Rose};
 ghost use Rattle.m51_print.specs.Lines.{HasText};
-ghost use Rattle.m51_sim.specs.Boards.{flat_of, map_of};
-ghost use Rattle.m51_sim.specs.FlatMachine.{flat_effect, flat_machine, flat_start, outer};
-ghost use Rattle.m51_sim.specs.Run.{Ended};
+ghost use Rattle.m51_script.specs.declared.script.Script.{Script as ScriptState};
+ghost use Rattle.m51_sim.specs.Boards.{IsFlatStarted, flat_of, map_of, state_with};
+ghost use Rattle.m51_sim.specs.Cycles.{inputs_of};
+ghost use Rattle.m51_sim.specs.Effects.{attempt_of};
+ghost use Rattle.m51_sim.specs.FlatMachine.{flat_effect, flat_machine, instr_effect, map_after};
+ghost use Rattle.m51_sim.specs.Report.{IsFlatReport};
+ghost use Rattle.m51_sim.specs.Run.{Ended, IsAdvance};
+ghost use Rattle.m51_irq.specs.Vectoring.{vectoring};
 
-use crate::chip::Chip;
-use crate::runs::{RunEnd, Steps, Told, run};
+use crate::attempt::Attempt;
+use crate::chip::{Chip, idle};
+use crate::runs::{Entries, RunEnd, Steps, run};
 use crate::sink::Sink;
 use m51_cells::{Event, NoMemory};
-use m51_flat::Effect;
+use m51_flat::{CellStore, Cpu, Effect, FlatRam, Outcome, Put, Source, exec};
+use m51_irq::vector;
+use m51_isa::Instr;
 use m51_module::{Image, Placed};
+use m51_script::Script;
 use std::alloc::Global;
 use std::marker::Model;
 
@@ -23,84 +32,148 @@ use std::marker::Model;
 #[derive(Drop)]
 pub struct FlatBoard {
     chip: Chip,
+    memory: FlatRam,
 }
 
 impl Model for FlatBoard {
-    ghost use Rattle.m51_sim.specs.Boards.{ChipState};
+    ghost use Rattle.m51_sim.specs.Boards.{FlatState};
 
-    ghost Value = { ChipState };
+    ghost Value = { FlatState };
 
-    ghost view = { λ b. b.chip };
+    ghost view = { λ b. record { chip = b.chip; memory = b.memory } };
 }
 
 impl FlatBoard {
-    /// A board with this image, after a reset, with the fill 00H everywhere. Want of memory is the one refusal.
+    /// A board with this image and this script, after a reset, with the script's fill everywhere. Out of memory is the
+    /// one refusal.
     ///
     /// Source: own choice ("Boards").
-    pub fn make(alloc: Global, image: Image) -> Result<FlatBoard, NoMemory>
-        ensures image { IfOk result (λ board. board.image ≡ image) }
-        ensures start { IfOk result (λ board. flat_of board ≡ flat_start 0) }
+    pub fn make(alloc: Global, image: Image, script: Script) -> Result<FlatBoard, NoMemory>
+        ensures { IfOk result (IsFlatStarted image script) }
     {
-        let chip = Chip::make(alloc, image)?;
-        Ok(FlatBoard { chip })
+        let memory = FlatRam::filled(alloc, script.fill())?;
+        Ok(FlatBoard {
+            chip: Chip::make(image, script),
+            memory,
+        })
     }
 
     /// At most `n` steps, 1 to 10,000,000, with a line for each entry and the last line.
     ///
-    /// WriteFault: the sink has failed. The board stands after the step whose line is not whole, or after the last step
+    /// WriteFault: the sink has failed. The board is after the step whose line is not whole, or after the last step
     /// where that line is the last. It may be run on.
     ///
     /// Source: own choice ("Runs").
     pub fn run<S: Sink>(&mut self, n: u32, out: &mut S) -> RunEnd
         requires { (1 ≤ n) × (n ≤ MOST_STEPS) }
         ensures ended { Ended (S.state out.old).text (S.state out.new).text []
-            (flat_machine self.old.image) n (flat_of self.old) (flat_of self.new) result }
-        ensures image { self.new.image ≡ self.old.image }
+            (flat_machine self.old.chip.image (inputs_of self.old.chip.script)) n
+            (flat_of self.old) (flat_of self.new) result }
+        ensures report { (image : List ℕ) (script : ScriptState) → IsFlatStarted image script self.old
+            → IsFlatReport image script n (S.state out.old).text (S.state out.new).text result }
+        ensures image { self.new.chip.image ≡ self.old.chip.image }
+        ensures script { self.new.chip.script ≡ self.old.chip.script }
         ensures later { (S.state out.old).faults ≤ (S.state out.new).faults }
         ensures fault { result ≡ RunEnd.WriteFault → Rose (S.state out.old).faults (S.state out.new).faults }
     {
         run(self, n, out)
     }
+}
 
-    // The effect of the next step, or the event that stops it.
-    #[tactic(auto, unfolding(crate::specs::FlatMachine::flat_effect))]
-    fn judge(&self) -> Result<Effect, Event>
-        ensures value { result ≡ flat_effect self.now.image self.now.cpu (map_of self.now.memory) outer }
-        ensures text { IfErr result (HasText 0) }
-    {
-        if self.chip.is_idle() {
-            return Ok(self.chip.idle());
+// What an instruction comes to: its effect, or power-down.
+fn execute(chip: &Chip, memory: &FlatRam, instr: &Instr) -> Result<Effect, Event>
+    ensures value { result ≡ instr_effect chip.now.image chip.now.cpu (map_of memory.now)
+        ((inputs_of chip.now.script).pins chip.now.cycle) instr.now }
+    ensures text { IfErr result (HasText 0) }
+{
+    match exec(chip.cpu(), memory, instr, chip.bytes(), &chip.pins()) {
+        Outcome::Done(effect) => Ok(effect),
+        Outcome::PowerDown => Err(Event::PowerDown { at: chip.pc() }),
+        // Each cell holds a value, and may be written.
+        Outcome::Outside(_) | Outcome::Unset(_) => unreachable!(),
+    }
+}
+
+// The vectoring of an interrupt.
+fn vectored(cpu: &Cpu, memory: &FlatRam, source: Source) -> Effect
+    ensures { result ≡ vectoring cpu.now source }
+{
+    match vector(cpu, memory, source) {
+        Outcome::Done(effect) => effect,
+        // Each cell may be written.
+        Outcome::Outside(_) | Outcome::Unset(_) | Outcome::PowerDown => unreachable!(),
+    }
+}
+
+// The effect of the next step, or the event that stops it.
+#[tactic(auto, unfolding(crate::specs::FlatMachine::flat_effect))]
+fn judge(chip: &Chip, memory: &FlatRam) -> Result<Effect, Event>
+    ensures value { result ≡ flat_effect chip.now.image chip.now.cpu (map_of memory.now)
+        ((inputs_of chip.now.script).pins chip.now.cycle) (attempt_of chip.now.image chip.now.cpu) }
+    ensures text { IfErr result (HasText 0) }
+{
+    match chip.attempt() {
+        Attempt::Vectoring(source) => Ok(vectored(chip.cpu(), memory, source)),
+        Attempt::Idling => Ok(idle(chip.cpu())),
+        Attempt::Executing(instr) => execute(chip, memory, &instr),
+        Attempt::Refusing => Err(Event::Reserved { at: chip.pc() }),
+    }
+}
+
+// Writes the cells of a put.
+fn put(memory: &mut FlatRam, put: &Put)
+    ensures { map_of memory.new ≡ map_after put.now (map_of memory.old) }
+{
+    memory.put(put);
+}
+
+// Writes the cells of both puts of an effect, those of the first one first.
+fn put_both(memory: &mut FlatRam, effect: &Effect)
+    ensures { map_of memory.new ≡ map_after effect.now.second (map_after effect.now.first (map_of memory.old)) }
+{
+    put(memory, &effect.first);
+    put(memory, &effect.second);
+}
+
+// Performs a step and gives what it tells, or gives the event that stops it.
+fn advance(chip: &mut Chip, memory: &mut FlatRam) -> Result<Entries, Event>
+    ensures image { chip.new.image ≡ chip.old.image }
+    ensures script { chip.new.script ≡ chip.old.script }
+    ensures step { IsAdvance (flat_machine chip.old.image (inputs_of chip.old.script)
+        (state_with chip.old (map_of memory.old))) result
+        (state_with chip.old (map_of memory.old)) (state_with chip.new (map_of memory.new)) }
+    ensures text { IfErr result (HasText 0) }
+{
+    match judge(chip, memory) {
+        Ok(effect) => {
+            put_both(memory, &effect);
+            Ok(chip.pass(&effect, &[]))
         }
-        match self.chip.instr() {
-            None => Err(Event::Reserved { at: self.chip.pc() }),
-            Some(instr) => self.chip.effect(&instr),
-        }
+        Err(event) => Err(event),
     }
 }
 
 impl Steps for FlatBoard {
     ghost use Rattle.std.specs.Prelude.{ℕ, List, []};
     ghost use Rattle.m51_flat.specs.Reads.{CellMap};
-    ghost use Rattle.m51_sim.specs.Boards.{flat_of};
+    ghost use Rattle.m51_sim.specs.Boards.{FlatLoaded, flat_of};
+    ghost use Rattle.m51_sim.specs.Cycles.{inputs_of};
     ghost use Rattle.m51_sim.specs.FlatMachine.{flat_machine};
 
     ghost Memory = { CellMap };
 
-    ghost Fixed = { List ℕ };
+    ghost Fixed = { FlatLoaded };
 
-    ghost fixed = { λ board. board.image };
+    ghost fixed = { λ b. record { image = b.chip.image; script = b.chip.script } };
 
-    ghost machine = { flat_machine };
+    ghost machine = { λ loaded. flat_machine loaded.image (inputs_of loaded.script) };
 
     ghost state = { flat_of };
 
-    ghost extents = { λ image. [] };
+    ghost extents = { λ loaded. [] };
 
-    fn advance(&mut self) -> Result<Told, Event> {
-        match self.judge() {
-            Ok(effect) => Ok(self.chip.perform(&effect)),
-            Err(event) => Err(event),
-        }
+    fn advance(&mut self) -> Result<Entries, Event> {
+        advance(&mut self.chip, &mut self.memory)
     }
 
     fn cycle(&self) -> u64 {

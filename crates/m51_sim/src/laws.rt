@@ -1,18 +1,22 @@
 //! What holds of the two machines. Each law is the contract of a function that does nothing.
-ghost use Rattle.m51_sim.specs.Laws.{IsKeptByFlat, StartsAgree, UnitsAreTheLayouts};
+ghost use Rattle.m51_sim.specs.Laws.{FilledHasFill, FlatRunsAgree};
+ghost use Rattle.m51_sim.specs.StepLaws.{StepsAreShort};
 
-/// For as many steps as the separate machine performs, the flat machine that holds the same image performs them too and
-/// gives the same entries, from the map that the stores give. After a reset that map is the flat machine's.
+/// Whatever overlaid cells hold at the start: over the steps that the separate machine performs, the flat machine with
+/// the same image and script gives the same entries, and no event; where the separate machine then stops at the
+/// reserved opcode or at power-down, the flat machine stops there at the same event. A flat board starts with such a
+/// map.
 ///
 /// Source: own choice ("Boards").
-pub fn flat_keeps()
-    ensures kept { IsKeptByFlat }
-    ensures start { StartsAgree }
+pub fn flat_runs_agree()
+    ensures agree { FlatRunsAgree }
+    ensures filled { FilledHasFill }
 {}
 
-/// The units that the separate machine keeps to are those of its layout.
+/// A step that the separate machine performs takes one to four machine cycles: a vectoring two, an idle step one, and
+/// an instruction those of its row in the table.
 ///
-/// Source: own choice ("Units").
-pub fn units_are_the_layouts()
-    ensures { UnitsAreTheLayouts }
+/// Source: family manual.
+pub fn steps_are_short()
+    ensures { StepsAreShort }
 {}

@@ -9,7 +9,7 @@ use m51_cells::NoMemory;
 use std::alloc::Global;
 use std::marker::Model;
 
-/// A sink that tells its text. A call fails where its number, counted from 1, is listed, and where it would pass the
+/// A sink whose text contracts see. A call fails if its number, counted from 1, is listed, or if it would pass the
 /// room.
 ///
 /// Source: own choice ("Sinks in memory").

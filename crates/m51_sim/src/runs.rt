@@ -6,13 +6,13 @@ ghost use Rattle.std.specs.Io.KnownBytes.{Appends};
 ghost use Rattle.m51_cells.specs.Outside.{HasCause, Rose};
 ghost use Rattle.m51_module.specs.declared.placed.Placed.{Placed as Extent};
 ghost use Rattle.m51_print.specs.Lines.{entry_line, last_line, titles_of, HasText};
-ghost use Rattle.m51_sim.specs.Run.{Ended, IsAdvance};
-ghost use Rattle.m51_sim.specs.Runs.{Machine, State, entries_of};
+ghost use Rattle.m51_sim.specs.Run.{Ended, IsAdvance, tally_of};
+ghost use Rattle.m51_sim.specs.Runs.{Machine, State, entries_of, record_of};
 ghost use Rattle.m51_sim.specs.Writing.{StopsWithin};
 
 use crate::sink::{Failed, Sink, write_whole};
 use m51_cells::{Entry, Event};
-use m51_module::Placed;
+use m51_module::{Placed, Tally};
 use m51_print::{end_line, trace_line};
 
 /// What a step does.
@@ -39,9 +39,22 @@ pub enum RunEnd {
     WriteFault,
 }
 
-// What a step that is performed tells: at most one port and one byte, the port first.
+/// What a step does, with what it reports.
+///
+/// Source: own choice ("Frames of other boards").
+#[derive(Clone, Copy, Debug, PartialEq, Eq)]
+pub struct Told {
+    /// What the step does.
+    pub step: Step,
+    /// The latch of a port that it wrote.
+    pub port: Option<Entry>,
+    /// The byte whose sending ended in it.
+    pub sent: Option<Entry>,
+}
+
+// The entries of a step that is performed: at most one port and one byte, the port first.
 #[derive(Clone, Copy)]
-pub(crate) struct Told {
+pub(crate) struct Entries {
     // The latch of a port that it wrote.
     pub(crate) port: Option<Entry>,
     // The byte whose sending ended in it.
@@ -66,7 +79,7 @@ pub(crate) trait Steps {
     ghost extents: { Fixed → List Extent };
 
     // Performs a step and gives what it tells, or gives the event that stops it.
-    fn advance(&mut self) -> Result<Told, Event>
+    fn advance(&mut self) -> Result<Entries, Event>
         ensures step { IsAdvance (machine (fixed self.old) (state self.old)) result (state self.old) (state self.new) }
         ensures fixed { fixed self.new ≡ fixed self.old }
         ensures text { IfErr result (HasText (length (extents (fixed self.old)))) };
@@ -111,9 +124,50 @@ pub(crate) fn run<B: Steps, S: Sink>(board: &mut B, n: u32, out: &mut S) -> RunE
     RunEnd::Finished
 }
 
+// How many entries a step tells.
+fn count_of(told: Entries) -> u64
+    ensures value { result ≡ length (entries_of told) }
+    ensures few { result ≤ 2 }
+{
+    match (told.port, told.sent) {
+        (None, None) => 0,
+        (Some(_), Some(_)) => 2,
+        _ => 1,
+    }
+}
+
+// The numbers of at most so many steps.
+pub(crate) fn count_run<B: Steps>(board: &mut B, n: u32) -> Tally
+    ensures tally { result ≡ tally_of (record_of (B.machine (B.fixed board.old)) n (B.state board.old)) }
+    ensures last { B.state board.new ≡ (record_of (B.machine (B.fixed board.old)) n (B.state board.old)).last }
+    ensures fixed { B.fixed board.new ≡ B.fixed board.old }
+    ensures text { ForSome result.event (HasText (length (B.extents (B.fixed board.old)))) }
+{
+    let mut entries = 0;
+    for done in 0..n {
+        match board.advance() {
+            Ok(told) => entries += count_of(told),
+            Err(event) => {
+                return Tally {
+                    entries,
+                    steps: done,
+                    cycle: board.cycle(),
+                    event: Some(event),
+                };
+            }
+        }
+    }
+    Tally {
+        entries,
+        steps: n,
+        cycle: board.cycle(),
+        event: None,
+    }
+}
+
 // Writes the lines of what a step tells.
 #[tactic(auto, using(crate::proofs::Tellings::tellings))]
-fn write_told<S: Sink>(out: &mut S, told: Told) -> Result<(), Failed>
+fn write_told<S: Sink>(out: &mut S, told: Entries) -> Result<(), Failed>
     ensures whole { OnOk result
         (Appends (S.state out.old).text (S.state out.new).text (flat_map entry_line (entries_of told))) }
     ensures short { OnErr result

@@ -14,7 +14,7 @@ pub struct Failed;
 ///
 /// Source: own choice ("Calls on the outside").
 pub trait Sink {
-    /// The bytes taken so far, where the sink tells them, and how many writes have failed. That count stops at the last
+    /// The bytes taken so far, if contracts see them, and how many writes have failed. That count stops at the last
     /// value of a `u64`.
     ghost state: { Self → SinkState };
 

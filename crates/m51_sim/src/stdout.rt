@@ -12,7 +12,7 @@ use std::marker::Model;
 /// Source: own choice ("Calls on the outside").
 pub const MOST_TRIES: u32 = 1_000_000;
 
-/// Standard output, through the program's handle. It tells no text; contracts see its count of faults.
+/// Standard output, through the program's handle. Contracts see no text of it, only its count of faults.
 ///
 /// Source: own choice ("Calls on the outside").
 #[derive(Drop)]

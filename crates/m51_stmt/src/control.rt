@@ -14,7 +14,7 @@ use m51_cells::{Bytes, Name, blank_len};
 use m51_lex::alphanumeric_len;
 use std::alloc::Global;
 
-// Whether a byte may stand between the parentheses of a control.
+// Whether a byte may be between the parentheses of a control.
 fn is_inside(byte: u8) -> bool
     ensures { result ≡ is_inside byte }
 {
@@ -34,7 +34,7 @@ fn behind_blanks(rest: &[u8]) -> &[u8]
     &rest[blank_len(rest)..]
 }
 
-// Whether blanks and a comment alone stand there.
+// Whether only blanks and a comment are there.
 fn ends(rest: &[u8]) -> bool
     ensures { result ≡ ends rest.now }
 {
@@ -44,7 +44,7 @@ fn ends(rest: &[u8]) -> bool
     }
 }
 
-// What stands after this sign, where it comes first.
+// What comes after this sign, where it comes first.
 fn behind_sign(sign: u8, rest: &[u8]) -> Option<&[u8]>
     ensures { option_map (λ s. s.now) result ≡ behind_sign sign rest.now }
 {
@@ -54,7 +54,7 @@ fn behind_sign(sign: u8, rest: &[u8]) -> Option<&[u8]>
     }
 }
 
-// What stands between parentheses, if they are right and nothing but blanks and a comment follows them.
+// What is between parentheses, if they are right and only blanks and a comment follows them.
 fn parenthesized(rest: &[u8]) -> Option<&[u8]>
     ensures { option_map (λ s. s.now) result ≡ parenthesized rest.now }
 {
@@ -71,7 +71,7 @@ fn parenthesized(rest: &[u8]) -> Option<&[u8]>
     }
 }
 
-// A control that stands alone.
+// A control without more.
 fn alone(rest: &[u8], body: Body) -> Result<Body, StmtError>
     ensures { Gives body_tree fault_of result (alone rest.now (body_tree body)) }
 {
@@ -131,7 +131,7 @@ fn by_word(alloc: Global, word: &[u8], rest: &[u8]) -> Result<Body, StmtError>
     }
 }
 
-/// What a control line says, whose $ stands before these bytes, or E12.
+/// What a control line says, from the bytes after its $, or E12.
 pub(crate) fn control(alloc: Global, rest: &[u8]) -> Result<Body, StmtError>
     ensures { Gives body_tree fault_of result (control rest.now) }
 {

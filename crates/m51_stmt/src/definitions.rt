@@ -13,7 +13,7 @@ use m51_cells::{Kind, Name, NoMemory, Reloc, allows, may_overlay};
 use m51_expr::Symbol;
 use std::alloc::Global;
 
-/// A word of definitions, which stands after the name that it defines.
+/// A word of definitions, which comes after the name that it defines.
 #[derive(Clone, Copy)]
 pub(crate) enum Definition {
     Segment,
@@ -38,14 +38,14 @@ pub(crate) fn definition_of(word: &[u8]) -> Option<Definition>
     }
 }
 
-// Whether a segment of the kind may have the type, and be OVERLAYABLE where that stands.
+// Whether a segment of the kind may have the type, and be OVERLAYABLE if that is there.
 fn is_allowed(kind: Kind, reloc: Reloc, overlayable: bool) -> bool
     ensures { result ≡ is_allowed kind reloc overlayable }
 {
     allows(kind, reloc) && (!overlayable || may_overlay(kind, reloc))
 }
 
-// The segment of this name by its kind and its type, and whether OVERLAYABLE stands.
+// The segment of this name by its kind and its type, and whether OVERLAYABLE is there.
 fn segment_of(
     name: &Name,
     kind: Option<Kind>,
@@ -90,7 +90,7 @@ fn segment(name: &Name, symbols: &[Symbol]) -> Option<Body>
     }
 }
 
-/// The definition of this name with what stands after its word, if that is in form.
+/// The definition of this name with what follows its word, if it has no syntax error.
 pub(crate) fn definition_form(
     alloc: Global,
     kind: Definition,
@@ -109,7 +109,7 @@ pub(crate) fn definition_form(
     })
 }
 
-/// Whether something that a definition wants after its word does not stand.
+/// Whether something that a definition needs after its word is missing.
 pub(crate) fn definition_lacks(
     alloc: Global,
     definition: Definition,

@@ -1,4 +1,4 @@
-//! Reads directives, and says what each wants after its word.
+//! Reads directives, and says what each needs after its word.
 ghost use Rattle.std.specs.Prelude.{◌≡◌, ◌<◌, ◌^◌, IfOk, length, option_map};
 ghost use Rattle.m51_stmt.specs.Statement.{Db, body_tree};
 ghost use Rattle.m51_stmt.specs.Lists.{item, list_of};
@@ -92,7 +92,7 @@ fn is_at(symbol: &Symbol) -> bool
     }
 }
 
-// CSEG and its kin stand alone, or with AT and an expression.
+// CSEG and the like come without operands, or with AT and an expression.
 fn select(alloc: Global, kind: Kind, symbols: &[Symbol]) -> Result<Option<Body>, NoMemory>
     ensures { IfOk result (λ found. option_map body_tree found ≡ select kind symbols.now) }
 {
@@ -125,7 +125,7 @@ fn data_bytes(alloc: Global, symbols: &[Symbol]) -> Result<Option<Body>, NoMemor
     }
 }
 
-/// What a directive says with what stands after its word, if that is in form.
+/// What a directive says with what follows its word, if it has no syntax error.
 pub(crate) fn directive_form(
     alloc: Global,
     word: Directive,
@@ -152,7 +152,7 @@ pub(crate) fn directive_form(
     }
 }
 
-// After CSEG and its kin an expression is wanted where AT stands.
+// After CSEG and the like an expression is needed if AT is there.
 fn select_lacks(alloc: Global, symbols: &[Symbol]) -> Result<bool, NoMemory>
     ensures { IfOk result (λ lacks. lacks ≡ select_lacks symbols.now) }
 {
@@ -162,7 +162,7 @@ fn select_lacks(alloc: Global, symbols: &[Symbol]) -> Result<bool, NoMemory>
     }
 }
 
-// Whether something that a directive wants after its word does not stand.
+// Whether something that a directive needs after its word is missing.
 fn directive_lacks(alloc: Global, word: Directive, symbols: &[Symbol]) -> Result<bool, NoMemory>
     ensures { IfOk result (λ lacks. lacks ≡ directive_lacks word symbols.now) }
 {
@@ -195,7 +195,7 @@ fn reserves(word: Directive, symbols: &[Symbol]) -> bool
     }
 }
 
-/// The fault of a directive out of its form.
+/// The fault of a directive with a syntax error.
 pub(crate) fn directive_fault(
     alloc: Global,
     word: Directive,

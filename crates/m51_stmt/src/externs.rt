@@ -20,7 +20,7 @@ pub(crate) enum Awaited {
     End,
 }
 
-/// Where a symbol of EXTRN lies: how many parentheses are open, and whether a name is to stand.
+/// Where a symbol of EXTRN lies: how many parentheses are open, and whether a name must follow.
 #[derive(Clone, Copy)]
 pub(crate) struct Region {
     depth: usize,
@@ -123,7 +123,7 @@ fn region_after(region: Region, symbol: &Symbol) -> Region
     }
 }
 
-/// Whether a reserved word stands in EXTRN where a name is to stand.
+/// Whether a reserved word is in EXTRN where a name must be.
 pub(crate) fn defines_reserved(region: Region, symbols: &[Symbol]) -> bool
     requires { region.depth + length symbols.now < 2 ^ 64 }
     ensures { result ≡ defines_reserved region symbols.now }

@@ -56,7 +56,7 @@ fn definition_after(first: &Symbol, rest: &[Symbol]) -> Option<Definition>
     }
 }
 
-// The fault of an instruction or a directive out of its form, or E11 where the word begins none.
+// The fault of an instruction or a directive with a syntax error, or E11 where the word begins none.
 fn spoken_fault(alloc: Global, word: Option<Name>, rest: &[Symbol]) -> Result<u8, NoMemory>
     ensures { IfOk result (λ fault. fault ≡ spoken_fault rest.now word) }
 {
@@ -97,7 +97,7 @@ fn begun_fault(alloc: Global, first: &Symbol, rest: &[Symbol]) -> Result<u8, NoM
     }
 }
 
-// The fault of what stands after the label, or E11 where no word begins it.
+// The fault of what comes after the label, or E11 where no word begins it.
 fn fault(alloc: Global, symbols: &[Symbol]) -> Result<u8, NoMemory>
     ensures { IfOk result (λ number. number ≡ fault symbols.now) }
 {

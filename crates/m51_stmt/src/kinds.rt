@@ -24,7 +24,7 @@ pub(crate) fn kind_of(word: &[u8]) -> Option<Kind>
     }
 }
 
-/// The kind that a word names in EXTRN, where NUMBER stands for none.
+/// The kind that a word names in EXTRN, where NUMBER means none.
 pub(crate) fn extern_kind_of(word: &[u8]) -> Option<Kind>
     ensures { result ≡ extern_kind_of word.now }
 {

@@ -1,4 +1,4 @@
-//! Where an expression or an operand is wanted and none stands, in a line that is out of form.
+//! Where an expression or an operand is missing in a line with a syntax error.
 ghost use Rattle.std.specs.Prelude.{◌≡◌, ◌≤◌, ◌<◌, ◌+◌, ◌-◌, ◌^◌, ◌∷◌, IfOk, IfSome, Some, is_some, length};
 ghost use Rattle.std.specs.Prelude.{option_map, slice_get};
 ghost use Rattle.m51_expr.specs.Ranks.{is_close, leaf_of};
@@ -13,9 +13,9 @@ use m51_cells::NoMemory;
 use m51_expr::{ReadError, Symbol, Unary, is_close, is_open, read_expr};
 use std::alloc::Global;
 
-/// What is wanted after each comma of a line: an operand of an instruction, an expression of DW, an expression or a
+/// What is needed after each comma of a line: an operand of an instruction, an expression of DW, an expression or a
 /// text of DB, or nothing, in a line with one expression. The first operand of an instruction may be lacking, but no
-/// text stands in its place.
+/// text is in its place.
 #[derive(Clone, Copy)]
 pub(crate) enum Want {
     Operand,
@@ -108,7 +108,7 @@ fn passed_behind(
     }
 }
 
-// How many symbols after the first belong to what it begins, or none where something is wanted and does not stand.
+// How many symbols after the first belong to what it begins, or none where something is needed and missing.
 #[tactic(auto, unfolding(crate::specs::Lack::passed))]
 fn passed(
     alloc: Global,
@@ -127,7 +127,7 @@ fn passed(
     }
 }
 
-// Whether something is wanted among the symbols and does not stand, after so many that are passed over.
+// Whether something is needed among the symbols and missing, after so many that are passed over.
 fn lacks_after(alloc: Global, len: usize, want: Want, symbols: &[Symbol]) -> Result<bool, NoMemory>
     ensures { IfOk result (λ lacks. lacks ≡ lacks_after len want symbols.now) }
 {
@@ -141,7 +141,7 @@ fn lacks_after(alloc: Global, len: usize, want: Want, symbols: &[Symbol]) -> Res
     }
 }
 
-/// Whether what is wanted first does not begin the symbols, or something is wanted further on and does not stand.
+/// Whether what is needed first does not begin the symbols, or something is needed further on and missing.
 pub(crate) fn lacks(
     alloc: Global,
     first: Want,
@@ -194,7 +194,7 @@ fn prefix_of(symbol: &Symbol) -> Prefix
     }
 }
 
-// The symbols from an operand on, of which operators stand before it: NOT stands after no tighter one.
+// The symbols from an operand on, of which operators come before it: NOT comes after no tighter one.
 fn operand_in(before: Prefix, symbols: &[Symbol]) -> Option<&[Symbol]>
     ensures { option_map (λ rest. rest.now) result ≡ operand_in before symbols.now }
 {
@@ -253,7 +253,8 @@ fn operand_begins(alloc: Global, symbols: &[Symbol]) -> Result<bool, NoMemory>
     }
 }
 
-// Whether after an opening parenthesis a whole expression begins, and further on stands the parenthesis that closes it.
+// Whether after an opening parenthesis a whole expression begins, and further on there is the parenthesis that closes
+// it.
 fn is_parenthesis(alloc: Global, symbols: &[Symbol]) -> Result<bool, NoMemory>
     ensures { IfOk result (λ holds. holds ≡ is_parenthesis symbols.now) }
 {

@@ -10,7 +10,7 @@ use m51_cells::{Bytes, ListOf, Name, Names, NoMemory};
 use m51_expr::{Expr, Item, Items, ReadError, Symbol, read_expr};
 use std::alloc::Global;
 
-/// How many symbols stand before the first comma.
+/// How many symbols come before the first comma.
 pub(crate) fn part_len(symbols: &[Symbol]) -> usize
     ensures front { (parts symbols.now).0 ≡ take result symbols.now }
     ensures behind { (parts symbols.now).1 ≡ later_parts (drop result symbols.now) }

@@ -60,7 +60,7 @@ fn sum(word: &[u8]) -> Option<Operand>
     }
 }
 
-// What stands after an @.
+// What comes after an @.
 fn indirect(symbols: &[Symbol]) -> Option<Operand>
     ensures { option_map operand_tree result ≡ indirect symbols.now }
 {
@@ -128,7 +128,7 @@ fn operands(alloc: Global, symbols: &[Symbol]) -> Result<Option<Operands>, NoMem
     }
 }
 
-/// The instruction of this mnemonic with what stands after it, if it has such a form.
+/// The instruction of this mnemonic with what follows it, if it has such a form.
 pub(crate) fn instruction(
     alloc: Global,
     mnemonic: &Name,

@@ -65,7 +65,7 @@ fn defined(
     }
 }
 
-// What stands after the label: nothing, a definition, an instruction or a directive.
+// What comes after the label: nothing, a definition, an instruction or a directive.
 fn said(alloc: Global, labelled: bool, symbols: &[Symbol]) -> Result<Option<Body>, NoMemory>
     ensures { IfOk result (λ found. option_map body_tree found ≡ said labelled symbols.now) }
 {
@@ -204,12 +204,12 @@ fn short_or_long(alloc: Global, line: &str) -> Result<Stmt, StmtError>
     any_line(alloc, line)
 }
 
-/// The statement that a line writes, which stands without its line end.
+/// The statement that a line writes, given without its line end.
 ///
-/// Errors: E5 for a line over 255 bytes; E12 for a first `%` and for a control line out of its form; the leftmost of E1
+/// Errors: E5 for a line over 255 bytes; E12 for a first `%` and for a control with a syntax error; the leftmost of E1
 /// to E4; then by form: E12 where a reserved word is to be defined, E11 where the word after the label begins no
-/// statement, E6 where an expression or an operand is wanted and none stands, E11 for an instruction and E12 for any
-/// other line out of its form; or want of memory.
+/// statement, E6 where an expression or an operand is missing, E11 for an instruction and E12 for any
+/// other line with a syntax error; or out of memory.
 ///
 /// Source: ASM51 guide.
 pub fn read_line(alloc: Global, line: &str) -> Result<Stmt, StmtError>

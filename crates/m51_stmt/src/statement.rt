@@ -36,7 +36,7 @@ pub enum Body {
     Org(Expr),
     /// `USING`
     Using(Expr),
-    /// `SEGMENT`: name, kind, type, and whether OVERLAYABLE stands.
+    /// `SEGMENT`: name, kind, type, and whether OVERLAYABLE is there.
     Segment(Name, Kind, Reloc, bool),
     /// `RSEG`
     Rseg(Name),

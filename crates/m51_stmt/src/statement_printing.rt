@@ -200,7 +200,7 @@ fn put_label(out: &mut Vec<u8>, label: &Option<Name>) -> Result<(), NoMemory>
 /// The line of a statement: each token with a blank after it, numbers in hexadecimal, and each operator with its
 /// operands in parentheses. By `printed_reads_back` each statement that a line writes is what `read_line` gives of it.
 ///
-/// Errors: want of memory.
+/// Errors: out of memory.
 ///
 /// Source: own choice ("Printed statements").
 pub fn print_stmt(alloc: Global, stmt: &Stmt) -> Result<Vec<u8>, NoMemory>

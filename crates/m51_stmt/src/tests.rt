@@ -146,7 +146,7 @@ $INCLUDE (A(1.inc) \n\
 END \n\
 ";
 
-// Lines of fault 6: an expression or an operand is wanted, and none stands.
+// Lines of fault 6: an expression or an operand is needed, and none is there.
 const NO_EXPRESSION: &str = "\
 DB\n\
 X EQU\n\

@@ -18,9 +18,10 @@ is_zero n h = grind (arith, nat_tests, h)
 is_not_zero : {A : Type 0} → (0 == 0) ≡ false → A
 is_not_zero h = absurd (cc)
 
-none : {A : Type 0} (xs : List A) → (length xs == 0) ≡ true → xs ≡ []
-none [] h = refl
-none (x ∷ xs) h = absurd (omega (arith, is_zero (suc (length xs)) h))
+-- a list that is empty
+pub is_nothing : {A : Type 0} (xs : List A) → (length xs == 0) ≡ true → xs ≡ []
+is_nothing [] h = refl
+is_nothing (x ∷ xs) h = absurd (omega (arith, is_zero (suc (length xs)) h))
 
 -- the faults of lines as contracts see them
 same_faults : (entries : List Entry) → filter_map fault_of_entry (map entry_tree entries) ≡ filter_map fault_kept entries
@@ -43,7 +44,7 @@ pub lines_told : (entries : List Entry) (faults : List Fault) (lines : List Line
 lines_told entries faults lines empty kept said =
     ap (λ l. Lines (map line_tree l)) said
     ∙ ap Lines (same_lines entries)
-    ∙ ap (λ f. faults_or_lines f (filter_map tree_of_entry (map entry_tree entries))) (sym (none faults empty) ∙ kept ∙ sym (same_faults entries))
+    ∙ ap (λ f. faults_or_lines f (filter_map tree_of_entry (map entry_tree entries))) (sym (is_nothing faults empty) ∙ kept ∙ sym (same_faults entries))
 
 some_faults : (faults : List Fault) (lines : List LineTree) → (length faults == 0) ≡ false → Faults faults ≡ faults_or_lines faults lines
 some_faults [] lines h = absurd (is_not_zero h)
@@ -58,7 +59,7 @@ faults_told entries faults some kept =
 
 -- of no lines
 pub nothing_told : (entries : List Entry) → (length entries == 0) ≡ true → Faults (fault_at 0 1 MISPLACED_END ∷ []) ≡ told (map entry_tree entries)
-nothing_told entries h = ap (λ l. told (map entry_tree l)) (sym (none entries h))
+nothing_told entries h = ap (λ l. told (map entry_tree l)) (sym (is_nothing entries h))
 
 -- of lines
 pub some_told : (entries : List Entry) → (length entries == 0) ≡ false → faults_or_lines (filter_map fault_of_entry (map entry_tree entries)) (filter_map tree_of_entry (map entry_tree entries)) ≡ told (map entry_tree entries)

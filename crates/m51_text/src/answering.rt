@@ -16,7 +16,7 @@ use m51_cells::{MISPLACED_END, MOST_INCLUDE_LEVELS, NoMemory};
 use m51_module::{Fault, Faults, SourceFile};
 use std::alloc::{AllocError, Global};
 
-/// How many levels of includes may stand below the lines of a source.
+/// How many levels of includes are allowed below the lines of a source.
 const MOST_LEVELS: u8 = MOST_INCLUDE_LEVELS as u8;
 
 // The faults of lines.
@@ -91,7 +91,7 @@ fn told(alloc: Global, entries: Vec<Entry>) -> Result<Text, NoMemory>
 /// The text of a source and its includes: its lines, or where a line has a fault the faults in the order of the lines.
 ///
 /// The lines of the text are those of the source in order, each line `$INCLUDE(name)` with the lines after it of the
-/// first include of exactly that name, which may bring in others: eight levels deep. Reading stops at line 65,536.
+/// first include of exactly that name, which may include others: eight levels deep. Reading stops at line 65,536.
 ///
 /// A line has at most one fault, the first of these:
 ///
@@ -99,7 +99,7 @@ fn told(alloc: Global, entries: Vec<Entry>) -> Result<Text, NoMemory>
 /// - E1 to E6, E11 and E12: as `read_line` gives them;
 /// - E16: more than blanks and a comment after the END of the source; END in an include; or END is missing, at the last
 ///   line of the source, and at line 1 of one that has none. It is not missing where reading stopped;
-/// - E17: an include that is not given, or stands too deep;
+/// - E17: an include that is not given, or is too deep;
 /// - E19: line 65,536.
 ///
 /// Error: out of memory.

@@ -1,4 +1,4 @@
-//! Which include a line brings in.
+//! Which include a line names.
 ghost use Rattle.std.specs.Prelude.{◌≡◌, ◌<◌, ℕ, IfSome, length, option_map, position, slice_get};
 ghost use Rattle.m51_stmt.specs.Statement.{body_tree};
 ghost use Rattle.m51_text.specs.Said.{include_name, asked, said_tree};
@@ -8,7 +8,7 @@ use crate::saying::Said;
 use m51_module::SourceFile;
 use m51_stmt::Body;
 
-/// Which include a line brings in.
+/// Which include a line names.
 #[derive(Clone, Copy)]
 pub(crate) enum Inclusion {
     /// The line asks for none.
@@ -60,7 +60,7 @@ fn given(includes: &[SourceFile], name: &[u8]) -> Inclusion
     }
 }
 
-/// Which include a line brings in below which so many levels of includes may stand.
+/// Which include a line names, if so many levels of includes are allowed below it.
 pub(crate) fn inclusion_of(includes: &[SourceFile], levels: u8, said: &Said) -> Inclusion
     ensures inclusion { result ≡ inclusion_of includes.now levels (said_tree said.now) }
     ensures allowed { IsAllowed (length includes.now) levels result }

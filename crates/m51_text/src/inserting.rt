@@ -1,4 +1,4 @@
-//! Reads the lines of a file, and those of the includes that they bring in.
+//! Reads the lines of a file, and those of their includes.
 ghost use Rattle.std.specs.Prelude.{◌≡◌, ◌≤◌, OnOk, length, vec_len};
 ghost use Rattle.m51_text.specs.Text.{IsAllowed, file_lines};
 ghost use Rattle.m51_text.specs.Reading.{state_of, after, inserted};
@@ -9,7 +9,7 @@ use m51_cells::{NoMemory, first_line};
 use m51_module::SourceFile;
 use std::alloc::Global;
 
-/// Reads a file's lines, each with those after it that it brings in. So many levels of includes may stand below them.
+/// Reads the lines of a file, each followed by those that it includes. So many levels of includes are allowed below.
 /// Where 65,536 lines are read, nothing more is.
 ///
 /// Error: out of memory.
@@ -42,7 +42,7 @@ pub(crate) fn read_file(
     Ok(())
 }
 
-// Reads the lines of the include that a line brings in, below which so many levels may stand.
+// Reads the lines of the include that a line names, below which so many levels may be.
 #[cycle(inserting)]
 #[tactic(auto, using(crate::proofs::Afters::after_last))]
 fn insert(

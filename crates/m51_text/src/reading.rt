@@ -13,14 +13,14 @@ use m51_cells::NoMemory;
 use m51_module::SourceFile;
 use std::alloc::Global;
 
-/// Where a line stands.
+/// Where a line is.
 #[derive(Clone, Copy)]
 pub(crate) struct Place {
     /// The file: 0 for the source, k for the k-th include.
     pub file: u16,
     /// The line in that file, counted from 1.
     pub line: u32,
-    /// How many levels of includes may stand below the line.
+    /// How many levels of includes are allowed below the line.
     pub levels: u8,
 }
 
@@ -79,7 +79,7 @@ impl Reading {
         }
     }
 
-    /// Reads the next line, which stands without its end, and says which include it brings in.
+    /// Reads the next line, given without its end, and says which include it names.
     ///
     /// Error: out of memory.
     pub(crate) fn read_line(

@@ -11,7 +11,7 @@ use std::alloc::Global;
 /// What a line says: its statement, or the number of its fault.
 pub(crate) type Said = Result<Stmt, u8>;
 
-// Whether each byte may stand in a line: a tab, or 20H to 7EH.
+// Whether each byte may be in a line: a tab, or 20H to 7EH.
 fn are_characters(line: &[u8]) -> bool
     ensures { result ≡ list_all is_character line.now }
 {
@@ -30,7 +30,7 @@ fn spoken(alloc: Global, line: &str) -> Result<Said, NoMemory>
     }
 }
 
-/// What a line says, which stands without its end: its statement, or E18 for a byte that is neither a tab nor 20H to
+/// What a line says, given without its end: its statement, or E18 for a byte that is neither a tab nor 20H to
 /// 7EH, or else the first fault by the grammar of lines.
 ///
 /// Error: out of memory.

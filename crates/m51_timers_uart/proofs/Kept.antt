@@ -1,4 +1,4 @@
--- What the devices leave as it is: every part of a tick writes registers of the devices alone.
+-- What the devices leave as it is: every part of a tick writes only registers of the devices.
 use Rattle.std.proofs.Common.{◌≡◌, ◌≢◌, ℕ, ◌-◌, ◌≤◌, Bool, true, false, cond, List, refl, slice_set, sym, ap, ◌∙◌, arith}
 use Rattle.std.proofs.lemmas.Bool.{cond_both}
 use Rattle.std.proofs.lemmas.List.{get_or-set_other, length-set}

@@ -44,7 +44,7 @@ pub fn ninth_bits_are_apart()
     ensures { NinthBitsAreApart }
 {}
 
-/// A write to SBUF in mode 1, by what the line is told: while TCLK is 0 and SMOD stays, the byte is sent in the tick in
+/// A write to SBUF in mode 1, by what the line gets: while TCLK is 0 and SMOD stays, the byte is sent in the tick in
 /// which timer 1 overflows for the last time of its nine bit times, each of 32 overflows or with SMOD 16, and in none
 /// before. How timer 1 comes to overflow does not matter.
 ///

@@ -6,7 +6,7 @@ use Rattle.std.proofs.lemmas.Bool.Decides.{same_from_decides}
 use Rattle.std.proofs.lemmas.Slice.Eq.{bytes_eq-Decides}
 use Rattle.m51_words.specs.Endings.{last_four}
 
--- what stands behind the first n bytes
+-- what stands after the first n bytes
 rest_whole : (name : List ℕ) (n : ℕ) → take (length name - n) (drop n name) ≡ drop n name
 rest_whole name n = take_all (length name - n) (drop n name) (omega (arith, length-drop n name))
 

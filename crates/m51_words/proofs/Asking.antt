@@ -28,3 +28,15 @@ pub asked_err : {A : Type 0} (app is : App) (job_in : List Row → Option A) (of
 asked_err app is job_in of words rows error (Ok job) same matched none h = absurd h
 asked_err app is job_in of words rows error (Err e) same matched none h =
     subst (λ x. AsksFor {T = Job} (λ job. job) (Err x) (asked app job_in of words)) (sym h) (refused app is job_in of words rows error same matched none)
+
+unmatched : {A T : Type 0} (view : T → List Row) (app is : App) (job_in : List Row → Option A) (of : A → Job) (words : List (List ℕ)) (error : WordsError) → is ≡ app
+    → AsksFor {T = T} view (Err error) (rows_in is words) → AsksFor {T = Job} (λ job. job) (Err error) (asked app job_in of words)
+unmatched view app is job_in of words Usage same none = rw (← same, none) refl
+unmatched view app is job_in of words Memory same none = tt
+
+pub unmatched_err : {A T : Type 0} (view : T → List Row) (app is : App) (job_in : List Row → Option A) (of : A → Job) (words : List (List ℕ)) (error : WordsError)
+    (result : Result Job WordsError) → is ≡ app → AsksFor {T = T} view (Err error) (rows_in is words) → IsErrAnd result (λ e. e ≡ error)
+    → AsksFor {T = Job} (λ job. job) result (asked app job_in of words)
+unmatched_err view app is job_in of words error (Ok job) same none h = absurd h
+unmatched_err {A} {T} view app is job_in of words error (Err e) same none h =
+    subst (λ x. AsksFor {T = Job} (λ job. job) (Err x) (asked app job_in of words)) (sym h) (unmatched {A = A} {T = T} view app is job_in of words error same none)

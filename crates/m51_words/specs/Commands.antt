@@ -39,6 +39,15 @@ flat_app = verb_app (codes "flat") (codes "script" ∷ codes "steps" ∷ [])
 abbrev pub gen_app : App
 gen_app = bare_app (codes "gen") (codes "units" ∷ codes "start" ∷ codes "steps" ∷ [])
 
+abbrev pub dis_app : App
+dis_app = verb_app (codes "dis") (codes "control" ∷ [])
+
+abbrev pub stack_app : App
+stack_app = verb_app (codes "stack") (codes "control" ∷ [])
+
+abbrev pub party_app : App
+party_app = verb_app (codes "party") (codes "script" ∷ codes "steps" ∷ [])
+
 abbrev pub unless_fault : Kinds → List Row → Option (List Row)
 unless_fault [] rows = Some rows
 unless_fault (kind ∷ kinds) rows = None

@@ -6,6 +6,7 @@ use Rattle.std.specs.List.{list_all}
 use Rattle.std.specs.Str.{bytes_eq}
 use Rattle.m51_words.specs.declared.endings.Ending.{Ending}
 use Rattle.m51_words.specs.declared.endings.Ending.TheVariants.{Source, Include, Object, Library}
+use Rattle.m51_words.specs.declared.endings.TheConstants.{LEAST_BOARDS, MOST_BOARDS}
 
 -- the last four bytes, in small letters
 abbrev pub last_four : List ℕ → List ℕ
@@ -24,6 +25,10 @@ abbrev pub is_a_source : Option Ending → Bool
 is_a_source (Some Source) = true
 is_a_source _ = false
 
+abbrev pub is_an_include : Option Ending → Bool
+is_an_include (Some Include) = true
+is_an_include _ = false
+
 abbrev pub is_a_text : Option Ending → Bool
 is_a_text (Some Source) = true
 is_a_text (Some Include) = true
@@ -32,6 +37,10 @@ is_a_text _ = false
 -- the file is a source
 abbrev pub is_source : List ℕ → Bool
 is_source name = is_a_source (ending_of name)
+
+-- the file is an include
+abbrev pub is_include : List ℕ → Bool
+is_include name = is_an_include (ending_of name)
 
 -- the file is a source or an include
 abbrev pub is_text : List ℕ → Bool
@@ -56,3 +65,8 @@ is_not_empty name = not (length name == 0)
 -- objects of a library: one or more, none with an empty name
 unfoldable pub are_objects : List (List ℕ) → Bool
 are_objects files = nat_le 1 (length files) && list_all is_not_empty files
+
+-- file words of party: 2 to 8 sources
+unfoldable pub are_boards : List (List ℕ) → Bool
+are_boards files =
+    nat_le LEAST_BOARDS (length files) && nat_le (length files) MOST_BOARDS && list_all is_source files

@@ -1,7 +1,7 @@
 -- Which files a job reads, and which one it keeps.
 use Rattle.std.specs.Prelude.{ℕ, List, [], ◌∷◌, ◌++◌, length, Option, Some, None, option_to_list}
 use Rattle.m51_words.specs.declared.job.Job.{Job}
-use Rattle.m51_words.specs.declared.job.Job.TheVariants.{Build, Asm, Library, Flat, Gen}
+use Rattle.m51_words.specs.declared.job.Job.TheVariants.{Build, Asm, Library, Flat, Gen, Dis, Stack, Party}
 use Rattle.m51_words.specs.declared.job.Operation.{Operation}
 use Rattle.m51_words.specs.declared.job.Operation.TheVariants as operation
 
@@ -22,6 +22,9 @@ file_count (Asm job) = length job.files
 file_count (Library job) = operation_count job.operation
 file_count (Flat job) = 1
 file_count (Gen job) = 0
+file_count (Dis job) = length job.files
+file_count (Stack job) = length job.files
+file_count (Party job) = length job.files
 
 -- the files that an operation reads, in order
 abbrev pub operation_reads : List ℕ → Operation → List (List ℕ)
@@ -40,6 +43,9 @@ names_read (Asm job) = job.files
 names_read (Library job) = operation_reads job.library job.operation
 names_read (Flat job) = job.file ∷ option_to_list job.script
 names_read (Gen job) = []
+names_read (Dis job) = job.files ++ option_to_list job.control
+names_read (Stack job) = job.files ++ option_to_list job.control
+names_read (Party job) = job.files ++ option_to_list job.script
 
 -- the file that an operation keeps
 abbrev pub operation_keeps : List ℕ → Operation → Option (List ℕ)
@@ -58,3 +64,6 @@ name_kept (Asm job) = Some job.out
 name_kept (Library job) = operation_keeps job.library job.operation
 name_kept (Flat job) = None
 name_kept (Gen job) = None
+name_kept (Dis job) = None
+name_kept (Stack job) = None
+name_kept (Party job) = None

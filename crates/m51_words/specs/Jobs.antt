@@ -1,5 +1,5 @@
 -- What the words ask for.
-use Rattle.std.specs.Prelude.{ℕ, List, [], ◌∷◌, Option, None, codes, option_map, option_and_then, if◌then◌else◌}
+use Rattle.std.specs.Prelude.{ℕ, List, [], ◌∷◌, Option, Some, None, codes, option_map, option_and_then, if◌then◌else◌}
 use Rattle.std.specs.Str.{bytes_eq}
 use Rattle.clap.specs.Words.{App, Row}
 use Rattle.m51_words.specs.declared.job.AsmJob.{AsmJob}
@@ -7,10 +7,13 @@ use Rattle.m51_words.specs.declared.job.BuildJob.{BuildJob}
 use Rattle.m51_words.specs.declared.job.FlatJob.{FlatJob}
 use Rattle.m51_words.specs.declared.job.GenJob.{GenJob}
 use Rattle.m51_words.specs.declared.job.LibraryJob.{LibraryJob}
+use Rattle.m51_words.specs.declared.job.LinkJob.{LinkJob}
+use Rattle.m51_words.specs.declared.job.PartyJob.{PartyJob}
 use Rattle.m51_words.specs.declared.job.Job.{Job}
-use Rattle.m51_words.specs.declared.job.Job.TheVariants.{Build, Asm, Library, Flat, Gen}
-use Rattle.m51_words.specs.Commands.{build_app, asm_app, lib_app, flat_app, gen_app, rows_in, value_of, words_of}
-use Rattle.m51_words.specs.Endings.{are_built, are_assembled}
+use Rattle.m51_words.specs.declared.job.Job.TheVariants.{Build, Asm, Library, Flat, Gen, Dis, Stack, Party}
+use Rattle.m51_words.specs.Commands.{build_app, asm_app, lib_app, flat_app, gen_app, dis_app, stack_app, party_app}
+use Rattle.m51_words.specs.Commands.{rows_in, value_of, words_of}
+use Rattle.m51_words.specs.Endings.{are_built, are_assembled, are_boards}
 use Rattle.m51_words.specs.Numbers.{steps_of, start_of, units_of}
 use Rattle.m51_words.specs.Operations.{library_job}
 
@@ -69,6 +72,24 @@ gen_of rows =
     (option_and_then start_of (value_of (codes "start") rows)))
     (option_and_then units_of (value_of (codes "units") rows))
 
+-- dis [--control F] FILE.., and stack with the same words
+abbrev pub link_files : List Row → List (List ℕ) → Option LinkJob
+link_files rows files =
+    if are_built files then Some (record { control = value_of (codes "control") rows; files = files }) else None
+
+unfoldable pub link_of : List Row → Option LinkJob
+link_of rows = option_and_then (link_files rows) (words_of rows)
+
+-- party [--script F] --steps N FILE..
+abbrev pub party_with : List Row → List (List ℕ) → ℕ → PartyJob
+party_with rows files steps = record { script = value_of (codes "script") rows; steps = steps; files = files }
+
+abbrev pub party_files : List Row → List (List ℕ) → Option PartyJob
+party_files rows files = if are_boards files then option_map (party_with rows files) (steps_in rows) else None
+
+unfoldable pub party_of : List Row → Option PartyJob
+party_of rows = option_and_then (party_files rows) (words_of rows)
+
 -- what a verb's job is, where the definition of a simple command takes the words
 abbrev pub asked : {A : Type 0} → App → (List Row → Option A) → (A → Job) → List (List ℕ) → Option Job
 asked app job_in of words = option_map of (option_and_then job_in (rows_in app words))
@@ -81,6 +102,9 @@ job_by verb words =
     else if bytes_eq verb (codes "lib") then asked lib_app lib_of Library words
     else if bytes_eq verb (codes "flat") then asked flat_app flat_of Flat words
     else if bytes_eq verb (codes "gen") then asked gen_app gen_of Gen words
+    else if bytes_eq verb (codes "dis") then asked dis_app link_of Dis words
+    else if bytes_eq verb (codes "stack") then asked stack_app link_of Stack words
+    else if bytes_eq verb (codes "party") then asked party_app party_of Party words
     else None
 
 -- what the words ask for; none where they are faulty

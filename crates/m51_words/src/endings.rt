@@ -3,9 +3,19 @@ ghost use Rattle.std.specs.Prelude.{◌≡◌, map};
 ghost use Rattle.std.specs.Char.{to_ascii_lowercase};
 ghost use Rattle.std.specs.List.{list_all};
 ghost use Rattle.std.specs.Str.{bytes_eq};
-ghost use Rattle.m51_words.specs.Endings.{ending_of, last_four, is_source, is_text, has_ending, are_built};
-ghost use Rattle.m51_words.specs.Endings.{are_assembled, is_not_empty, are_objects};
+ghost use Rattle.m51_words.specs.Endings.{ending_of, last_four, is_source, is_include, is_text, has_ending};
+ghost use Rattle.m51_words.specs.Endings.{are_built, are_assembled, is_not_empty, are_objects, are_boards};
 ghost use Rattle.m51_words.specs.Texts.{lent};
+
+/// The fewest boards of a party line.
+///
+/// Source: own choice ("Limits").
+pub const LEAST_BOARDS: usize = 2;
+
+/// The most boards of a party line.
+///
+/// Source: own choice ("Limits").
+pub const MOST_BOARDS: usize = 8;
 
 /// What a file is, by the ending of its name.
 ///
@@ -51,12 +61,26 @@ pub fn ending_of(name: &str) -> Option<Ending>
     }
 }
 
-// Whether the file is a source.
-fn is_source(name: &str) -> bool
+/// Whether the file of this name is a source.
+///
+/// Source: own choice ("Words").
+pub fn is_source(name: &str) -> bool
     ensures { result ≡ is_source name.now }
 {
     match ending_of(name) {
         Some(Ending::Source) => true,
+        _ => false,
+    }
+}
+
+/// Whether the file of this name is an include.
+///
+/// Source: own choice ("Words").
+pub fn is_include(name: &str) -> bool
+    ensures { result ≡ is_include name.now }
+{
+    match ending_of(name) {
+        Some(Ending::Include) => true,
         _ => false,
     }
 }
@@ -133,4 +157,24 @@ pub(crate) fn are_objects(files: &[&str]) -> bool
     ensures { result ≡ are_objects (lent files.now) }
 {
     !files.is_empty() && are_not_empty(files)
+}
+
+// Whether each file is a source.
+fn are_sources(files: &[&str]) -> bool
+    ensures { result ≡ list_all is_source (lent files.now) }
+{
+    for name in files {
+        if !is_source(name) {
+            return false;
+        }
+    }
+    true
+}
+
+// Whether these are file words of `party`: 2 to 8 sources.
+#[tactic(auto, unfolding(crate::specs::Endings::are_boards))]
+pub(crate) fn are_boards(files: &[&str]) -> bool
+    ensures { result ≡ are_boards (lent files.now) }
+{
+    LEAST_BOARDS <= files.len() && files.len() <= MOST_BOARDS && are_sources(files)
 }

@@ -1,13 +1,13 @@
-//! Why words ask for nothing.
+//! Why arguments ask for nothing.
 use m51_cells::NoMemory;
 use std::alloc::{AllocError, AllocFailed};
 
-/// Why words ask for nothing.
+/// Why arguments ask for nothing.
 ///
 /// Source: own choice ("Words").
 #[derive(Clone, Copy, Debug, PartialEq, Eq)]
 pub enum WordsError {
-    /// The first word is no verb, or the others are none that it takes.
+    /// The first argument is no verb, or the others are none that it takes.
     Usage,
     /// Out of memory.
     Memory,

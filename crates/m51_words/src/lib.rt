@@ -1,6 +1,7 @@
-//! What the words of the command line ask for.
+//! What the arguments of the command line ask for.
 #![tactic(auto)]
 
+mod analysis_verbs;
 mod commands;
 mod endings;
 mod error;
@@ -12,10 +13,13 @@ mod numbers;
 mod reading;
 mod verbs;
 
-pub use endings::{Ending, ending_of};
+pub use endings::{Ending, LEAST_BOARDS, MOST_BOARDS, ending_of, is_include, is_source};
 pub use error::WordsError;
 pub use file_name::{FileName, FileNames};
-pub use job::{AsmJob, BuildJob, FlatJob, GenJob, Job, LibraryJob, Operation};
+pub use job::{AsmJob, BuildJob, FlatJob, GenJob, Job, LibraryJob, LinkJob, Operation, PartyJob};
 pub use names::{file_count, name_kept, names_read};
 pub use numbers::{MOST_GENERATED_UNITS, Steps};
 pub use verbs::job_of;
+
+#[cfg(test)]
+mod tests;

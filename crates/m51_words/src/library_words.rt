@@ -1,4 +1,4 @@
-//! The words of `lib`.
+//! The arguments of `lib`.
 ghost use Rattle.std.specs.Prelude.{◌≡◌, [], ◌∷◌, ◌++◌, codes, map, IfOk};
 ghost use Rattle.std.specs.Char.{to_ascii_uppercase};
 ghost use Rattle.m51_words.specs.Asks.{AsksFor};

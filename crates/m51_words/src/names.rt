@@ -22,7 +22,7 @@ fn operation_count(operation: &Operation) -> usize
     }
 }
 
-/// How many file words there are. In `lib` they are the words after the library.
+/// How many file arguments there are. In `lib` they are the arguments after the library.
 ///
 /// Source: own choice ("Words").
 pub fn file_count(job: &Job) -> usize
@@ -34,6 +34,9 @@ pub fn file_count(job: &Job) -> usize
         Job::Library(job) => operation_count(&job.operation),
         Job::Flat(_) => 1,
         Job::Gen(_) => 0,
+        Job::Dis(job) => job.files.len(),
+        Job::Stack(job) => job.files.len(),
+        Job::Party(job) => job.files.len(),
     }
 }
 
@@ -110,6 +113,20 @@ fn operation_reads(
     }
 }
 
+// These files, and then the one that is there.
+fn files_and(
+    alloc: Global,
+    files: &[FileName],
+    last: &Option<FileName>,
+) -> Result<FileNames, NoMemory>
+    ensures { IfOk result (λ names. names ≡ files.now ++ option_to_list last.now) }
+{
+    let mut names = Vec::new(alloc);
+    put_names(alloc, &mut names, files)?;
+    put_some(alloc, &mut names, last)?;
+    Ok(FileNames::of(names))
+}
+
 // The files that `flat` reads, in order.
 fn flat_reads(alloc: Global, job: &FlatJob) -> Result<FileNames, NoMemory>
     ensures { IfOk result (λ names. names ≡ names_read (Job.Flat job.now)) }
@@ -120,8 +137,8 @@ fn flat_reads(alloc: Global, job: &FlatJob) -> Result<FileNames, NoMemory>
     Ok(FileNames::of(names))
 }
 
-/// The files that are read, in order: file words, the control file, the script. A library is read before the objects of
-/// its edits, and is not read where it is made. Error: out of memory.
+/// The files that are read, in order: file arguments, the control file, the script. A library is read before the
+/// objects of its edits, and is not read where it is made. Error: out of memory.
 ///
 /// Source: own choice ("Order of work").
 pub fn names_read(alloc: Global, job: &Job) -> Result<FileNames, NoMemory>
@@ -133,6 +150,9 @@ pub fn names_read(alloc: Global, job: &Job) -> Result<FileNames, NoMemory>
         Job::Library(job) => operation_reads(alloc, &job.library, &job.operation),
         Job::Flat(job) => flat_reads(alloc, job),
         Job::Gen(_) => copies(alloc, &[]),
+        Job::Dis(job) => files_and(alloc, job.files.as_slice(), &job.control),
+        Job::Stack(job) => files_and(alloc, job.files.as_slice(), &job.control),
+        Job::Party(job) => files_and(alloc, job.files.as_slice(), &job.script),
     }
 }
 
@@ -159,7 +179,7 @@ fn lent_name(job: &Job) -> Option<&FileName>
         Job::Build(job) => job.hex.as_ref(),
         Job::Asm(job) => Some(&job.out),
         Job::Library(job) => operation_keeps(&job.library, &job.operation),
-        Job::Flat(_) | Job::Gen(_) => None,
+        Job::Flat(_) | Job::Gen(_) | Job::Dis(_) | Job::Stack(_) | Job::Party(_) => None,
     }
 }
 

@@ -1,4 +1,4 @@
-//! Values of options, and the other words.
+//! Values of options, and the other arguments.
 ghost use Rattle.std.specs.Prelude.{◌≡◌, IfOk, OnOk};
 ghost use Rattle.clap.specs.Words.{found_of, rows_of};
 ghost use Rattle.m51_words.specs.Asks.{AsksFor};

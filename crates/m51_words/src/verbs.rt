@@ -2,15 +2,16 @@
 ghost use Rattle.std.specs.Prelude.{◌≡◌};
 ghost use Rattle.clap.specs.Words.{found_of, rows_of};
 ghost use Rattle.m51_words.specs.Asks.{AsksFor};
-ghost use Rattle.m51_words.specs.Commands.{build_app, asm_app, lib_app, flat_app, gen_app};
-ghost use Rattle.m51_words.specs.Jobs.{build_of, asm_of, lib_of, flat_of, gen_of, asked, job_by, job_of};
+ghost use Rattle.m51_words.specs.Commands.{build_app, asm_app, lib_app, flat_app, gen_app, party_app};
+ghost use Rattle.m51_words.specs.Jobs.{build_of, asm_of, lib_of, flat_of, gen_of, party_of, asked, job_by, job_of};
 ghost use Rattle.m51_words.specs.Texts.{texts};
 
+use crate::analysis_verbs::{dis_job, stack_job};
 use crate::commands::{bare_verb, matches_in, verb};
-use crate::endings::{are_assembled, are_built};
+use crate::endings::{are_assembled, are_boards, are_built};
 use crate::error::WordsError;
 use crate::file_name::FileName;
-use crate::job::{AsmJob, BuildJob, FlatJob, GenJob, Job, LibraryJob};
+use crate::job::{AsmJob, BuildJob, FlatJob, GenJob, Job, LibraryJob, PartyJob};
 use crate::library_words::{file_names, library_job};
 use crate::numbers::{start_of, units_of};
 use crate::reading::{file_of, steps_in, value_of, words_of};
@@ -111,6 +112,29 @@ fn gen_of(matches: &ArgMatches<'_>) -> Option<GenJob>
     })
 }
 
+// What the matches of `party` ask for.
+#[tactic(auto, unfolding(crate::specs::Jobs::party_of))]
+fn party_of(alloc: Global, matches: &ArgMatches<'_>) -> Result<PartyJob, WordsError>
+    ensures { AsksFor (λ job. job) result (party_of (rows_of (found_of matches.now))) }
+{
+    let Some(words) = words_of(matches) else {
+        return Err(WordsError::Usage);
+    };
+    if !are_boards(words) {
+        return Err(WordsError::Usage);
+    }
+    let Some(steps) = steps_in(matches) else {
+        return Err(WordsError::Usage);
+    };
+    let script = file_of(alloc, matches, "script")?;
+    let files = file_names(alloc, words)?;
+    Ok(PartyJob {
+        script,
+        steps,
+        files,
+    })
+}
+
 // `build` with its words.
 fn build_job(alloc: Global, words: &[String]) -> Result<Job, WordsError>
     ensures { AsksFor (λ job. job) result (asked build_app build_of Job.Build (texts words.now)) }
@@ -159,6 +183,15 @@ fn gen_job(alloc: Global, words: &[String]) -> Result<Job, WordsError>
     }
 }
 
+// `party` with its words.
+fn party_job(alloc: Global, words: &[String]) -> Result<Job, WordsError>
+    ensures { AsksFor (λ job. job) result (asked party_app party_of Job.Party (texts words.now)) }
+{
+    let command = verb(alloc, "party", &["script", "steps"])?;
+    let matches = matches_in(command, words)?;
+    Ok(Job::Party(party_of(alloc, &matches)?))
+}
+
 // What the words ask for, the first of which is this verb.
 #[tactic(auto, unfolding(crate::specs::Jobs::job_by))]
 fn job_by(alloc: Global, verb: &str, words: &[String]) -> Result<Job, WordsError>
@@ -174,15 +207,21 @@ fn job_by(alloc: Global, verb: &str, words: &[String]) -> Result<Job, WordsError
         flat_job(alloc, words)
     } else if verb == "gen" {
         gen_job(alloc, words)
+    } else if verb == "dis" {
+        dis_job(alloc, words)
+    } else if verb == "stack" {
+        stack_job(alloc, words)
+    } else if verb == "party" {
+        party_job(alloc, words)
     } else {
         Err(WordsError::Usage)
     }
 }
 
-/// What the words after the program's name ask for.
+/// What the arguments after the program's name ask for.
 ///
-/// Errors: `Usage` where the first word is no verb, its simple command refuses the words, or a number, an ending or a
-/// word of `lib` is none that the verb takes; out of memory.
+/// Errors: `Usage` where the first argument is no verb, its simple command refuses the arguments, or a number, an
+/// ending or an argument of `lib` is none that the verb takes; out of memory.
 ///
 /// Source: own choice ("Words").
 pub fn job_of(alloc: Global, words: &[String]) -> Result<Job, WordsError>

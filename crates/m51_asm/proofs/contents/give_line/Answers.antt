@@ -1,8 +1,7 @@
-use Rattle.std.proofs.Common.{◌≡◌, ◌++◌, ◌∷◌, [], ap, sym, ◌∙◌}
+use Rattle.std.proofs.Common.{◌++◌, [], ap, ◌∙◌}
 use Rattle.m51_stmt.specs.Statement.{body_tree}
 use Rattle.m51_text.specs.Answer.{line_tree}
 use Rattle.m51_content.specs.Outcomes.{or_next}
-use Rattle.m51_asm.specs.Fitting.{Fits}
 use Rattle.m51_asm.specs.ContentFaults.{if_fault}
 use Rattle.m51_asm.specs.ObjectNames.{object_names, AreNamesAt}
 use Rattle.m51_asm.specs.Publishing.{published_by, publics_among, fault_among}
@@ -28,10 +27,10 @@ returns c = λ lines a k ready is stands h.
     (λ i name. published_is lines a t ready k n names name i) c.row_at.result c.in_ok-told.told.content
     (c.in_ok-take_set.ensures lines a k is stands h.sets)
     (ap (λ l. l.made) told)
-    (c.in_ok-unpublished.ensures.publics ∙ ap (λ ns. c.args.before.publics ++ publics_among of ns) c.published_names.ensures)
+    (c.in_ok-unpublished.ensures.publics ∙ ap (λ ns. c.args.before.publics ++ publics_among of ns) c.publics_in.ensures)
     (c.in_ok-push_fault.ensures
     ∙ ap (λ o. c.args.before.faults ++ if_fault line o [])
-    (c.or_next.ensures ∙ (λ i. or_next ((ap (λ l. l.fault) told) i) ((c.in_ok-unpublished.ensures.fault ∙ ap (fault_among of) c.published_names.ensures) i))))
+    (c.or_next.ensures ∙ (λ i. or_next ((ap (λ l. l.fault) told) i) ((c.in_ok-unpublished.ensures.fault ∙ ap (fault_among of) c.publics_in.ensures) i))))
     c.in_ok-push.ensures.ok
     (c.row_at.ensures lines a k ready.fits stands)
     c.in_ok-push-2.ensures.ok

@@ -1,4 +1,4 @@
-use Rattle.std.proofs.Common.{◌≡◌, ◌<◌, map, length, ap, sym, subst, ◌∙◌, slice_get, Some, add-one, arith}
+use Rattle.std.proofs.Common.{◌≡◌, ◌<◌, length, ap, sym, subst, slice_get, Some, add-one, arith}
 use Rattle.std.proofs.lemmas.List.{length-map}
 use Rattle.m51_text.specs.Answer.{line_tree}
 use Rattle.m51_asm.specs.Contents.{IsGivenTo}

@@ -1,9 +1,7 @@
-use Rattle.std.proofs.Common.{◌≡◌, ◌<◌, suc, ◌∷◌, [], ◌++◌, map, length, refl, ap, sym, subst, ◌∙◌, add-one, arith}
+use Rattle.std.proofs.Common.{◌≡◌, ◌<◌, suc, ◌∷◌, [], ◌++◌, map, length, ap, sym, subst, ◌∙◌, add-one, arith}
 use Rattle.std.proofs.lemmas.List.{length-map}
-use Rattle.m51_stmt.specs.Statement.{body_tree}
 use Rattle.m51_text.specs.Answer.{line_tree}
 use Rattle.m51_asm.specs.Assignment.{opening, body_of, body_at}
-use Rattle.m51_asm.specs.OpenSegments.{text_segment}
 use Rattle.m51_asm.specs.ObjectSegments.{size_of}
 use Rattle.m51_asm.specs.Numbering.{segment_filled, segment_added, as_list, next_number, IsNumberedTo}
 use Rattle.m51_asm.proofs.ReadLines.{line_at, place_at}

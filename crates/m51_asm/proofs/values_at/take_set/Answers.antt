@@ -1,4 +1,4 @@
-use Rattle.std.proofs.Common.{◌≡◌, ap, subst}
+use Rattle.std.proofs.Common.{subst}
 use Rattle.m51_text.specs.Answer.{line_tree}
 use Rattle.m51_asm.specs.ValuesAt.{PutsIf}
 use Rattle.m51_asm.proofs.TextValues.{set_next}

@@ -1,9 +1,17 @@
-use Rattle.std.proofs.Common.{◌∙◌}
-use Rattle.m51_chain.proofs.AskedFor.{built_files, built_reads}
+use Rattle.m51_chain.specs.Builds.{build_files}
+use Rattle.m51_chain.specs.Programs.{IsReport}
+use Rattle.m51_chain.proofs.Following.{came, files_refused, follows}
 use Rattle.m51_chain.proofs.building.build.Goals as goal
 
-pub build_one-requires-clause-one : goal.build_one-requires-clause-one
-build_one-requires-clause-one c = built_files c.args.job.now c.requires.built
+pub returns : goal.returns
+returns c =
+    let job = c.args.job.now in
+    follows (build_files job) c.args.contents.now (λ script linked. IsReport linked job.hex script job.steps) c.in_ok-found.found _
+    (rw c.as_slice.ensures at c.in_ok-found.ensures.answer) c.in_ok-report.ensures
 
-pub build_one-requires-clause-count : goal.build_one-requires-clause-count
-build_one-requires-clause-count c = c.requires.count ∙ built_reads c.args.job.now c.requires.built
+pub returns-in_err-found : goal.returns-in_err-found
+returns-in_err-found c =
+    let job = c.args.job.now in
+    rw (came c.from_residual.result _ c.from_residual.ensures.1)
+    (files_refused (build_files job) c.args.contents.now (λ script linked. IsReport linked job.hex script job.steps) _
+    (rw c.as_slice.ensures at c.in_err-found.ensures.answer))

@@ -1,12 +1,19 @@
-use Rattle.std.proofs.Common.{subst}
-use Rattle.m51_linker.specs.Image.{IsImage}
-use Rattle.m51_linker.specs.Runs.{AreRuns, IsFilled}
-use Rattle.m51_linker.proofs.LinkLemmas.{linked_is}
+use Rattle.std.proofs.Common.{refl, sym, ◌∙◌}
+use Rattle.m51_linker.proofs.Finished.{runs_are, runs_inside}
 use Rattle.m51_linker.proofs.linking.linked.Goals as goal
 
-pub returns : goal.returns
-returns c =
-    let m = c.args.module.now in
-    linked_is m c.args.placed c.in_ok-layout.layout c.in_ok-image.image c.in_ok-written.written c.in_ok-roots.roots c.in_ok-layout.ensures c.requires.ready c.requires.rules
-    (subst (λ placed. IsImage m placed c.in_ok-image.image) c.as_slice.ensures c.in_ok-image.ensures)
-    (subst (λ placed. AreRuns (IsFilled m placed) c.in_ok-written.written) c.as_slice-2.ensures c.in_ok-written.ensures) c.in_ok-roots.ensures
+pub returns-clause-linked : goal.returns-clause-linked
+returns-clause-linked c = record {
+  layout = refl;
+  image = c.in_ok-image.ensures;
+  written = runs_are c.args.joined.now c.args.placing c.args.content.now c.in_ok-written.written c.requires.content c.in_ok-written.ensures;
+  roots = c.in_ok-roots.ensures;
+}
+
+pub returns-clause-ready : goal.returns-clause-ready
+returns-clause-ready c = record {
+  reset = c.requires.reset;
+  roots = c.in_ok-roots.ensures.len ∙ sym c.requires.units;
+  runs = runs_inside c.args.content.now c.in_ok-written.written c.in_ok-written.ensures;
+  ascending = c.in_ok-written.ensures.ascending;
+}

@@ -1,15 +1,10 @@
-use Rattle.std.proofs.Common.{subst}
-use Rattle.m51_linker.specs.Filling.{AddsRun}
-use Rattle.m51_linker.proofs.CoverLemmas.{runs_before, runs_more}
+use Rattle.m51_linker.proofs.RunsGrow.{runs_before, runs_more}
 use Rattle.m51_linker.proofs.running.runs_of.Goals as goal
 
-pub add_run-requires-clause-before : goal.add_run-requires-clause-before
-add_run-requires-clause-before c =
-    runs_before c.args.pieces.now c.requires c.loop-piece.piece-index c.piece-item.result c.loop-piece-test.true c.piece-item.is c.loop-piece.runs.items
-    c.loop-piece.invariant
+pub add_if-requires : goal.add_if-requires
+add_if-requires c = runs_before c.args.content.now c.loop-address.address c.loop-address.runs.items c.loop-address.invariant
 
-pub loop-piece-preserved : goal.loop-piece-preserved
-loop-piece-preserved c =
-    runs_more c.args.pieces.now c.requires c.loop-piece.piece-index c.piece-item.result c.loop-piece-test.true c.piece-item.is c.loop-piece.runs.items
-    c.add_run.new.runs.items c.loop-piece.invariant
-    (subst (λ len. AddsRun c.piece-item.result.offset len c.loop-piece.runs.items c.add_run.new.runs.items) c.len.ensures c.in_ok-add_run.ensures)
+pub loop-address-preserved : goal.loop-address-preserved
+loop-address-preserved c =
+    runs_more c.args.content.now c.loop-address.address c.is_some.result c.loop-address.runs.items c.add_if.new.runs.items
+    c.loop-address.invariant c.is_some.ensures c.in_ok-add_if.ensures

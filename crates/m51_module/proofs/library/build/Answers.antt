@@ -1,6 +1,7 @@
 use Rattle.std.proofs.Common.{◌≡◌, ◌<◌, None, length, get_or, take, ◌∙◌, rules}
 use Rattle.m51_module.specs.Library.{add_refusal}
 use Rattle.m51_module.proofs.Building.{library_more, each_more}
+use Rattle.m51_module.proofs.NotedNames.{names_next}
 use Rattle.m51_module.proofs.library.build.Goals as goal
 
 pub loop-index-preserved : goal.loop-index-preserved
@@ -9,5 +10,6 @@ loop-index-preserved c =
     let free : add_refusal (take c.loop-index.index c.args.modules.items) (get_or c.args.modules.items c.loop-index.index c.index.result.now) ≡ None = search rules in
     record {
       library = library_more _ _ c.index.result.now lt c.loop-index.invariant.library free;
+      names = names_next c.args.modules.items c.loop-index.index c.index-in-None.result.now c.with-names.result lt (search rules) (c.with-names.ensures _ c.loop-index.invariant.names);
       rest = each_more _ _ c.index.result.now lt free ∙ c.loop-index.invariant.rest;
     }

@@ -1,8 +1,37 @@
-use Rattle.m51_sim.specs.Boards.{flat_of}
-use Rattle.m51_sim.proofs.Parting.{advance_done}
+use Rattle.std.proofs.Common.{◌≡◌, ap}
+use Rattle.m51_sim.specs.SeparateMachine.{Separate}
+use Rattle.m51_sim.specs.Boards.{memory_of}
+use Rattle.m51_sim.specs.Cycles.{inputs_of, with_extra}
+use Rattle.m51_sim.proofs.Fitting.{order_after}
+use Rattle.m51_sim.proofs.Passes.{IsPassed, passed_keeps, step_done, step_stopped}
 use Rattle.m51_sim.proofs.board.advance.Goals as goal
+
+pub commit-requires-clause-judged : goal.commit-requires-clause-judged
+commit-requires-clause-judged c = record { cpu = c.args.chip.now.cpu; judges = c.in-Ok.ensures.may.judges }
+
+pub commit-requires-clause-opened : goal.commit-requires-clause-opened
+commit-requires-clause-opened c = c.in-Ok.ensures.may.prepared.opened
+
+pub commit-requires-clause-address : goal.commit-requires-clause-address
+commit-requires-clause-address c = c.in-Ok.ensures.may.address
+
+pub commit-requires-clause-level : goal.commit-requires-clause-level
+commit-requires-clause-level c = c.in-Ok.ensures.may.level
+
+pub returns-in-Ok-clause-order : goal.returns-in-Ok-clause-order
+returns-in-Ok-clause-order c =
+    let inputs = with_extra c.args.extra.now (inputs_of c.args.chip.now.script) in
+    let passed : IsPassed inputs c.args.chip.now c.pass.new.self c.in-Ok.allowed.effect c.pass.result = record { port = c.pass.ensures.port; passed = c.pass.ensures.passed } in
+    order_after c.args.monitor.now c.commit.new.monitor c.args.chip.now.cpu c.pass.new.self.cpu c.in-Ok.allowed c.stand.ensures.sound c.stand.ensures.records c.requires.order c.in-Ok.ensures.may
+    c.commit.ensures.layout (ap (λ (m : Separate). m.records) c.commit.ensures.memory) (passed_keeps inputs c.args.chip.now c.pass.new.self c.in-Ok.allowed.effect c.pass.result passed)
 
 pub returns-in-Ok-clause-step : goal.returns-in-Ok-clause-step
 returns-in-Ok-clause-step c =
-    advance_done c.args.layout.now c.args.chip.now.image (flat_of c.args.chip.now) (flat_of c.perform.new.self) c.in-Ok.effect c.perform.result
-    c.in-Ok.ensures.value c.perform.ensures.state c.perform.ensures.told
+    let inputs = with_extra c.args.extra.now (inputs_of c.args.chip.now.script) in
+    step_done c.args.monitor.now.layout c.args.chip.now.image inputs c.args.chip.now (memory_of c.args.monitor.now) c.pass.new.self (memory_of c.commit.new.monitor) c.in-Ok.allowed c.pass.result
+    c.in-Ok.ensures.value c.commit.ensures.memory (record { port = c.pass.ensures.port; passed = c.pass.ensures.passed })
+
+pub returns-in-Err-clause-step : goal.returns-in-Err-clause-step
+returns-in-Err-clause-step c =
+    let inputs = with_extra c.args.extra.now (inputs_of c.args.chip.now.script) in
+    step_stopped c.args.monitor.now.layout c.args.chip.now.image inputs c.args.chip.now (memory_of c.args.monitor.now) c.in-Err.event c.in-Err.ensures.value

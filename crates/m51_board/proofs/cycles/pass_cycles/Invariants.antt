@@ -1,6 +1,0 @@
-use Rattle.std.proofs.Common.{◌≡◌}
-use Rattle.m51_board.specs.Cycles.{cycles_passed, inputs_of, with_extra}
-use Rattle.m51_board.proofs.cycles.pass_cycles.Given as goal
-
-abbrev pub invariant-loop : goal.invariant-loop
-invariant-loop l = l.passing ≡ cycles_passed (with_extra l.extra (inputs_of l.script)) l.counter l.fn.passing

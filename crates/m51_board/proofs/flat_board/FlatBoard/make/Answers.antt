@@ -1,5 +1,0 @@
-use Rattle.m51_board.proofs.Flatly.{flat_started}
-use Rattle.m51_board.proofs.flat_board.FlatBoard.make.Goals as goal
-
-pub returns : goal.returns
-returns c = flat_started c.args.image c.args.script c.fill.result c.make.result c.in_ok-memory.memory c.fill.ensures c.make.ensures c.in_ok-memory.ensures

@@ -1,0 +1,164 @@
+-- A job of asm has one source, and one of gen makes 1 to 100 units.
+use Rattle.std.proofs.Common.{◌≡◌, ◌≤◌, nat_le, take, inl, inr, ℕ, Bool, true, false, cond, List, [], ◌∷◌, Option, Some, None, refl, subst}
+use Rattle.std.specs.Prelude.{option_map, option_and_then, count_by, ◌==◌, codes}
+use Rattle.std.specs.Str.{bytes_eq}
+use Rattle.std.specs.Str.Parse.{digits_value}
+use Rattle.std.proofs.lemmas.Bool.Decides.{leb_tells}
+use Rattle.std.proofs.lemmas.Option.{cond_some}
+use Rattle.std.proofs.lemmas.Bool.{and_parts, eqb-true}
+use Rattle.clap.specs.Words.{App, Row}
+use Rattle.m51_words.specs.declared.job.Job.{Job}
+use Rattle.m51_words.specs.declared.job.Job.TheVariants.{Build, Asm, Library, Flat, Gen, Dis, Stack, Party}
+use Rattle.m51_words.specs.Numbers.{number_of, start_of, units_of}
+use Rattle.m51_words.specs.Endings.{are_assembled, is_source}
+use Rattle.m51_words.specs.Commands.{build_app, asm_app, lib_app, flat_app, gen_app, dis_app, stack_app, party_app, rows_in, value_of, words_of}
+use Rattle.m51_words.specs.Jobs.{asked, asm_files, asm_of, asm_with, gen_with, steps_in, build_of, lib_of, flat_of, gen_of, link_of, party_of, job_by, job_of}
+use Rattle.m51_chain.specs.Asked.{IsFit, is_built}
+
+-- what is known of such jobs
+abbrev HasOne : Option Job → Type 0
+HasOne None = Unit {0}
+HasOne (Some (Asm job)) = count_by is_source job.files ≡ 1
+HasOne (Some (Gen job)) = (1 ≤ job.units) × (job.units ≤ 100)
+HasOne (Some job) = Unit {0}
+
+is_one : (n : ℕ) → (n == 1) ≡ true → n ≡ 1
+is_one n h = eqb-true n 1 h
+
+one_source : (files : List (List ℕ)) → are_assembled files ≡ true → count_by is_source files ≡ 1
+unfolding are_assembled
+one_source files h = is_one _ (and_parts _ _ h).1
+
+asm_one : (b : Bool) (files : List (List ℕ)) (out : Option (List ℕ)) → are_assembled files ≡ b
+    → HasOne (option_map Asm (cond b (option_map (asm_with files) out) None))
+asm_one false files out is = tt
+asm_one true files None is = tt
+asm_one true files (Some o) is = one_source files is
+
+asm_words : (rows : List Row) (words : Option (List (List ℕ))) → HasOne (option_map Asm (option_and_then (asm_files rows) words))
+asm_words rows None = tt
+asm_words rows (Some files) = asm_one (are_assembled files) files _ refl
+
+asm_rows : (rows : Option (List Row)) → HasOne (option_map Asm (option_and_then asm_of rows))
+unfolding asm_of
+asm_rows None = tt
+asm_rows (Some rows) = asm_words rows (words_of rows)
+
+le_of : (a b : ℕ) → nat_le a b ≡ true → a ≤ b
+le_of a b h =
+    elim (leb_tells a b) [
+      | inl holds ↦ holds.1
+      | inr fails ↦ absurd (cc (h, fails.0))
+    ]
+
+number_within : (most low high : ℕ) (text : List ℕ) (n : ℕ) → number_of most low high text ≡ Some n → (low ≤ n) × (n ≤ high)
+unfolding number_of
+number_within most low high text n h =
+    let found = cond_some _ _ n h in
+    let last = and_parts _ _ found.0 in
+    let first = and_parts _ _ last.0 in
+    rw (← found.1) (le_of low (digits_value 10 text) first.1, le_of (digits_value 10 text) high last.1)
+
+test_within : (b : Bool) (text : List ℕ) (n : ℕ) → cond b None (number_of 3 1 100 text) ≡ Some n → (1 ≤ n) × (n ≤ 100)
+test_within true text n h = absurd (cc h)
+test_within false text n h = number_within 3 1 100 text n h
+
+units_within : (text : Option (List ℕ)) (n : ℕ) → option_and_then units_of text ≡ Some n → (1 ≤ n) × (n ≤ 100)
+unfolding units_of
+units_within None n h = absurd (cc h)
+units_within (Some text) n h = test_within (bytes_eq (take 1 text) (codes "0")) text n h
+
+gen_units : (units start steps : Option ℕ) → ((n : ℕ) → units ≡ Some n → (1 ≤ n) × (n ≤ 100))
+    → HasOne (option_map Gen (option_and_then (λ u. option_and_then (λ s. option_map (gen_with u s) steps) start) units))
+gen_units None start steps within = tt
+gen_units (Some u) None steps within = tt
+gen_units (Some u) (Some s) None within = tt
+gen_units (Some u) (Some s) (Some n) within = within u refl
+
+gen_rows : (rows : Option (List Row)) → HasOne (option_map Gen (option_and_then gen_of rows))
+unfolding gen_of
+gen_rows None = tt
+gen_rows (Some rows) =
+    gen_units (option_and_then units_of (value_of (codes "units") rows)) (option_and_then start_of (value_of (codes "start") rows)) (steps_in rows)
+    (units_within (value_of (codes "units") rows))
+
+-- jobs of another verb
+other_one : {A : Type 0} (app : App) (job_in : List Row → Option A) (of : A → Job) (words : List (List ℕ)) → ((a : A) → HasOne (Some (of a)))
+    → HasOne (asked app job_in of words)
+other_one {A = A} app job_in of words one = by (option_and_then job_in (rows_in app words))
+  where
+    by : (job : Option A) → HasOne (option_map of job)
+    by None = tt
+    by (Some a) = one a
+
+-- a verb, and the job of its words
+abbrev Verb : Type 0
+Verb = List ℕ × Option Job
+
+-- the job of the first of these that is the verb
+abbrev first_of : List ℕ → List Verb → Option Job
+first_of verb [] = None
+first_of verb (one ∷ more) = cond (bytes_eq verb one.0) one.1 (first_of verb more)
+
+abbrev AreOne : List Verb → Type 0
+AreOne [] = Unit {0}
+AreOne (one ∷ more) = HasOne one.1 × AreOne more
+
+first_one : (verb : List ℕ) (verbs : List Verb) → AreOne verbs → HasOne (first_of verb verbs)
+first_one verb [] all = tt
+first_one verb (one ∷ more) all = by_test (bytes_eq verb one.0) (first_one verb more all.1)
+  where
+    by_test : (b : Bool) → HasOne (first_of verb more) → HasOne (cond b one.1 (first_of verb more))
+    by_test true rest = all.0
+    by_test false rest = rest
+
+abbrev from_dis : List (List ℕ) → List Verb
+from_dis words =
+    (codes "dis", asked dis_app link_of Dis words) ∷ (codes "stack", asked stack_app link_of Stack words)
+    ∷ (codes "party", asked party_app party_of Party words) ∷ []
+
+abbrev from_lib : List (List ℕ) → List Verb
+from_lib words =
+    (codes "lib", asked lib_app lib_of Library words) ∷ (codes "flat", asked flat_app flat_of Flat words)
+    ∷ (codes "gen", asked gen_app gen_of Gen words) ∷ from_dis words
+
+abbrev verbs_of : List (List ℕ) → List Verb
+verbs_of words =
+    (codes "build", asked build_app build_of Build words) ∷ (codes "asm", asked asm_app asm_of Asm words) ∷ from_lib words
+
+verbs_one : (words : List (List ℕ)) → AreOne (verbs_of words)
+verbs_one words =
+    let after_gen : AreOne (from_dis words) = (
+      other_one dis_app link_of Dis words (λ job. tt),
+      (
+        other_one stack_app link_of Stack words (λ job. tt),
+        (other_one party_app party_of Party words (λ job. tt), tt),
+      ),
+    ) in
+    let after_asm : AreOne (from_lib words) = (
+      other_one lib_app lib_of Library words (λ job. tt),
+      (
+        other_one flat_app flat_of Flat words (λ job. tt),
+        (gen_rows (rows_in gen_app words), after_gen),
+      ),
+    ) in
+    (other_one build_app build_of Build words (λ job. tt), (asm_rows (rows_in asm_app words), after_asm))
+
+words_one : (words : List (List ℕ)) → HasOne (job_of words)
+unfolding job_by
+words_one [] = tt
+words_one (verb ∷ words) = first_one verb (verbs_of (verb ∷ words)) (verbs_one (verb ∷ words))
+
+-- what is built of these is fit
+built_fit : (job : Job) → HasOne (Some job) → is_built job ≡ true → IsFit job
+built_fit (Build job) one built = tt
+built_fit (Asm job) one built = one
+built_fit (Library job) one built = tt
+built_fit (Flat job) one built = tt
+built_fit (Gen job) one built = one
+built_fit (Dis job) one built = tt
+built_fit (Stack job) one built = tt
+built_fit (Party job) one built = absurd (cc built)
+
+pub asked_fit : (words : List (List ℕ)) (job : Job) → job_of words ≡ Some job → is_built job ≡ true → IsFit job
+asked_fit words job asked built = built_fit job (subst HasOne asked (words_one words)) built

@@ -1,6 +1,0 @@
-use Rattle.std.proofs.Common.{◌≡◌, ◌+◌, drop}
-use Rattle.m51_chain.specs.Builds.{filled_by}
-use Rattle.m51_chain.proofs.building.filled.Given as goal
-
-abbrev pub invariant-loop-run : goal.invariant-loop-run
-invariant-loop-run l = l.bytes + filled_by (drop l.run-index l.runs) ≡ filled_by l.runs

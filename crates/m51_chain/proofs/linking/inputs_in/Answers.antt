@@ -1,0 +1,23 @@
+use Rattle.std.proofs.Common.{◌+◌, length, Err, refl}
+use Rattle.std.specs.Prelude.{option_to_list}
+use Rattle.std.proofs.lemmas.List.{take_rest}
+use Rattle.m51_chain.specs.Linking.{IsLinkedOutcome, Nothing}
+use Rattle.m51_chain.specs.ProgramFiles.{AreAnswered, ProgramFiles, Refused, named}
+use Rattle.m51_chain.proofs.Following.{told_of}
+use Rattle.m51_chain.proofs.InputsGiven.{error_told}
+use Rattle.m51_chain.proofs.linking.inputs_in.Goals as goal
+
+pub returns-in_ok-refuse_inputs-in-Err : goal.returns-in_ok-refuse_inputs-in-Err
+returns-in_ok-refuse_inputs-in-Err c =
+    let files : ProgramFiles = named c.args.files.now c.args.control.now c.args.script.now in
+    let given : AreAnswered files c.args.contents.now (Err c.in-Err.error) =
+    rw (
+      c.content_if-control_content.ensures,
+      c.content_if-script_content.ensures,
+      c.count_of.ensures.value,
+      take_rest c.args.contents.now (length c.args.files.now),
+      take_rest c.args.contents.now (length c.args.files.now + length (option_to_list c.args.control.now)),
+    )
+    at (rw (error_told c.in-Err.error c.refuse_inputs.ensures.error) at c.in-Err.ensures) in
+    told_of (IsLinkedOutcome files c.args.contents.now (λ script. Nothing)) _ _ c.in_ok-refuse_inputs-in-Err.ensures.stop
+    (record { given = Err c.in-Err.error; answer = given; is = Refused c.in-Err.error refl refl })

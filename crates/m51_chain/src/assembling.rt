@@ -1,0 +1,88 @@
+//! The verb `asm`.
+ghost use Rattle.std.specs.Prelude.{◌≡◌, ◌≤◌, ℕ, List, IfOk, Some, count_by, length};
+ghost use Rattle.m51_asm.specs.Answer.{Gives, IsAnswer, tree_of};
+ghost use Rattle.m51_cells.specs.declared.limits.TheConstants.{MOST_FILES};
+ghost use Rattle.m51_words.specs.Endings.{is_source};
+ghost use Rattle.m51_chain.specs.Assembles.{IsAsmOutcome, assembled_outcome};
+ghost use Rattle.m51_print.specs.Listing.{AreOf};
+ghost use Rattle.m51_chain.specs.Outcome.{Comes, outcome_of, refused, stopped};
+ghost use Rattle.m51_chain.specs.FaultLines.{fault_lines};
+
+use crate::faulting::push_faults;
+use crate::work::{Ending, Finished, Reason, Stop};
+use m51_asm::Assembled;
+use m51_cells::{Bytes, NoMemory};
+use m51_inputs::{AssembledSource, assemble_source};
+use m51_module::{Fault, Module, Rows, SourceFile};
+use m51_print::listing;
+use m51_records::write_module;
+use m51_words::{AsmJob, FileName};
+use std::alloc::Global;
+
+// A source has faults.
+pub(crate) fn refuse_source(
+    alloc: Global,
+    files: &[FileName],
+    source: &SourceFile,
+    faults: &[Fault],
+) -> Result<Stop, NoMemory>
+    ensures { IfOk result (λ stop. stopped stop
+        ≡ Some (refused Reason.Source (fault_lines source.now.name files.now faults.now))) }
+{
+    let mut text = Vec::new(alloc);
+    push_faults(alloc, &mut text, source.name.as_slice(), files, faults)?;
+    Ok(Stop::Refused {
+        why: Reason::Source,
+        text: Bytes::of(text),
+    })
+}
+
+// The object of a module, which is kept, and the listing of its source.
+fn list(
+    alloc: Global,
+    source: &SourceFile,
+    includes: &[SourceFile],
+    parts: &Module,
+    rows: &Rows,
+) -> Result<Finished, NoMemory>
+    requires { AreOf source.now includes.now rows.now }
+    ensures { IfOk result (λ work. (files : List (List ℕ))
+        → outcome_of work ≡ assembled_outcome files source.now includes.now (Gives parts.now rows.now)) }
+{
+    let object = write_module(alloc, parts)?;
+    let text = listing(alloc, source, includes, rows)?;
+    Ok(Finished {
+        keeps: Some(Bytes::of(object)),
+        text: Bytes::of(text),
+        ending: Ending::Ran,
+    })
+}
+
+// What comes of a source that was assembled.
+fn assembled(alloc: Global, files: &[FileName], all: AssembledSource) -> Result<Finished, Stop>
+    requires { IsAnswer all.source all.includes.items (tree_of all.assembled) }
+    ensures { Comes (λ outcome. outcome
+        ≡ assembled_outcome files.now all.source all.includes.items (tree_of all.assembled)) result }
+{
+    let AssembledSource {
+        source,
+        includes,
+        assembled,
+    } = all;
+    match assembled {
+        Assembled::Faults(faults) => Err(refuse_source(alloc, files, &source, faults.as_slice())?),
+        Assembled::Module(parts, rows) => Ok(list(alloc, &source, &includes, &parts, &rows)?),
+    }
+}
+
+// Assembles a source, keeps its object and lists it.
+pub(crate) fn assemble(alloc: Global, job: &AsmJob, contents: &[Bytes]) -> Result<Finished, Stop>
+    requires one { count_by is_source job.now.files ≡ 1 }
+    requires few { length job.now.files ≤ MOST_FILES }
+    requires count { length contents.now ≡ length job.now.files }
+    ensures { Comes (IsAsmOutcome job.now contents.now) result }
+{
+    let files = job.files.as_slice();
+    let all = assemble_source(alloc, files, contents)?;
+    assembled(alloc, files, all)
+}

@@ -1,0 +1,126 @@
+//! From the files of a program to the program as it is linked.
+ghost use Rattle.std.specs.Prelude.{◌≡◌, ◌≢◌, ◌≤◌, IfOk, Some, length, option_to_list};
+ghost use Rattle.std.specs.List.{All};
+ghost use Rattle.m51_cells.specs.declared.limits.TheConstants.{MOST_FILES, MOST_FILE_BYTES};
+ghost use Rattle.m51_linker.specs.Link.{IsReady, program_of};
+ghost use Rattle.m51_chain.specs.Linking.{AreAnsweredOr, AreLinkedOr, IsLinkedOr, link_outcome, reason_of};
+ghost use Rattle.m51_chain.specs.Outcome.{stopped};
+ghost use Rattle.m51_chain.specs.ProgramFiles.{HasParts, named};
+
+use crate::input_refusing::refuse_inputs;
+use crate::optional::content_if;
+use crate::work::{Reason, Stop};
+use m51_cells::{Bytes, NoMemory};
+use m51_control::Controls;
+use m51_inputs::{InputError, Inputs, read_inputs};
+use m51_linker::{Linked, link};
+use m51_module::{Library, Module, Refusal};
+use m51_print::refusal_text;
+use m51_script::Script;
+use m51_words::FileName;
+use std::alloc::Global;
+
+// A linked program, and the script of its files.
+#[derive(Drop)]
+pub(crate) struct LinkedFiles {
+    pub linked: Linked,
+    pub script: Script,
+}
+
+// How many files an option names.
+fn count_of(name: &Option<FileName>) -> usize
+    ensures value { result ≡ length (option_to_list name.now) }
+    ensures few { result ≤ 1 }
+{
+    match name {
+        Some(_) => 1,
+        None => 0,
+    }
+}
+
+// What the files give.
+fn inputs_in(
+    alloc: Global,
+    files: &[FileName],
+    control: &Option<FileName>,
+    script: &Option<FileName>,
+    contents: &[Bytes],
+) -> Result<Inputs, Stop>
+    requires few { length files.now ≤ MOST_FILES }
+    requires count { HasParts (named files.now control.now script.now) contents.now }
+    requires within { All (λ bytes. length bytes ≤ MOST_FILE_BYTES) contents.now }
+    ensures { AreAnsweredOr (named files.now control.now script.now) contents.now result }
+{
+    let words = &contents[..files.len()];
+    let control_content = content_if(control, &contents[files.len()..]);
+    let script_content = content_if(script, &contents[files.len() + count_of(control)..]);
+    match read_inputs(alloc, files, words, control_content, script_content) {
+        Ok(inputs) => Ok(inputs),
+        Err(InputError::Memory) => Err(Stop::Memory),
+        Err(error) => Err(refuse_inputs(alloc, files, &error)?),
+    }
+}
+
+// The reason of a refusal of the link.
+fn reason_of(refusal: &Refusal) -> Reason
+    ensures { result ≡ reason_of refusal.now }
+{
+    match refusal {
+        Refusal::Limit { .. } => Reason::Limit,
+        _ => Reason::Link,
+    }
+}
+
+// A link is refused. Its clause `refusal` hands the condition on to the proof of the caller.
+pub(crate) fn refuse_link(alloc: Global, refusal: &Refusal) -> Result<Stop, NoMemory>
+    requires { refusal.now ≢ Refusal.Memory }
+    ensures refusal { refusal.now ≢ Refusal.Memory }
+    ensures stop { IfOk result (λ stop. stopped stop ≡ Some (link_outcome refusal.now)) }
+{
+    let text = refusal_text(alloc, refusal)?;
+    Ok(Stop::Refused {
+        why: reason_of(refusal),
+        text: Bytes::of(text),
+    })
+}
+
+// Links modules and libraries by control lines.
+pub(crate) fn link_modules(
+    alloc: Global,
+    modules: Vec<Module>,
+    libraries: &[Library],
+    controls: &Controls,
+) -> Result<Linked, Stop>
+    ensures answer { IsLinkedOr (program_of modules.items libraries.now controls.now) result }
+    ensures ready { IfOk result IsReady }
+{
+    match link(alloc, modules, libraries, controls) {
+        Ok(linked) => Ok(linked),
+        Err(Refusal::Memory) => Err(Stop::Memory),
+        Err(refusal) => Err(refuse_link(alloc, &refusal)?),
+    }
+}
+
+// Links what the files give.
+pub(crate) fn link_files(
+    alloc: Global,
+    files: &[FileName],
+    control: &Option<FileName>,
+    script: &Option<FileName>,
+    contents: &[Bytes],
+) -> Result<LinkedFiles, Stop>
+    requires few { length files.now ≤ MOST_FILES }
+    requires count { HasParts (named files.now control.now script.now) contents.now }
+    requires within { All (λ bytes. length bytes ≤ MOST_FILE_BYTES) contents.now }
+    ensures answer { AreLinkedOr (named files.now control.now script.now) contents.now result }
+    ensures ready { IfOk result (λ found. IsReady found.linked) }
+{
+    let Inputs {
+        modules,
+        libraries,
+        controls,
+        script,
+    } = inputs_in(alloc, files, control, script, contents)?;
+    let linked = link_modules(alloc, modules, &libraries, &controls)?;
+    Ok(LinkedFiles { linked, script })
+}

@@ -1,0 +1,5 @@
+pub mod Sorting
+pub mod Flagged
+pub mod Walking
+pub mod Placing
+pub mod Written

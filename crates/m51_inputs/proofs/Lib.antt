@@ -1,0 +1,4 @@
+pub mod FileLists
+pub mod AnswerLists
+pub mod LinkedLists
+pub mod OneEach

@@ -1,0 +1,78 @@
+-- Modules and libraries, word by word.
+use Rattle.std.proofs.Common.{◌≡◌, ◌∙◌, ℕ, suc, ◌+◌, ◌<◌, List, [], ◌∷◌, ◌++◌, length, drop, get_or, Some, None, Option, Result, Ok, Err, refl, ap, sym, append_assoc, add-one, drop-cons, arith}
+use Rattle.m51_cells.specs.Outcome.{and_then, RefusesWith}
+use Rattle.m51_module.specs.declared.parts.ModuleParts.{ModuleParts}
+use Rattle.m51_words.specs.Endings.{ending_of}
+use Rattle.m51_inputs.specs.declared.error.InputError.{InputError}
+use Rattle.m51_inputs.specs.Objects.{Linked, with_module, with_library, with_source, linked_by, linked_from}
+use Rattle.m51_inputs.specs.Steps.{linked_before}
+
+-- one more module
+module_after : (modules : List ModuleParts) (libraries : List (List ModuleParts)) (after : Result Linked InputError) (parts : ModuleParts)
+    → linked_before (modules ++ parts ∷ []) libraries after ≡ linked_before modules libraries (with_module after parts)
+module_after modules libraries (Ok after) parts =
+    ap (λ (all : List ModuleParts). let whole : Linked = record { modules = all; libraries = libraries ++ after.libraries } in let found : Result Linked InputError = Ok whole in found)
+    (append_assoc modules (parts ∷ []) after.modules)
+module_after modules libraries (Err error) parts = refl
+
+-- one more library
+library_after : (modules : List ModuleParts) (libraries : List (List ModuleParts)) (after : Result Linked InputError) (library : List ModuleParts)
+    → linked_before modules (libraries ++ library ∷ []) after ≡ linked_before modules libraries (with_library after library)
+library_after modules libraries (Ok after) library =
+    ap (λ (all : List (List ModuleParts)). let whole : Linked = record { modules = modules ++ after.modules; libraries = all } in let found : Result Linked InputError = Ok whole in found)
+    (append_assoc libraries (library ∷ []) after.libraries)
+library_after modules libraries (Err error) library = refl
+
+-- a source where no module is left, and one that gives the next
+pub no_source : (modules : List ModuleParts) (libraries : List (List ModuleParts)) (old new : List ModuleParts) (after : List ModuleParts → Result Linked InputError)
+    → old ≡ new → new ≡ drop 1 old → linked_before modules libraries (after new) ≡ linked_before modules libraries (with_source old after)
+no_source modules libraries [] new after same rest = ap (λ (s : List ModuleParts). linked_before modules libraries (after s)) (sym same)
+no_source modules libraries (parts ∷ old) new after same rest = absurd (omega (arith, ap length same, ap length rest))
+
+pub source_put : (modules news : List ModuleParts) (libraries : List (List ModuleParts)) (old new : List ModuleParts) (parts : ModuleParts) (after : List ModuleParts → Result Linked InputError)
+    → old ≡ parts ∷ new → news ≡ modules ++ parts ∷ [] → linked_before news libraries (after new) ≡ linked_before modules libraries (with_source old after)
+source_put modules news libraries old new parts after is put =
+    ap (λ (all : List ModuleParts). linked_before all libraries (after new)) put
+    ∙ module_after modules libraries (after new) parts
+    ∙ ap (λ (s : List ModuleParts). linked_before modules libraries (with_source s after)) (sym is)
+
+-- an object that is read
+pub object_put : (modules news : List ModuleParts) (libraries : List (List ModuleParts)) (found : Result ModuleParts InputError) (parts : ModuleParts) (after : Result Linked InputError)
+    → found ≡ Ok parts → news ≡ modules ++ parts ∷ []
+    → linked_before news libraries after ≡ linked_before modules libraries (and_then found (with_module after))
+object_put modules news libraries found parts after is put =
+    ap (λ (all : List ModuleParts). linked_before all libraries after) put
+    ∙ module_after modules libraries after parts
+    ∙ ap (λ (f : Result ModuleParts InputError). linked_before modules libraries (and_then f (with_module after))) (sym is)
+
+-- a library that is read
+pub library_put : (modules : List ModuleParts) (libraries news : List (List ModuleParts)) (found : Result (List ModuleParts) InputError) (library : List ModuleParts) (after : Result Linked InputError)
+    → found ≡ Ok library → news ≡ libraries ++ library ∷ []
+    → linked_before modules news after ≡ linked_before modules libraries (and_then found (with_library after))
+library_put modules libraries news found library after is put =
+    ap (λ (all : List (List ModuleParts)). linked_before modules all after) put
+    ∙ library_after modules libraries after library
+    ∙ ap (λ (f : Result (List ModuleParts) InputError). linked_before modules libraries (and_then f (with_library after))) (sym is)
+
+-- what is refused first is refused as a whole
+pub part_refused : {A B : Type 0} (refusal : Option InputError) (found : Result A InputError) (next : A → Result B InputError)
+    → RefusesWith refusal found → RefusesWith refusal (and_then found next)
+part_refused None found next h = tt
+part_refused (Some why) found next h = ap (λ f. and_then f next) h
+
+pub rest_refused : (refusal : Option InputError) (modules : List ModuleParts) (libraries : List (List ModuleParts)) (rest whole : Result Linked InputError)
+    → linked_before modules libraries rest ≡ whole → RefusesWith refusal rest → RefusesWith refusal whole
+rest_refused None modules libraries rest whole is h = tt
+rest_refused (Some why) modules libraries rest whole is h = sym is ∙ ap (linked_before modules libraries) h
+
+-- the word at an index, and those after it
+pub word_at : (names contents : List (List ℕ)) (i : ℕ) (name bytes : List ℕ) (sources : List ModuleParts)
+    → i < length names → i < length contents → name ≡ get_or names i name → bytes ≡ get_or contents i bytes
+    → linked_from i (drop i names) (drop i contents) sources ≡ linked_by (ending_of name) i bytes sources (linked_from (i + 1) (drop (i + 1) names) (drop (i + 1) contents))
+word_at names contents i name bytes sources some more is has =
+    let cut : drop i names ≡ name ∷ drop (i + 1) names =
+    drop-cons names i name some ∙ ap (λ (n : List ℕ). n ∷ drop (suc i) names) (sym is) ∙ ap (λ (k : ℕ). name ∷ drop k names) (sym (add-one i)) in
+    let cut_too : drop i contents ≡ bytes ∷ drop (i + 1) contents =
+    drop-cons contents i bytes more ∙ ap (λ (n : List ℕ). n ∷ drop (suc i) contents) (sym has) ∙ ap (λ (k : ℕ). bytes ∷ drop k contents) (sym (add-one i)) in
+    ap (λ (ns : List (List ℕ)). linked_from i ns (drop i contents) sources) cut
+    ∙ ap (λ (cs : List (List ℕ)). linked_from i (name ∷ drop (i + 1) names) cs sources) cut_too

@@ -1,0 +1,5 @@
+use Rattle.m51_inputs.proofs.LinkedLists.{object_put}
+use Rattle.m51_inputs.proofs.objects.add_object.Goals as goal
+
+pub returns : goal.returns
+returns c = λ after. object_put c.args.linked.now.modules.items c.push.new.self.items c.args.linked.now.libraries.items _ c.in_ok-parts.parts after c.in_ok-parts.ensures c.in_ok-push.ensures.items

@@ -1,0 +1,175 @@
+//! Objects and libraries of a program.
+ghost use Rattle.std.specs.Prelude.{◌≡◌, ◌<◌, ◌≤◌, ◌^◌, List, Result, length, All};
+ghost use Rattle.m51_cells.specs.declared.limits.TheConstants.{MOST_FILE_BYTES};
+ghost use Rattle.m51_cells.specs.Outcome.{Gives};
+ghost use Rattle.m51_library.specs.Reading.{at_end, library_of};
+ghost use Rattle.m51_records.specs.Fields.{Reads};
+ghost use Rattle.m51_inputs.specs.Inputs.{refusal_of};
+ghost use Rattle.m51_inputs.specs.declared.error.InputError.{InputError as Error};
+ghost use Rattle.m51_inputs.specs.Objects.{Linked, module_in, or_object, or_library, linked_by, linked_from, linked};
+ghost use Rattle.m51_inputs.specs.Objects.{with_source, with_object, with_archive};
+ghost use Rattle.m51_inputs.specs.Steps.{Steps};
+ghost use Rattle.m51_module.specs.declared.parts.ModuleParts.{ModuleParts};
+ghost use Rattle.m51_words.specs.Endings.{ending_of};
+
+use crate::error::InputError;
+use m51_cells::Bytes;
+use m51_library::read_library;
+use m51_module::{LibError, Library, Module, ObjError};
+use m51_records::{module_at, place};
+use m51_words::{Ending, FileName, ending_of};
+use std::alloc::Global;
+use std::collections::VecDeque;
+
+// The module, where nothing follows it; else O3 at the first byte that does.
+fn at_end(total: u32, rest: &[u8], module: Module) -> Result<Module, ObjError>
+    ensures { Reads (λ m. m) result (at_end total rest.now «module») }
+{
+    match rest {
+        [] => Ok(module),
+        _ => Err(ObjError::O3 {
+            at: place(total, rest),
+        }),
+    }
+}
+
+/// The module of an object file, of less than 4,294,967,296 bytes.
+///
+/// Errors: the first refusal, record by record and in a record field by field, as `module_at` of m51_records gives it;
+/// then O3 at the first byte that follows the module. `Memory` is the only other error.
+///
+/// Source: own choice ("Object records").
+#[tactic(auto, unfolding(crate::specs::Objects::module_in))]
+pub fn read_object(alloc: Global, bytes: &[u8]) -> Result<Module, ObjError>
+    requires { length bytes.now < 2 ^ 32 }
+    ensures { Reads (λ m. m) result (module_in bytes.now) }
+{
+    let total = bytes.len() as u32;
+    let (module, rest, _) = module_at(alloc, total, 0, bytes)?;
+    at_end(total, rest, module)
+}
+
+// The module of the object of this word.
+fn object_at(alloc: Global, file: usize, bytes: &Bytes) -> Result<Module, InputError>
+    requires { length bytes.now ≤ MOST_FILE_BYTES }
+    ensures { Gives (λ m. m) refusal_of result (or_object file (module_in bytes.now)) }
+{
+    match read_object(alloc, bytes.as_slice()) {
+        Ok(module) => Ok(module),
+        Err(ObjError::Memory) => Err(InputError::Memory),
+        Err(error) => Err(InputError::Object { file, error }),
+    }
+}
+
+// The library of this word.
+fn library_at(alloc: Global, file: usize, bytes: &Bytes) -> Result<Library, InputError>
+    requires { length bytes.now ≤ MOST_FILE_BYTES }
+    ensures { Gives (λ l. l) refusal_of result (or_library file (library_of bytes.now)) }
+{
+    match read_library(alloc, bytes.as_slice()) {
+        Ok(library) => Ok(library),
+        Err(LibError::Memory) => Err(InputError::Memory),
+        Err(error) => Err(InputError::Library { file, error }),
+    }
+}
+
+// The given modules and the libraries, in word order.
+#[derive(Drop)]
+pub(crate) struct LinkedFiles {
+    pub(crate) modules: Vec<Module>,
+    pub(crate) libraries: Vec<Library>,
+}
+
+// Adds the first of the sources' modules.
+fn add_source(sources: &mut VecDeque<Module>, linked: &mut LinkedFiles) -> Result<(), InputError>
+    ensures { (after : List ModuleParts → Result Linked Error) →
+        Steps linked.old linked.new result (after sources.new.items) (with_source sources.old.items after) }
+{
+    let Some(module) = sources.pop_front() else {
+        return Ok(());
+    };
+    linked.modules.push(module)?;
+    Ok(())
+}
+
+// Adds the module of the object of this word.
+fn add_object(
+    alloc: Global,
+    word: usize,
+    bytes: &Bytes,
+    linked: &mut LinkedFiles,
+) -> Result<(), InputError>
+    requires { length bytes.now ≤ MOST_FILE_BYTES }
+    ensures { (after : Result Linked Error) →
+        Steps linked.old linked.new result after (with_object word bytes.now after) }
+{
+    let parts = object_at(alloc, word, bytes)?;
+    linked.modules.push(parts)?;
+    Ok(())
+}
+
+// Adds the library of this word.
+fn add_library(
+    alloc: Global,
+    word: usize,
+    bytes: &Bytes,
+    linked: &mut LinkedFiles,
+) -> Result<(), InputError>
+    requires { length bytes.now ≤ MOST_FILE_BYTES }
+    ensures { (after : Result Linked Error) →
+        Steps linked.old linked.new result after (with_archive word bytes.now after) }
+{
+    let library = library_at(alloc, word, bytes)?;
+    linked.libraries.push(library)?;
+    Ok(())
+}
+
+// Adds what the file of this word gives.
+fn add_word(
+    alloc: Global,
+    word: usize,
+    name: &FileName,
+    bytes: &Bytes,
+    sources: &mut VecDeque<Module>,
+    linked: &mut LinkedFiles,
+) -> Result<(), InputError>
+    requires { length bytes.now ≤ MOST_FILE_BYTES }
+    ensures { (after : List ModuleParts → Result Linked Error) →
+        Steps linked.old linked.new result (after sources.new.items)
+        (linked_by (ending_of name.now) word bytes.now sources.old.items after) }
+{
+    match ending_of(name.as_str()) {
+        Some(Ending::Source) => add_source(sources, linked),
+        Some(Ending::Object) => add_object(alloc, word, bytes, linked),
+        Some(Ending::Library) => add_library(alloc, word, bytes, linked),
+        _ => Ok(()),
+    }
+}
+
+// The given modules and the libraries, where the sources give these modules.
+pub(crate) fn linked_files(
+    alloc: Global,
+    files: &[FileName],
+    contents: &[Bytes],
+    mut sources: VecDeque<Module>,
+) -> Result<LinkedFiles, InputError>
+    requires count { length contents.now ≡ length files.now }
+    requires within { All (λ bytes. length bytes ≤ MOST_FILE_BYTES) contents.now }
+    ensures { Gives linked refusal_of result (linked_from 0 files.now contents.now sources.items) }
+{
+    let mut linked = LinkedFiles {
+        modules: Vec::new(alloc),
+        libraries: Vec::new(alloc),
+    };
+    for (word, name) in files.iter().enumerate() {
+        add_word(
+            alloc,
+            word,
+            name,
+            &contents[word],
+            &mut sources,
+            &mut linked,
+        )?;
+    }
+    Ok(linked)
+}

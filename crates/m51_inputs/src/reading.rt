@@ -1,0 +1,116 @@
+//! Reads the files of a program.
+ghost use Rattle.std.specs.Prelude.{◌≡◌, ◌≤◌, length, map, is_some, All};
+ghost use Rattle.std.specs.List.{list_all};
+ghost use Rattle.std.specs.Option.{option_copied};
+ghost use Rattle.m51_asm.specs.Answer.{tree_of};
+ghost use Rattle.m51_cells.specs.declared.limits.TheConstants.{MOST_FILE_BYTES};
+ghost use Rattle.m51_cells.specs.Outcome.{Gives};
+ghost use Rattle.m51_control.specs.Controls.{refusal_of as control_refusal};
+ghost use Rattle.m51_script.specs.Reading.{refusal_of as script_refusal};
+ghost use Rattle.m51_inputs.specs.Files.{source_words};
+ghost use Rattle.m51_inputs.specs.Inputs.{IsTold, inputs_of, inputs_tree, refusal_of, controls_in, script_in};
+
+use crate::error::InputError;
+use crate::files::{includes_of, source_words, sources_of};
+use crate::inputs::Inputs;
+use crate::objects::linked_files;
+use crate::sources::{assemble_each, modules_of};
+use m51_asm::Assembled;
+use m51_cells::Bytes;
+use m51_control::{ControlError, Controls, read_controls};
+use m51_script::{Script, ScriptError, read_script};
+use m51_words::FileName;
+use std::alloc::Global;
+
+// The control lines of a file, if there is one.
+fn controls_in(alloc: Global, file: Option<&Bytes>) -> Result<Controls, InputError>
+    ensures { Gives (λ controls. controls) refusal_of result (controls_in (option_copied file.entry)) }
+{
+    let Some(bytes) = file else {
+        return Ok(Controls::none(alloc));
+    };
+    match read_controls(alloc, bytes.as_slice()) {
+        Ok(controls) => Ok(controls),
+        Err(ControlError::Memory) => Err(InputError::Memory),
+        Err(error) => Err(InputError::Control(error)),
+    }
+}
+
+// The script of a file, or the one without lines.
+fn script_in(alloc: Global, file: Option<&Bytes>) -> Result<Script, InputError>
+    ensures { Gives (λ script. script) refusal_of result (script_in (option_copied file.entry)) }
+{
+    let Some(bytes) = file else {
+        return Ok(Script::plain(alloc)?);
+    };
+    match read_script(alloc, bytes.as_slice()) {
+        Ok(script) => Ok(script),
+        Err(ScriptError::Memory) => Err(InputError::Memory),
+        Err(error) => Err(InputError::Script(error)),
+    }
+}
+
+// What is linked and run, where the sources give this.
+#[tactic(auto, unfolding(crate::specs::Inputs::inputs_of))]
+fn inputs_with(
+    alloc: Global,
+    files: &[FileName],
+    contents: &[Bytes],
+    control: Option<&Bytes>,
+    script: Option<&Bytes>,
+    assembled: Vec<Assembled>,
+) -> Result<Inputs, InputError>
+    requires count { length contents.now ≡ length files.now }
+    requires within { All (λ bytes. length bytes ≤ MOST_FILE_BYTES) contents.now }
+    requires each { length (source_words 0 files.now) ≡ length assembled.items }
+    ensures { Gives inputs_tree refusal_of result (inputs_of files.now contents.now (option_copied control.entry)
+        (option_copied script.entry) (map tree_of assembled.items)) }
+{
+    let words = source_words(alloc, files)?;
+    let sources = modules_of(alloc, &words, assembled)?;
+    let linked = linked_files(alloc, files, contents, sources)?;
+    let controls = controls_in(alloc, control)?;
+    let script = script_in(alloc, script)?;
+    Ok(Inputs {
+        modules: linked.modules,
+        libraries: linked.libraries,
+        controls,
+        script,
+    })
+}
+
+/// Reads the files of a program: those of its file arguments, in the order given, of which each has one of the four
+/// endings and at most 1,048,576 bytes; the control file and the script, if there are any. There are at most 65,535
+/// file arguments, and as many contents.
+///
+/// Every source is assembled with all includes, each under its argument. Sources and objects are the given modules, in
+/// word order.
+///
+/// Errors, the first of these:
+///
+/// - `Sources` with the faults of all sources that have some;
+/// - `Object` or `Library` with the first object or library that is refused, in the order given; bytes after its end
+///   are O3;
+/// - `Control` with the refusal of the control file;
+/// - `Script` with the refusal of the script.
+///
+/// `Memory` is the only other error.
+///
+/// Source: own choice ("Inputs").
+pub fn read_inputs(
+    alloc: Global,
+    files: &[FileName],
+    contents: &[Bytes],
+    control: Option<&Bytes>,
+    script: Option<&Bytes>,
+) -> Result<Inputs, InputError>
+    requires count { length contents.now ≡ length files.now }
+    requires few { length files.now ≤ 65535 }
+    requires within { All (λ bytes. length bytes ≤ MOST_FILE_BYTES) contents.now }
+    ensures { IsTold files.now contents.now (option_copied control.entry) (option_copied script.entry) result }
+{
+    let sources = sources_of(alloc, files, contents)?;
+    let includes = includes_of(alloc, files, contents)?;
+    let assembled = assemble_each(alloc, &sources, &includes)?;
+    inputs_with(alloc, files, contents, control, script, assembled)
+}

@@ -1,5 +1,0 @@
-use Rattle.m51_link.specs.Memory.{IsPut}
-use Rattle.m51_link.proofs.memory.put.Given as goal
-
-abbrev pub invariant-loop-index : goal.invariant-loop-index
-invariant-loop-index l = IsPut l.at l.bytes l.index l.initial.memory.items l.memory.items

@@ -1,0 +1,91 @@
+-- A linked program: its image, its runs, its roots, and the rules that come before.
+use Rattle.std.proofs.Common.{◌≡◌, inl, inr, ℕ, ◌+◌, ◌<◌, List, [], ◌∷◌, ◌++◌, length, get_or, Option, Some, None, Result, Ok, sym, ap, subst, ◌∙◌, arith}
+use Rattle.std.specs.Prelude.{is_some, slice_index, slice_index_or, unwrap_or}
+use Rattle.std.specs.List.{All}
+use Rattle.std.specs.Option.{option_or}
+use Rattle.std.proofs.Math.ListN.{get_or-append}
+use Rattle.std.proofs.Math.Seq.{get_or-append_seam}
+use Rattle.m51_cells.proofs.Small.{below_or_last}
+use Rattle.m51_cells.specs.Outcome.{and_then, RefusesWith}
+use Rattle.m51_control.specs.declared.control.Control.{Control}
+use Rattle.m51_module.specs.declared.linked.Refusal.{Refusal}
+use Rattle.m51_module.specs.declared.linked.Run.{Run}
+use Rattle.m51_module.specs.declared.parts.ModuleParts.{ModuleParts}
+use Rattle.m51_graph.specs.declared.parts.GraphParts.{GraphParts}
+use Rattle.m51_graph.specs.Graph.{AreRootBits}
+use Rattle.m51_graph.specs.Graphs.{unless}
+use Rattle.m51_place.specs.declared.placing.Placing.{Placing}
+use Rattle.m51_place.specs.Placement.{placing_of}
+use Rattle.m51_linker.specs.Broken.{broken_rule}
+use Rattle.m51_linker.specs.Image.{content_of, fields_of, IsFilled, IsImage}
+use Rattle.m51_linker.specs.Link.{AreRoots, checked_of, IsInside, placed_of, Program}
+use Rattle.m51_linker.specs.Memory.{AreBytes, AreWritten, IsErasedBut, IsHeldBelow}
+use Rattle.m51_linker.specs.Ready.{MayRefuse}
+use Rattle.m51_linker.specs.Runs.{AreRuns}
+use Rattle.m51_linker.specs.Stretches.{byte_among}
+use Rattle.m51_linker.proofs.RunsGrow.{ends_below, same_runs}
+
+-- one more unit
+pub roots_more : (g : GraphParts) (roots : List ℕ) (unit byte : ℕ) → length roots ≡ unit → ((u : ℕ) → u < unit → AreRootBits g u (slice_index roots u)) → AreRootBits g unit byte
+    → (u : ℕ) → u < unit + 1 → AreRootBits g u (slice_index (roots ++ byte ∷ []) u)
+roots_more g roots unit byte len each last u below = elim (below_or_last u unit below) as (λ _. AreRootBits g u (slice_index (roots ++ byte ∷ []) u)) [
+  | inl less ↦ subst (λ b. AreRootBits g u b) (sym (get_or-append roots (byte ∷ []) 0 u (omega (arith, less, len)))) (each u less)
+  | inr same ↦
+      let at : slice_index (roots ++ byte ∷ []) u ≡ byte =
+      ap (λ n. slice_index (roots ++ byte ∷ []) n) (same ∙ sym len) ∙ get_or-append_seam roots byte [] 0 in
+      subst (λ b. AreRootBits g u b) (sym at) (subst (λ n. AreRootBits g n byte) (sym same) last)
+]
+
+-- all units
+pub roots_whole : (g : GraphParts) (count : ℕ) (roots all : List ℕ) → all ≡ roots → length roots ≡ count → count ≡ length g.units
+    → ((u : ℕ) → u < count → AreRootBits g u (slice_index roots u)) → AreRoots g all
+roots_whole g count roots all is len whole each =
+    subst (λ (xs : List ℕ). AreRoots g xs) (sym is) (record { len = len ∙ whole; each = λ unit below. each unit (omega (arith, below, whole)) })
+
+-- the image of the memory to which the fields are put
+pub image_is : (modules : List ModuleParts) (placing : Placing) (content before after : List (Option ℕ)) (image : List ℕ) → AreBytes (content_of modules placing) content
+    → before ≡ content → AreWritten (fields_of modules placing) before after → IsErasedBut after 65536 image → IsImage modules placing image
+image_is modules placing content before after image bytes same written erased = record {
+  len = erased.len;
+  each = λ address below.
+      erased.each address below
+      ∙ ap (λ (o : Option ℕ). unwrap_or o 0xFF)
+      (written.each address
+      ∙ ap (λ (o : Option ℕ). option_or (byte_among (fields_of modules placing) address) o) (ap (λ (m : List (Option ℕ)). slice_index_or m address None) same ∙ bytes.each address));
+}
+
+-- the runs of the bytes of the content
+pub runs_are : (modules : List ModuleParts) (placing : Placing) (content : List (Option ℕ)) (runs : List Run) → AreBytes (content_of modules placing) content
+    → AreRuns (IsHeldBelow content 65536) runs → AreRuns (IsFilled modules placing) runs
+runs_are modules placing content runs bytes =
+    same_runs (IsHeldBelow content 65536) (IsFilled modules placing) runs
+    (λ address h. record { inside = h.below; filled = ap is_some (sym (bytes.each address)) ∙ h.held })
+    (λ address h. record { below = h.inside; held = ap is_some (bytes.each address) ∙ h.filled })
+
+pub runs_inside : (content : List (Option ℕ)) (runs : List Run) → AreRuns (IsHeldBelow content 65536) runs → All IsInside runs
+runs_inside content runs h k d below = record {
+  some = (h.whole k d below).some;
+  inside = ends_below (IsHeldBelow content 65536) 65536 (λ address held. held.below) (get_or runs k d) (h.whole k d below);
+}
+
+-- what comes first refuses
+pub refuse_first : {A B : Type 0} (refusal : Option Refusal) (first : Result A Refusal) (next : A → Result B Refusal) → RefusesWith refusal first → RefusesWith refusal (and_then first next)
+refuse_first None first next h = tt
+refuse_first (Some refusal) first next h = ap (λ r. and_then r next) h
+
+-- L13 refuses
+unless_refuses : (refusal : Option Refusal) (rule : Option Refusal) (program : Result Program Refusal) → MayRefuse rule refusal → RefusesWith refusal (unless rule program)
+unless_refuses None rule program h = tt
+unless_refuses (Some refusal) rule program h = ap (λ r. unless r program) h
+
+module _ (modules : List ModuleParts) (controls : List (ℕ × Control)) (g : GraphParts) (placing : Placing) (is : placing_of modules controls g ≡ Ok placing) where
+  placed_is : placed_of modules controls g ≡ checked_of modules g placing
+  placed_is = ap (λ r. and_then r (λ (p : Placing). checked_of modules g p)) is
+
+  pub refuse_last : (refusal : Option Refusal) → MayRefuse (broken_rule modules placing) refusal → RefusesWith refusal (placed_of modules controls g)
+  refuse_last refusal h =
+      subst (λ r. RefusesWith refusal r) (sym placed_is)
+      (unless_refuses refusal (broken_rule modules placing) (Ok (record { modules = modules; graph = g; placing = placing })) h)
+
+  pub program_is : broken_rule modules placing ≡ None → placed_of modules controls g ≡ Ok (record { modules = modules; graph = g; placing = placing })
+  program_is none = placed_is ∙ ap (λ r. unless r (Ok (record { modules = modules; graph = g; placing = placing }))) none

@@ -1,0 +1,29 @@
+use Rattle.std.proofs.Common.{◌≡◌, ℕ, ◌+◌, ◌≤◌, List, [], ◌∷◌, length, ap, subst, arith}
+use Rattle.m51_linker.specs.Image.{placed_piece}
+use Rattle.m51_linker.specs.Memory.{AreWritten}
+use Rattle.m51_linker.specs.Targets.{address_of}
+use Rattle.m51_linker.proofs.Rooms.{piece_room}
+use Rattle.m51_linker.proofs.Steps.{piece_written}
+use Rattle.m51_linker.proofs.Written.{put_written}
+use Rattle.m51_linker.proofs.filling.fill_pieces.Goals as goal
+
+pub put-requires : goal.put-requires
+put-requires c =
+    let p = c.piece-item.result in
+    let room : address_of c.args.joined.now c.args.placing.now c.args.module p.segment p.offset + length p.bytes ≤ 65536 =
+    piece_room c.args.joined.now c.args.placing.now c.requires.placed c.args.module c.args.parts.now c.requires.there
+    c.pieces-piece-items.result.now c.pieces-piece-items.ensures.list c.loop-piece.piece-index p c.loop-piece-test.true c.piece-item.is in
+    let count : length c.as_slice.result.now ≡ length p.bytes = ap (λ (xs : List ℕ). length xs) c.as_slice.ensures in
+    omega (arith, room, count, c.address_of-at.ensures, c.loop-piece.invariant.len, c.requires.whole)
+
+pub loop-piece-preserved : goal.loop-piece-preserved
+loop-piece-preserved c =
+    let p = c.piece-item.result in
+    let mid = c.loop-piece.memory.items in
+    let new = c.put.new.memory.items in
+    let put : AreWritten (record { at = c.address_of-at.result; bytes = c.as_slice.result.now } ∷ []) mid new =
+    put_written c.address_of-at.result c.as_slice.result.now mid new c.put.ensures in
+    piece_written (placed_piece c.args.joined.now c.args.placing.now c.args.module) c.pieces-piece-items.result.now c.loop-piece.piece-index p
+    c.args.memory.now.items mid new c.loop-piece-test.true c.piece-item.is c.loop-piece.invariant
+    (subst (λ (at : ℕ). AreWritten (record { at = at; bytes = p.bytes } ∷ []) mid new) c.address_of-at.ensures
+    (subst (λ (bytes : List ℕ). AreWritten (record { at = c.address_of-at.result; bytes = bytes } ∷ []) mid new) c.as_slice.ensures put))

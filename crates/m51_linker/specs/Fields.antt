@@ -1,0 +1,92 @@
+-- What each form of fixup writes: target is the address T to which it refers, place the address P of its field, and
+-- first the byte of content at P. None where the rule of the form fails.
+use Rattle.std.specs.Prelude.{ℕ, ◌+◌, ◌-◌, ◌*◌, ◌/◌, ◌%◌, Bool, ◌&&◌, ◌||◌, nat_eq, nat_le, if◌then◌else◌, List, []}
+use Rattle.std.specs.Prelude.{◌∷◌, Option, Some, None}
+use Rattle.m51_module.specs.declared.content.Form.{Form}
+use Rattle.m51_module.specs.declared.content.Form.TheVariants.{Low, Byte, Relative, High, Word, Inblock, Bit, Conv}
+use Rattle.m51_linker.specs.declared.fields.Field.{Field}
+use Rattle.m51_linker.specs.declared.fields.Field.TheVariants.{One, Two}
+
+-- the bytes of a field
+abbrev pub bytes_of : Field → List ℕ
+bytes_of (One byte) = byte ∷ []
+bytes_of (Two first second) = first ∷ second ∷ []
+
+abbrev pub low_of : ℕ → ℕ
+low_of address = address % 256
+
+abbrev pub high_of : ℕ → ℕ
+high_of address = address / 256
+
+-- the byte, where the rule is met
+abbrev pub one_if : Bool → ℕ → Option Field
+one_if met byte = if met then Some (One byte) else None
+
+-- LOW and HIGH: the low or the high byte of T
+abbrev pub low_field : ℕ → Option Field
+low_field target = Some (One (low_of target))
+
+abbrev pub high_field : ℕ → Option Field
+high_field target = Some (One (high_of target))
+
+-- BYTE: T is at most 00FFH or at least FF00H; its low byte
+abbrev pub is_byte : ℕ → Bool
+is_byte target = nat_le target 0xFF || nat_le 0xFF00 target
+
+abbrev pub byte_field : ℕ → Option Field
+byte_field target = one_if (is_byte target) (low_of target)
+
+-- WORD: T, the high byte first
+abbrev pub word_field : ℕ → Option Field
+word_field target = Some (Two (high_of target) (low_of target))
+
+-- RELATIVE: T minus P + 1, modulo 65,536, is a signed number from -128 to 127, that is 0000H to 007FH or FF80H to FFFFH
+abbrev pub distance : ℕ → ℕ → ℕ
+distance target place = (target + 65536 - (place + 1) % 65536) % 65536
+
+abbrev pub is_near : ℕ → Bool
+is_near far = nat_le far 0x7F || nat_le 0xFF80 far
+
+abbrev pub relative_field : ℕ → ℕ → Option Field
+relative_field target place = one_if (is_near (distance target place)) (low_of (distance target place))
+
+-- INBLOCK: T and P + 2, modulo 65,536, agree in the upper five bits; bits 10 to 8 of T go to the top of the first byte,
+-- whose low five bits stay, and the low byte follows
+abbrev pub in_one_block : ℕ → ℕ → Bool
+in_one_block target place = nat_eq (target / 2048) ((place + 2) % 65536 / 2048)
+
+abbrev pub block_field : ℕ → ℕ → Field
+block_field target first = Two (high_of target % 8 * 32 + first % 32) (low_of target)
+
+abbrev pub inblock_field : ℕ → ℕ → ℕ → Option Field
+inblock_field target place first = if in_one_block target place then Some (block_field target first) else None
+
+-- BIT: T is at most 00FFH
+abbrev pub bit_field : ℕ → Option Field
+bit_field target = one_if (nat_le target 0xFF) (low_of target)
+
+-- CONV: T is a byte from 20H to 2FH, whose bits have the addresses from 8 * (T - 20H) on, or a byte from 80H to FFH
+-- that is a multiple of 8, whose bits have the addresses from T on
+abbrev pub is_low_bits : ℕ → Bool
+is_low_bits target = nat_le 0x20 target && nat_le target 0x2F
+
+abbrev pub is_high_bits : ℕ → Bool
+is_high_bits target = (nat_le 0x80 target && nat_le target 0xFF) && nat_eq (target % 8) 0
+
+abbrev pub high_bits_field : ℕ → ℕ → Option Field
+high_bits_field target bit = one_if (is_high_bits target) (target + bit)
+
+abbrev pub conv_field : ℕ → ℕ → Option Field
+conv_field target bit =
+    if is_low_bits target then Some (One (8 * (target - 0x20) + bit)) else high_bits_field target bit
+
+-- The field of a fixup of that form and bit.
+abbrev pub field_of : Form → ℕ → ℕ → ℕ → ℕ → Option Field
+field_of Low bit target place first = low_field target
+field_of Byte bit target place first = byte_field target
+field_of Relative bit target place first = relative_field target place
+field_of High bit target place first = high_field target
+field_of Word bit target place first = word_field target
+field_of Inblock bit target place first = inblock_field target place first
+field_of Bit bit target place first = bit_field target
+field_of Conv bit target place first = conv_field target bit

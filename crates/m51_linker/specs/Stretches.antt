@@ -1,0 +1,24 @@
+-- Bytes in a row in program memory.
+use Rattle.std.specs.Prelude.{ℕ, ◌-◌, nat_le, if◌then◌else◌, List, [], ◌∷◌, slice_get, Option, None}
+use Rattle.std.specs.Option.{option_or}
+use Rattle.m51_linker.specs.declared.fields.Field.{Field}
+use Rattle.m51_linker.specs.Fields.{bytes_of}
+
+-- bytes in a row, from an address on
+pub record Stretch : Type 0 where
+  pub at : ℕ
+  pub bytes : List ℕ
+
+-- the byte of the stretch for the address
+abbrev pub byte_in : Stretch → ℕ → Option ℕ
+byte_in s address = if nat_le s.at address then slice_get s.bytes (address - s.at) else None
+
+-- The byte of these stretches for the address. In a sound layout at most one of them has one; else the last would
+-- count.
+abbrev pub byte_among : List Stretch → ℕ → Option ℕ
+byte_among [] address = None
+byte_among (s ∷ more) address = option_or (byte_among more address) (byte_in s address)
+
+-- the bytes of a field at the address
+abbrev pub stretch_at : ℕ → Field → Stretch
+stretch_at address field = record { at = address; bytes = bytes_of field }

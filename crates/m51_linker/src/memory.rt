@@ -1,0 +1,68 @@
+//! The bytes of program memory while they are put there: each may be there or not.
+ghost use Rattle.std.specs.Prelude.{◌≡◌, ◌+◌, ◌≤◌, ℕ, [], ◌∷◌, IfOk, None, length, slice_index_or, unwrap_or, vec_len};
+ghost use Rattle.m51_linker.specs.Fields.{bytes_of};
+ghost use Rattle.m51_linker.specs.Stretches.{stretch_at};
+ghost use Rattle.m51_linker.specs.Memory.{AreBytes, AreWritten, IsErasedBut, IsPut};
+
+use crate::Field;
+use m51_cells::NoMemory;
+use m51_module::{IMAGE_LEN, Image};
+use std::alloc::{AllocError, Global};
+
+// So many bytes, none of them there.
+fn nothing(alloc: Global, count: usize) -> Result<Vec<Option<u8>>, AllocError>
+    ensures len { IfOk result (λ memory. vec_len memory ≡ count) }
+    ensures none { IfOk result (λ memory. (address : ℕ) → slice_index_or memory.items address None ≡ None) }
+{
+    vec![in alloc; None; count]
+}
+
+// Program memory with no byte in it.
+pub(crate) fn empty_memory(alloc: Global) -> Result<Vec<Option<u8>>, NoMemory>
+    ensures { IfOk result (λ memory. AreBytes [] memory.items) }
+{
+    Ok(nothing(alloc, IMAGE_LEN)?)
+}
+
+// Puts the bytes from the address on.
+pub(crate) fn put(memory: &mut Vec<Option<u8>>, at: usize, bytes: &[u8])
+    requires { at + length bytes.now ≤ vec_len memory.old }
+    ensures { IsPut at bytes.now (length bytes.now) memory.old.items memory.new.items }
+{
+    for (index, byte) in bytes.iter().enumerate() {
+        memory[at + index] = Some(*byte);
+    }
+}
+
+// Puts the bytes of a field at the address.
+pub(crate) fn put_field(memory: &mut Vec<Option<u8>>, at: usize, field: Field)
+    requires { at + length (bytes_of field) ≤ vec_len memory.old }
+    ensures { AreWritten (stretch_at at field ∷ []) memory.old.items memory.new.items }
+{
+    match field {
+        Field::One(byte) => put(memory, at, &[byte]),
+        Field::Two(first, second) => put(memory, at, &[first, second]),
+    }
+}
+
+// The byte at the address, FFH where none is there.
+pub(crate) fn byte_or_erased(memory: &[Option<u8>], address: usize) -> u8
+    ensures { result ≡ unwrap_or (slice_index_or memory.now address None) 0xFF }
+{
+    match memory.get(address) {
+        Some(Some(byte)) => *byte,
+        _ => 0xFF,
+    }
+}
+
+// The image of the memory: FFH where no byte is there.
+pub(crate) fn image_of(alloc: Global, memory: &[Option<u8>]) -> Result<Image, NoMemory>
+    requires { length memory.now ≡ IMAGE_LEN }
+    ensures { IfOk result (λ image. IsErasedBut memory.now IMAGE_LEN image) }
+{
+    let mut image = Image::blank(alloc)?;
+    for (address, byte) in memory.iter().enumerate() {
+        image.set(address as u16, byte.unwrap_or(0xFF));
+    }
+    Ok(image)
+}

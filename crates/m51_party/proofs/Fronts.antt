@@ -1,0 +1,47 @@
+-- What is written, one piece after another, where the last write may have failed.
+use Rattle.std.proofs.Common.{◌≡◌, ℕ, ◌+◌, ◌≤◌, ◌<◌, List, [], ◌∷◌, ◌++◌, Option, Some, Result, Ok, Err, ap, ◌∙◌, arith, append-nil}
+use Rattle.std.specs.Prelude.{OnErr, codes}
+use Rattle.std.specs.Io.KnownBytes.{Appends}
+use Rattle.std.proofs.lemmas.Fmt.{decimal_digit}
+use Rattle.m51_cells.proofs.Fronts.{front_at_end}
+use Rattle.m51_cells.specs.Outside.{AppendsFront}
+use Rattle.m51_cells.specs.declared.event.Entry.{Entry}
+use Rattle.m51_print.specs.Lines.{entry_line}
+use Rattle.m51_sim.specs.Writing.{StopsWithin}
+use Rattle.m51_party.specs.Seats.{entry_text}
+use Rattle.m51_party.specs.Steps.{head_text}
+use Rattle.m51_party.specs.Text.{front_of}
+
+pub front_of_stop : (a b : Option (List ℕ)) (xs : List ℕ) → StopsWithin a b xs → AppendsFront a b xs
+front_of_stop a b xs q = (q.0, omega (arith, q.1), q.2)
+
+-- the same of what a call answers
+pub stop_front : {T E : Type 0} (r : Result T E) (a b : Option (List ℕ)) (xs : List ℕ) → OnErr r (StopsWithin a b xs) → OnErr r (AppendsFront a b xs)
+stop_front (Ok x) a b xs q = tt
+stop_front (Err e) a b xs q = front_of_stop a b xs q
+
+pub front_then : {T E : Type 0} (r : Result T E) (a b c : Option (List ℕ)) (xs ys : List ℕ) → Appends a b xs → OnErr r (AppendsFront b c ys) → OnErr r (AppendsFront a c (xs ++ ys))
+front_then (Ok x) a b c xs ys p q = tt
+front_then (Err e) a b c xs ys p q = front_at_end a b c xs ys p q
+
+pub stop_then : {T E : Type 0} (r : Result T E) (a b c : Option (List ℕ)) (xs ys : List ℕ) → Appends a b xs → OnErr r (StopsWithin b c ys) → OnErr r (AppendsFront a c (xs ++ ys))
+stop_then r a b c xs ys p q = front_then r a b c xs ys p (stop_front r b c ys q)
+
+-- what holds at an error
+pub at_error : {T E : Type 0} (r : Result T E) (P : Type 0) → P → OnErr r P
+at_error (Ok x) P p = tt
+at_error (Err e) P p = p
+
+-- a number of one digit
+pub front_digit : (index : ℕ) → index < 8 → front_of index ≡ (49 + index) ∷ 58 ∷ 32 ∷ []
+front_digit index below =
+    let same : 48 + (index + 1) ≡ 49 + index = omega arith in
+    ap (λ (ds : List ℕ). ds ++ codes ": ") (decimal_digit (index + 1) (omega (arith, below)))
+    ∙ ap (λ (d : ℕ). d ∷ 58 ∷ 32 ∷ []) same
+
+pub head_digit : (count : ℕ) → count ≤ 8 → head_text count ≡ 80 ∷ 65 ∷ 82 ∷ 84 ∷ 89 ∷ 32 ∷ (48 + count) ∷ 10 ∷ []
+head_digit count few = ap (λ (ds : List ℕ). codes "PARTY " ++ ds ++ codes "\n") (decimal_digit count (omega (arith, few)))
+
+-- the line of an entry that is there
+pub one_entry : (index : ℕ) (entry : Option Entry) (e : Entry) → entry ≡ Some e → entry_text index entry ≡ front_of index ++ entry_line e
+one_entry index entry e is = ap (entry_text index) is ∙ append-nil (front_of index ++ entry_line e)

@@ -1,0 +1,18 @@
+mod Words
+mod Frames
+mod Ticks
+mod Alike
+mod One
+mod Steps
+pub mod Merging
+pub mod Within
+pub mod Spacing
+pub mod NextBoard
+pub mod UnderWay
+pub mod Close
+pub mod OnTheLine
+pub mod Runs
+pub mod Ends
+pub mod Fronts
+pub mod Ending
+pub mod Progress

@@ -1,0 +1,64 @@
+-- A step with frames that are the same in its cycles.
+use Rattle.std.proofs.Common.{◌≡◌, ℕ, zero, suc, ◌+◌, ◌≤◌, ◌<◌, List, ◌++◌, Result, Ok, Err, refl, ap, ◌∙◌, arith}
+use Rattle.std.specs.Prelude.{min}
+use Rattle.m51_cells.specs.declared.event.Event.{Event}
+use Rattle.m51_module.specs.declared.parts.LayoutParts.{LayoutParts}
+use Rattle.m51_timers_uart.specs.declared.receiving.Frame.{Frame}
+use Rattle.m51_timers_uart.specs.Tick.{ticked}
+use Rattle.m51_sim.specs.declared.cycles.Timed.{Timed}
+use Rattle.m51_sim.specs.Cycles.{Inputs, after_tick, cycle_passed, cycles_passed, frames_in, next_cycle, with_extra}
+use Rattle.m51_sim.specs.Effects.{attempt_of, changed_by, passed_into, port_entry}
+use Rattle.m51_sim.specs.Runs.{State}
+use Rattle.m51_sim.specs.SeparateMachine.{Separate, memory_after, separate_effect, separate_machine, separate_performs}
+use Rattle.m51_party.proofs.Words.{Allowed, Passing}
+use Rattle.m51_party.proofs.Ticks.{tick_counts, top}
+
+-- the number of the cycle grows by one in each, up to its last value
+pub ticks_count : (inputs : Inputs) (count : ℕ) (p : Passing) → p.cycle ≤ top → (cycles_passed inputs count p).cycle ≡ min (p.cycle + count) top
+unfolding cycles_passed
+ticks_count inputs zero p h = omega (arith, h)
+ticks_count inputs (suc count) p h =
+    let is = tick_counts inputs (cycles_passed inputs count p) in
+    let before = ticks_count inputs count p h in
+    omega (arith, is, before, h)
+
+-- frames that are the same in the cycles after one, up to another
+abbrev pub SameWithin : ℕ → ℕ → List Timed → List Timed → Type 0
+SameWithin first last xs ys = (cycle : ℕ) → first < cycle → cycle ≤ last → frames_in cycle xs ≡ frames_in cycle ys
+
+-- at most four cycles pass
+abbrev pub TakesFew : Result Allowed Event → Type 0
+TakesFew (Ok a) = a.effect.cycles ≤ 4
+TakesFew (Err event) = Unit {0}
+
+module _ (inputs : Inputs) (xs ys : List Timed) where
+  tick_within : (p : Passing) → frames_in (next_cycle p.cycle) xs ≡ frames_in (next_cycle p.cycle) ys
+      → cycle_passed (with_extra xs inputs) p ≡ cycle_passed (with_extra ys inputs) p
+  unfolding cycle_passed
+  tick_within p same =
+      let cycle = next_cycle p.cycle in
+      ap (λ (fs : List Frame). after_tick cycle p.sent (ticked p.cpu (inputs.pins cycle) (inputs.frames cycle ++ fs) p.periph)) same
+
+  ticks_within : (last count : ℕ) (p : Passing) → p.cycle + count ≤ last → last < top → SameWithin p.cycle last xs ys
+      → cycles_passed (with_extra xs inputs) count p ≡ cycles_passed (with_extra ys inputs) count p
+  unfolding cycles_passed
+  ticks_within last zero p h k same = refl
+  ticks_within last (suc count) p h k same =
+      let q = cycles_passed (with_extra xs inputs) count p in
+      let is : q.cycle ≡ min (p.cycle + count) top = ticks_count (with_extra xs inputs) count p (omega (arith, h, k)) in
+      tick_within q (same (next_cycle q.cycle) (omega (arith, is, h, k)) (omega (arith, is, h, k)))
+      ∙ ap (cycle_passed (with_extra ys inputs)) (ticks_within last count p (omega (arith, h)) k same)
+
+  module _ (l : LayoutParts) (image : List ℕ) where
+    performs_within : (s : State Separate) (r : Result Allowed Event) → TakesFew r → s.cycle + 4 < top → SameWithin s.cycle (s.cycle + 4) xs ys
+        → separate_performs l (with_extra xs inputs) s r ≡ separate_performs l (with_extra ys inputs) s r
+    performs_within s (Err event) short h same = refl
+    performs_within s (Ok a) short h same =
+        ap (λ (p : Passing). Ok (passed_into (memory_after l s.memory a) (port_entry s.cycle a.effect) p))
+        (ticks_within (s.cycle + 4) a.effect.cycles (changed_by s.cycle s.periph a.effect) (omega (arith, short)) h same)
+
+    pub step_within : (s : State Separate) → TakesFew (separate_effect l image s.cpu s.memory (inputs.pins s.cycle) (attempt_of image s.cpu))
+        → s.cycle + 4 < top → SameWithin s.cycle (s.cycle + 4) xs ys
+        → separate_machine l image (with_extra xs inputs) s ≡ separate_machine l image (with_extra ys inputs) s
+    step_within s short h same =
+        performs_within s (separate_effect l image s.cpu s.memory (inputs.pins s.cycle) (attempt_of image s.cpu)) short h same

@@ -1,0 +1,25 @@
+-- Types of values that the boards hand on, by what takes or gives them.
+use Rattle.m51_sim.specs.Effects.{changed_by}
+use Rattle.m51_sim.specs.Runs.{entries_of}
+use Rattle.m51_sim.specs.SeparateMachine.{memory_after}
+
+abbrev argument_of : {A B : Type 0} → (A → B) → Type 0
+argument_of {A} {B} f = A
+
+abbrev third_of : {A B C D : Type 0} → (A → B → C → D) → Type 0
+third_of {A} {B} {C} {D} f = C
+
+abbrev given_by : {A B C D : Type 0} → (A → B → C → D) → Type 0
+given_by {A} {B} {C} {D} f = D
+
+-- what passes between two cycles of a step
+abbrev pub Passing : Type 0
+Passing = given_by changed_by
+
+-- what a step tells
+abbrev pub Entries : Type 0
+Entries = argument_of entries_of
+
+-- an effect that is allowed
+abbrev pub Allowed : Type 0
+Allowed = third_of memory_after

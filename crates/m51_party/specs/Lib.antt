@@ -1,0 +1,6 @@
+pub mod Family
+pub mod Text
+pub mod Laws
+pub mod Seats
+pub mod Report
+pub mod Steps

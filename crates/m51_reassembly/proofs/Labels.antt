@@ -1,0 +1,115 @@
+-- The labels of a disassembly are names that a statement may define.
+use Rattle.std.proofs.Common.{◌≡◌, ◌≢◌, ℕ, ◌/◌, ◌%◌, ◌<◌, ◌&&◌, nat_eq, cond, Bool, true, false, List, [], ◌∷◌, length, Some, None, refl, ap, ◌∙◌, arith}
+use Rattle.std.specs.Prelude.{codes}
+use Rattle.std.specs.Char.{to_ascii_uppercase}
+use Rattle.std.specs.Fmt.{digit_glyph}
+use Rattle.std.specs.Str.{bytes_eq}
+use Rattle.std.proofs.lemmas.Grind.{common_steps}
+use Rattle.std.proofs.lemmas.Slice.Eq.{bytes_eq-Decides}
+use Rattle.m51_cells.specs.Name as cells
+use Rattle.m51_cells.specs.Name.{name_of}
+use Rattle.m51_expr.specs.declared.symbol.Symbol.TheVariants as symbols
+use Rattle.m51_expr.specs.Symbol.{operator_of, word_symbol, operator_or_word}
+use Rattle.m51_expr.specs.Words.{is_language_word, is_reserved}
+use Rattle.m51_stmt.proofs.PrintedTrees.{IsLeafName}
+use Rattle.m51_stmt.proofs.PrintedExterns.{IsFree}
+use Rattle.m51_disasm.specs.Texts.{label_text}
+
+-- a hexadecimal digit in upper case
+record IsGlyph (c : ℕ) : Type 0 where
+  name : cells.is_name_byte c ≡ true
+  upper : to_ascii_uppercase c ≡ c
+  letter : nat_eq 0x4C c ≡ false
+
+glyph : (d : ℕ) → d < 16 → IsGlyph (digit_glyph true d)
+glyph d h = record { name = grind (arith, common_steps, h); upper = grind (arith, common_steps, h); letter = grind (arith, common_steps, h) }
+
+decided : (b : Bool) → ((b ≡ true) → ⊥) → b ≡ false
+decided true h = absurd (h refl)
+decided false h = refl
+
+other_length : (xs ys : List ℕ) → length xs ≢ length ys → bytes_eq xs ys ≡ false
+other_length xs ys other = decided (bytes_eq xs ys) (λ same. other (ap length ((bytes_eq-Decides xs ys).0 same)))
+
+fourth_differs : (a b c d : Bool) → c ≡ false → (true && (a && (b && (c && d)))) ≡ false
+fourth_differs false b c d h = refl
+fourth_differs true false c d h = refl
+fourth_differs true true c d h = ap (λ x. x && d) h
+
+module _ (p q r s : ℕ) (a : IsGlyph p) (b : IsGlyph q) (c : IsGlyph r) (d : IsGlyph s) where
+  abbrev label : List ℕ
+  label = 0x4C ∷ p ∷ q ∷ r ∷ s ∷ []
+
+  written : name_of label ≡ Some label
+  written = rw a.name (rw b.name (rw c.name (rw d.name (rw a.upper (rw b.upper (rw c.upper (rw d.upper refl)))))))
+
+  -- LCALL is the only word of five letters that begins with L, and its fourth letter is no digit
+  no_lcall : bytes_eq (codes "LCALL") label ≡ false
+  no_lcall = fourth_differs (nat_eq 0x43 p) (nat_eq 0x41 q) (nat_eq 0x4C r) (nat_eq 0x4C s && true) c.letter
+
+  no_ljmp : bytes_eq (codes "LJMP") label ≡ false
+  no_ljmp = other_length (codes "LJMP") label (omega arith)
+
+  no_low : bytes_eq (codes "LOW") label ≡ false
+  no_low = other_length (codes "LOW") label (omega arith)
+
+  no_lt : bytes_eq (codes "LT") label ≡ false
+  no_lt = other_length (codes "LT") label (omega arith)
+
+  no_le : bytes_eq (codes "LE") label ≡ false
+  no_le = other_length (codes "LE") label (omega arith)
+
+  no_low_before : bytes_eq label (codes "LOW") ≡ false
+  no_low_before = other_length label (codes "LOW") (omega arith)
+
+  no_lt_before : bytes_eq label (codes "LT") ≡ false
+  no_lt_before = other_length label (codes "LT") (omega arith)
+
+  no_le_before : bytes_eq label (codes "LE") ≡ false
+  no_le_before = other_length label (codes "LE") (omega arith)
+
+  no_word : is_language_word label ≡ false
+  unfolding is_language_word
+  no_word = rw no_lcall (rw no_ljmp refl)
+
+  no_operator : operator_of label ≡ None
+  unfolding operator_of
+  no_operator = rw no_low_before (rw no_lt_before (rw no_le_before refl))
+
+  free : is_reserved label ≡ false
+  unfolding is_reserved
+  free = rw no_word (rw no_low (rw no_lt (rw no_le refl)))
+
+  leaf : word_symbol label ≡ symbols.Name label
+  leaf = ap (operator_or_word label) no_operator ∙ ap (λ b. cond b (symbols.Word label) (symbols.Name label)) no_word
+
+  leaf_name : IsLeafName label
+  leaf_name = record { written = written; leaf = leaf }
+
+  free_name : IsFree label
+  free_name = record { leaf = leaf_name; free = free }
+
+module _ (address : ℕ) (h : address < 65536) where
+  first : IsGlyph (digit_glyph true (address / 256 / 16))
+  first = glyph (address / 256 / 16) (omega (arith, h))
+
+  second : IsGlyph (digit_glyph true (address / 256 % 16))
+  second = glyph (address / 256 % 16) (omega arith)
+
+  third : IsGlyph (digit_glyph true (address % 256 / 16))
+  third = glyph (address % 256 / 16) (omega arith)
+
+  fourth : IsGlyph (digit_glyph true (address % 256 % 16))
+  fourth = glyph (address % 256 % 16) (omega arith)
+
+  -- the name of a label is written so
+  pub label_written : name_of (label_text address) ≡ Some (label_text address)
+  label_written = written _ _ _ _ first second third fourth
+
+  -- an expression may have it
+  pub label_is_leaf : IsLeafName (label_text address)
+  label_is_leaf = leaf_name _ _ _ _ first second third fourth
+
+  -- a statement may define it
+  pub label_is_free : IsFree (label_text address)
+  label_is_free = free_name _ _ _ _ first second third fourth

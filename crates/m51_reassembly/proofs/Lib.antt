@@ -1,0 +1,15 @@
+pub mod CutLines
+pub mod StandingWords
+pub mod Labels
+pub mod OperandsCut
+pub mod InstructionsCut
+pub mod StatementsRead
+pub mod RowsDecoded
+pub mod RowRoom
+pub mod SoundLines
+pub mod LineLengths
+pub mod TextRead
+pub mod DisassemblyRead
+pub mod CodeSizes
+pub mod LinesStand
+pub mod StatementsStand

@@ -1,0 +1,81 @@
+-- The lines of a disassembly are short.
+use Rattle.std.proofs.Common.{ℕ, ◌≤◌, List, ◌++◌, length, length-append, Option, Some, None, arith}
+use Rattle.std.specs.Prelude.{codes}
+use Rattle.m51_isa.specs.declared.instr.Instr.{Instr}
+use Rattle.m51_isa.specs.declared.instr.Instr.TheVariants.{Nop}
+use Rattle.m51_isa.specs.declared.slot.Field.{Field}
+use Rattle.m51_isa.specs.declared.slot.Field.TheVariants as field
+use Rattle.m51_isa.specs.declared.slot.Slot.{Slot}
+use Rattle.m51_isa.specs.declared.slot.Slot.TheVariants.{Nothing, Imm, Plain}
+use Rattle.m51_isa.specs.Spelling.{text_of}
+use Rattle.m51_disasm.specs.declared.line.Line.{Line}
+use Rattle.m51_disasm.specs.declared.line.Line.TheVariants as line
+use Rattle.m51_disasm.specs.declared.line.Target.{Target}
+use Rattle.m51_disasm.specs.declared.line.Target.TheVariants as target
+use Rattle.m51_disasm.specs.declared.statement.Content.{Content}
+use Rattle.m51_disasm.specs.declared.statement.Content.TheVariants as content
+use Rattle.m51_disasm.specs.Texts.{target_text, data_text, plain_text, operand_text, after, spelled, content_text, label_front, statement_text, line_text}
+
+target_few : (t : Target) → length (target_text t) ≤ 6
+unfolding target_text
+target_few target.Nowhere = omega arith
+target_few (target.Label address) = omega arith
+target_few (target.Number address) = omega arith
+
+data_few : (f : Field) (n : ℕ) → length (data_text f n) ≤ 6
+unfolding data_text
+data_few field.Data16 n = omega arith
+data_few f n = omega arith
+
+plain_few : (t : Target) (f : Field) (n : ℕ) → length (plain_text t f n) ≤ 6
+unfolding plain_text
+plain_few t field.Direct n = omega arith
+plain_few t field.Bit n = omega arith
+plain_few t f n = target_few t
+
+operand_few : (t : Target) (s : Slot) → length (operand_text t s) ≤ 7
+unfolding operand_text
+operand_few t (Imm f) = let few = data_few f.field f.number in omega (arith, few)
+operand_few t (Plain f) = let few = plain_few t f.field f.number in omega (arith, few)
+operand_few t s = omega arith
+
+after_few : (sign : List ℕ) (t : Target) (s : Slot) → length sign ≤ 1 → length (after sign t s) ≤ 8
+unfolding after
+after_few sign t Nothing h = omega arith
+after_few sign t s h = let few = operand_few t s in let e = length-append sign (operand_text t s) in omega (arith, few, e, h)
+
+mnemonic_few : (i : Instr) → length (text_of i).mnemonic ≤ 5
+mnemonic_few Nop = omega arith
+mnemonic_few i = omega arith
+
+joined_few : (m a b c : List ℕ) → length m ≤ 5 → length a ≤ 8 → length b ≤ 8 → length c ≤ 8 → length (((m ++ a) ++ b) ++ c) ≤ 29
+joined_few m a b c h k l n =
+    let one = length-append ((m ++ a) ++ b) c in
+    let two = length-append (m ++ a) b in
+    let three = length-append m a in
+    omega (arith, one, two, three, h, k, l, n)
+
+content_few : (t : Target) (c : Content) → length (content_text t c) ≤ 29
+unfolding content_text spelled
+content_few t (content.Byte byte) = omega arith
+content_few t (content.Code i) =
+    joined_few (text_of i).mnemonic (after (codes " ") t (text_of i).first) (after (codes ",") t (text_of i).second) (after (codes ",") t (text_of i).third)
+    (mnemonic_few i) (after_few (codes " ") t (text_of i).first (omega arith)) (after_few (codes ",") t (text_of i).second (omega arith))
+    (after_few (codes ",") t (text_of i).third (omega arith))
+
+label_few : (label : Option ℕ) → length (label_front label) ≤ 7
+unfolding label_front
+label_few None = omega arith
+label_few (Some address) = omega arith
+
+-- so no line has more bytes than one may have
+pub line_few : (l : Line) → length (line_text l) ≤ 255
+unfolding line_text statement_text
+line_few line.Nomod51 = omega arith
+line_few (line.Segment base) = omega arith
+line_few (line.Statement s) =
+    let e = length-append (label_front s.label) (content_text s.target s.content) in
+    let label = label_few s.label in
+    let content = content_few s.target s.content in
+    omega (arith, e, label, content)
+line_few line.End = omega arith

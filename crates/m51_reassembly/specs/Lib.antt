@@ -1,0 +1,4 @@
+pub mod Meaning
+pub mod Sound
+pub mod Laws
+pub mod Places

@@ -1,0 +1,60 @@
+-- A board after a reset.
+use Rattle.std.proofs.Common.{◌≡◌, ℕ, List, [], Option, Some, None, refl, ap, subst}
+use Rattle.m51_module.specs.declared.parts.LayoutParts.{LayoutParts}
+use Rattle.m51_module.specs.Plan.{IsUnitAt}
+use Rattle.m51_module.specs.Sound.{IsSound}
+use Rattle.m51_module.proofs.Units.{one_unit}
+use Rattle.m51_flat.specs.declared.state.Cpu.{Cpu}
+use Rattle.m51_flat.specs.Reset.{reset_cpu}
+use Rattle.m51_timers_uart.specs.Tick.{reset_periph}
+use Rattle.m51_script.specs.declared.script.Script.{Script}
+use Rattle.m51_monitor.specs.Found.{unit_found}
+use Rattle.m51_monitor.specs.Monitored.{AreActivations, IsStart, Monitored}
+use Rattle.m51_monitor.specs.Transfers.{IsFoundAt}
+use Rattle.m51_monitor.proofs.CurrentUnit.{root_covers}
+use Rattle.m51_monitor.proofs.Finding.{unit_found_is}
+use Rattle.m51_sim.specs.Boards.{ChipState, IsInOrder, IsStarted, memory_of, stores_read}
+use Rattle.m51_sim.specs.Cycles.{inputs_of}
+use Rattle.m51_sim.specs.FlatMachine.{reset_with}
+use Rattle.m51_sim.specs.SeparateMachine.{Separate, or_zero, reset_unit, separate_start}
+use Rattle.m51_sim.proofs.StoresRead.{read_same}
+
+unit_is : (l : LayoutParts) (u : ℕ) (o : Option ℕ) → IsSound l → IsUnitAt l 0 u → IsFoundAt l 0 o → u ≡ or_zero o
+unit_is l u (Some v) sound at found = one_unit l sound 0 u v at found
+unit_is l u None sound at found = absurd (found u at)
+
+-- what a chip has after a reset
+abbrev pub chip_at_reset : List ℕ → Script → ChipState
+chip_at_reset image script = record { image = image; script = script; cpu = reset_cpu; periph = reset_periph ((inputs_of script).pins 0); cycle = 0 }
+
+module _ (l : LayoutParts) (fill : ℕ) (m : Monitored) (sound : IsSound m.layout) (may : AreActivations m.layout m.records) (start : IsStart l fill m) where
+  is_sound : IsSound l
+  is_sound = subst IsSound start.layout sound
+
+  root_at : IsUnitAt l 0 start.root
+  root_at = root_covers l 0 start.root is_sound start.is_root
+
+  root_is : start.root ≡ reset_unit l
+  root_is = unit_is l start.root (unit_found l 0) is_sound root_at (unit_found_is l 0)
+
+  pub start_order : (cpu : Cpu) → cpu ≡ reset_cpu → IsInOrder m cpu
+  start_order cpu is = rw is (record {
+    covered = rw (start.layout, start.records) root_at;
+    above = rw start.records tt;
+    taken = [];
+    have = rw start.records (record { each = refl; same = refl });
+  })
+
+  start_stores : stores_read m ≡ (separate_start l fill).stores
+  start_stores = read_same m sound may _ start.stores
+
+  pub start_memory : memory_of m ≡ separate_start l fill
+  start_memory = rw (start_stores, start.records, root_is) refl
+
+  pub is_started : (image : List ℕ) (script : Script) (chip : ChipState) → script.fill ≡ fill → chip ≡ chip_at_reset image script → IsStarted l image script (record { chip = chip; monitor = m })
+  is_started image script chip fills is = rw (is, fills) (record {
+    layout_is = start.layout;
+    image_is = refl;
+    script_is = refl;
+    state = ap (λ (s : Separate). reset_with (inputs_of script) s) start_memory;
+  })

@@ -1,0 +1,9 @@
+use Rattle.std.proofs.Common.{◌≡◌, length, take}
+use Rattle.m51_sim.specs.Cycles.{frames_in}
+use Rattle.m51_sim.proofs.cycles.batch_at.Given as goal
+
+abbrev pub invariant-loop-timed : goal.invariant-loop-timed
+invariant-loop-timed l = record {
+  frames : take l.batch.count l.batch.frames ≡ frames_in l.cycle (take l.timed-index l.extra);
+  count : l.batch.count ≡ length (frames_in l.cycle (take l.timed-index l.extra));
+}

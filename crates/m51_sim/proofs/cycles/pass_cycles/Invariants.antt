@@ -1,0 +1,6 @@
+use Rattle.std.proofs.Common.{◌≡◌}
+use Rattle.m51_sim.specs.Cycles.{cycles_passed, inputs_of, with_extra}
+use Rattle.m51_sim.proofs.cycles.pass_cycles.Given as goal
+
+abbrev pub invariant-loop : goal.invariant-loop
+invariant-loop l = l.passing ≡ cycles_passed (with_extra l.extra (inputs_of l.script)) l.counter l.fn.passing

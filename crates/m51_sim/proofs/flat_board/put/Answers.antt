@@ -1,0 +1,10 @@
+use Rattle.std.proofs.Common.{sym}
+use Rattle.m51_flat.proofs.Flat.{none_shut}
+use Rattle.m51_sim.proofs.Values.{put_map}
+use Rattle.m51_sim.proofs.flat_board.put.Goals as goal
+
+pub put-requires : goal.put-requires
+put-requires c = sym (none_shut c.args.put.now)
+
+pub returns : goal.returns
+returns c = put_map c.args.put.now c.args.memory.now c.put.new.self c.put.ensures.cells

@@ -1,0 +1,16 @@
+use Rattle.std.proofs.Common.{◌≡◌, refl}
+use Rattle.m51_monitor.specs.Stores.{Stores}
+use Rattle.m51_monitor.specs.Monitored.{stores_after}
+use Rattle.m51_monitor.specs.Transfers.{moved}
+use Rattle.m51_sim.specs.Boards.{stores_read}
+use Rattle.m51_sim.specs.SeparateMachine.{Separate}
+use Rattle.m51_sim.proofs.StoresRead.{read_same}
+use Rattle.m51_sim.proofs.judging.commit.Goals as goal
+
+pub returns-clause-memory : goal.returns-clause-memory
+returns-clause-memory c =
+    let old = c.args.monitor.now in
+    let new = c.commit.new.self in
+    let a = c.args.allowed.now in
+    let stores = read_same new c.stand-2.ensures.sound c.stand-2.ensures.records _ (c.commit.ensures.stores (stores_read old) c.stand.ensures.stores) in
+    rw (stores, c.commit.ensures.records) refl

@@ -1,0 +1,16 @@
+use Rattle.std.proofs.Common.{◌≡◌, sym, ap, ◌∙◌}
+use Rattle.m51_monitor.specs.Shared.{shared_cells}
+use Rattle.m51_sim.specs.Boards.{stores_read}
+use Rattle.m51_sim.proofs.Preparing.{instr_ready}
+use Rattle.m51_sim.proofs.judging.instr_outcome.Goals as goal
+
+pub returns-clause-value : goal.returns-clause-value
+returns-clause-value c =
+    rw (c.cpu.ensures, c.bytes.ensures.list, c.pins.ensures, c.store.ensures.barred, c.store.ensures.answers (stores_read c.args.monitor.now) c.stand.ensures.stores) at c.exec.ensures.outcome
+
+pub returns-clause-ready : goal.returns-clause-ready
+returns-clause-ready c =
+    let m = c.args.monitor.now in
+    rw (← c.cpu.ensures)
+    (instr_ready m c.cpu.result.now (shared_cells m.store) c.args.instr.now c.bytes.result.now c.pins.result c.exec.result
+    (rw c.store.ensures.store at c.exec.ensures.outcome) (rw c.store.ensures.store at c.exec.ensures.missing) c.exec.ensures.control c.exec.ensures.levels)

@@ -1,0 +1,133 @@
+//! The machine cycles of a step.
+ghost use Rattle.std.specs.Prelude.{◌≡◌, ◌≤◌, ◌+◌, [], ◌∷◌, ◌++◌, length, take};
+ghost use Rattle.m51_sim.specs.Cycles.{AreFew, cycle_passed, cycles_passed, first_sent, frames_in, inputs_of};
+ghost use Rattle.m51_sim.specs.Cycles.{next_cycle, sent_in, with_extra};
+
+use m51_cells::Entry;
+use m51_flat::Cpu;
+use m51_script::Script;
+use m51_timers_uart::{Frame, Periph, Sent};
+
+/// A frame that arrives in a cycle.
+///
+/// Source: own choice ("Frames of other boards").
+#[derive(Clone, Copy, Debug, PartialEq, Eq)]
+pub struct Timed {
+    /// The number of the machine cycle.
+    pub cycle: u64,
+    /// The frame.
+    pub frame: Frame,
+}
+
+// The most frames of one cycle that do not come from the script.
+const MOST_EXTRA: usize = 7;
+
+// The processor and the devices between two cycles of a step, the number of the cycle, and the byte that was sent in
+// the step.
+#[derive(Drop)]
+pub(crate) struct Passing {
+    pub(crate) cpu: Cpu,
+    pub(crate) periph: Periph,
+    pub(crate) cycle: u64,
+    pub(crate) sent: Option<Entry>,
+}
+
+// The frames of one cycle: so many at the front.
+#[derive(Drop)]
+struct Batch {
+    frames: [Frame; MOST_EXTRA],
+    count: usize,
+}
+
+// One more frame, if it arrives in this cycle.
+fn add(batch: &mut Batch, timed: Timed, cycle: u64)
+    requires { batch.old.count + length (frames_in cycle (timed ∷ [])) ≤ 7 }
+    ensures frames { take batch.new.count batch.new.frames
+        ≡ take batch.old.count batch.old.frames ++ frames_in cycle (timed ∷ []) }
+    ensures count { batch.new.count ≡ batch.old.count + length (frames_in cycle (timed ∷ [])) }
+{
+    if timed.cycle == cycle {
+        batch.frames[batch.count] = timed.frame;
+        batch.count += 1;
+    }
+}
+
+// The frames among these that arrive in a cycle.
+fn batch_at(extra: &[Timed], cycle: u64) -> Batch
+    requires { AreFew extra.now }
+    ensures within { result.count ≤ 7 }
+    ensures frames { take result.count result.frames ≡ frames_in cycle extra.now }
+{
+    let none = Frame {
+        byte: 0,
+        ninth: false,
+    };
+    let mut batch = Batch {
+        frames: [none; MOST_EXTRA],
+        count: 0,
+    };
+    for timed in extra {
+        add(&mut batch, *timed, cycle);
+    }
+    batch
+}
+
+// The number of the next cycle.
+fn next_cycle(cycle: u64) -> u64
+    ensures { result ≡ next_cycle cycle }
+{
+    cycle.saturating_add(1)
+}
+
+// The entry of a byte whose sending ends with this cycle.
+fn sent_in(cycle: u64, sent: Option<Sent>) -> Option<Entry>
+    ensures { result ≡ sent_in cycle sent }
+{
+    match sent {
+        None => None,
+        Some(sent) => Some(Entry::Sent {
+            cycle,
+            byte: sent.byte,
+            ninth: sent.ninth,
+        }),
+    }
+}
+
+// The first of two that is there.
+fn first_sent(earlier: Option<Entry>, later: Option<Entry>) -> Option<Entry>
+    ensures { result ≡ first_sent earlier later }
+{
+    match earlier {
+        None => later,
+        Some(_) => earlier,
+    }
+}
+
+// One machine cycle, with the frames of the script and then with the others of the cycle that it ends with.
+#[tactic(auto, unfolding(crate::specs::Cycles::cycle_passed))]
+fn pass_cycle(script: &Script, extra: &[Timed], passing: &mut Passing)
+    requires { AreFew extra.now }
+    ensures { passing.new ≡ cycle_passed (with_extra extra.now (inputs_of script.now)) passing.old }
+{
+    let cycle = next_cycle(passing.cycle);
+    let batch = batch_at(extra, cycle);
+    let sent = passing.periph.tick(
+        &mut passing.cpu,
+        &script.pins_at(cycle),
+        script.frames_at(cycle),
+        &batch.frames[..batch.count],
+    );
+    passing.cycle = cycle;
+    passing.sent = first_sent(passing.sent, sent_in(cycle, sent));
+}
+
+// So many machine cycles.
+#[tactic(auto, unfolding(crate::specs::Cycles::cycles_passed))]
+pub(crate) fn pass_cycles(script: &Script, extra: &[Timed], count: u8, passing: &mut Passing)
+    requires { AreFew extra.now }
+    ensures { passing.new ≡ cycles_passed (with_extra extra.now (inputs_of script.now)) count passing.old }
+{
+    for _ in 0..count {
+        pass_cycle(script, extra, passing);
+    }
+}

@@ -1,0 +1,32 @@
+-- What a program with a bound keeps at each of its points.
+use Rattle.std.proofs.Common.{◌≡◌, ℕ, Bool, true, false, List, Some, refl, ap, ◌∙◌}
+use Rattle.m51_isa.specs.declared.instr.Instr.{Instr}
+use Rattle.m51_module.specs.declared.parts.LayoutParts.{LayoutParts}
+use Rattle.m51_stackbound.specs.declared.judging.Rule.{Rule}
+use Rattle.m51_stackbound.specs.declared.judging.Rule.TheVariants.{WritesSp, Computed, PopsBelow, PushesAbove}
+use Rattle.m51_stackbound.specs.declared.point.Point.{Point}
+use Rattle.m51_stackbound.specs.Bounds.{Keeps, KeepsRules}
+use Rattle.m51_stackbound.specs.Instructions.{is_computed}
+use Rattle.m51_stackbound.specs.Points.{instruction, pops_below, pushes_above, sets_stack, IsPoint}
+use Rattle.m51_stackbound.specs.Rules.{breaks, breaks_by, place_of}
+
+module _ (l : LayoutParts) (image : List ℕ) (p : Point) (instr : Instr) (is : IsPoint l image p) (at : instruction l image p.address ≡ Some instr) where
+  kept : (rule : Rule) → Keeps l image rule → breaks rule p instr ≡ false
+  unfolding breaks_by
+  kept rule keeps = by (breaks rule p instr) refl
+    where
+      by : (b : Bool) → breaks rule p instr ≡ b → b ≡ false
+      by false e = refl
+      by true e = absurd (keeps (place_of p) (record { point = p; is_point = is; breaks = ap (breaks_by rule p) at ∙ e; place_is = refl }))
+
+  pub stack_kept : KeepsRules l image → sets_stack p instr ≡ false
+  stack_kept h = kept WritesSp h.writes
+
+  pub computed_kept : KeepsRules l image → is_computed instr ≡ false
+  computed_kept h = kept Computed h.computed
+
+  pub pops_kept : KeepsRules l image → pops_below p instr ≡ false
+  pops_kept h = kept PopsBelow h.pops
+
+  pub pushes_kept : Keeps l image PushesAbove → pushes_above p instr ≡ false
+  pushes_kept h = kept PushesAbove h

@@ -1,0 +1,88 @@
+-- What holds of the listed points holds of the points of the program.
+use Rattle.std.proofs.Common.{◌≡◌, ◌≢◌, ◌<◌, ℕ, List, Option, length, get_or, sym, ap, ◌∙◌, arith, inl, inr}
+use Rattle.std.proofs.lemmas.Bool.{cases_lt}
+use Rattle.std.proofs.lemmas.Grind.{common_steps}
+use Rattle.std.proofs.lemmas.List.Elements.{Contains-get_or}
+use Rattle.std.proofs.lemmas.List.{length-take-le}
+use Rattle.std.specs.Prelude.{IfOk, Result, Ok, Err}
+use Rattle.std.specs.List.{Contains}
+use Rattle.m51_cells.specs.declared.memory.NoMemory.{NoMemory}
+use Rattle.m51_module.specs.declared.parts.LayoutParts.{LayoutParts}
+use Rattle.m51_stackbound.specs.declared.judging.Rule.{Rule}
+use Rattle.m51_stackbound.specs.declared.point.Place.{Place}
+use Rattle.m51_stackbound.specs.declared.point.Point.{Point}
+use Rattle.m51_stackbound.specs.Bounds.{Breaks, HasTwoHeights}
+use Rattle.m51_stackbound.specs.Rules.{IsBroken, IsFirstBreach, IsLeast, place_of}
+use Rattle.m51_stackbound.specs.Search.{ArePoints}
+use Rattle.m51_stackbound.specs.Twice.{HasTwo}
+use Rattle.m51_stackbound.proofs.Leasts.{least_same}
+
+pub first_of_points : (l : LayoutParts) (image : List ℕ) (rule : Rule) (points : List Point) (r : Option Place) → ArePoints l image points → IsFirstBreach l image rule points r → IsLeast (Breaks l image rule) r
+first_of_points l image rule points r are h = least_same (IsBroken l image rule (Contains points)) (Breaks l image rule) r h
+    (λ place b. record { point = b.point; is_point = are.all b.point b.is_point; breaks = b.breaks; place_is = b.place_is })
+    (λ place b. record { point = b.point; is_point = are.only b.point b.is_point; breaks = b.breaks; place_is = b.place_is })
+
+-- two of the listed points have the place exactly where two points of the program have it with different heights
+module _ (l : LayoutParts) (image : List ℕ) (points : List Point) (are : ArePoints l image points) where
+  apart_heights : (p q : Point) (place : Place) → p ≢ q → place_of p ≡ place → place_of q ≡ place → p.height ≢ q.height
+  apart_heights p q place other h k e = other (same p q (ap (λ (r : Place). r.start) (h ∙ sym k)) (ap (λ (r : Place). r.address) (h ∙ sym k)) e)
+    where
+      same : (p q : Point) → p.start ≡ q.start → p.address ≡ q.address → p.height ≡ q.height → p ≡ q
+      same p q a b c = λ i. record { start = a i; address = b i; height = c i }
+
+  heights_from_two : (place : Place) → HasTwo points (length points) place → HasTwoHeights l image place
+  heights_from_two place h =
+      let at = h.before.0 in
+      let none = h.one in
+      let low : at < h.second = omega (arith, h.before.1, length-take-le h.second points (omega (arith, h.inside))) in
+      let first : get_or points at none ≡ h.one = grind (arith, common_steps, h.before.2, low, h.inside) in
+      let other : h.one ≢ get_or points h.second none = λ e. are.different at h.second none low h.inside (first ∙ e) in
+      record {
+        one = h.one;
+        two = get_or points h.second none;
+        one_is = are.only h.one (at, omega (arith, low, h.inside), first);
+        two_is = are.only (get_or points h.second none) (Contains-get_or points h.second none h.inside);
+        place_one = h.place_one;
+        place_two = h.place_two none;
+        heights = apart_heights h.one (get_or points h.second none) place other h.place_one (h.place_two none);
+      }
+
+  -- of two different indices one comes first
+  two_from : (place : Place) (p q : Point) (i j : ℕ) → i < j → j < length points → ((d : Point) → get_or points i d ≡ p) → ((d : Point) → get_or points j d ≡ q)
+      → place_of p ≡ place → place_of q ≡ place → HasTwo points (length points) place
+  two_from place p q i j low below at there h k = record {
+    second = j;
+    below = below;
+    inside = below;
+    one = p;
+    before = (i, grind (arith, common_steps, low, below), grind (arith, common_steps, low, below, at p));
+    place_one = h;
+    place_two = λ d. ap place_of (there d) ∙ k;
+  }
+
+  at_any : (p : Point) (h : Contains points p) (d : Point) → get_or points h.0 d ≡ p
+  at_any p h d = same ∙ h.2 where
+    same : get_or points h.0 d ≡ get_or points h.0 p
+    same = let below = h.1 in grind (arith, common_steps, below)
+
+  two_from_heights : (place : Place) → HasTwoHeights l image place → HasTwo points (length points) place
+  two_from_heights place h =
+      let a = are.all h.one h.one_is in
+      let b = are.all h.two h.two_is in
+      elim (cases_lt a.0 b.0) as (λ _. HasTwo points (length points) place) [
+        | inl low ↦ two_from place h.one h.two a.0 b.0 low b.1 (at_any h.one a) (at_any h.two b) h.place_one h.place_two
+        | inr high ↦ elim (cases_lt b.0 a.0) as (λ _. HasTwo points (length points) place) [
+          | inl low ↦ two_from place h.two h.one b.0 a.0 low a.1 (at_any h.two b) (at_any h.one a) h.place_two h.place_one
+          | inr equal ↦
+              let is : a.0 ≡ b.0 = omega (arith, high, equal) in
+              let e : h.one ≡ h.two = sym (at_any h.one a h.one) ∙ ap (λ k. get_or points k h.one) is ∙ at_any h.two b h.one in
+              absurd (h.heights (ap (λ (p : Point). p.height) e))
+        ]
+      ]
+
+  pub first_heights : (r : Option Place) → IsLeast (HasTwo points (length points)) r → IsLeast (HasTwoHeights l image) r
+  first_heights r h = least_same (HasTwo points (length points)) (HasTwoHeights l image) r h two_from_heights heights_from_two
+
+  pub ok_heights : (r : Result (Option Place) NoMemory) → IfOk r (IsLeast (HasTwo points (length points))) → IfOk r (IsLeast (HasTwoHeights l image))
+  ok_heights (Ok place) h = first_heights place h
+  ok_heights (Err error) h = h

@@ -1,0 +1,200 @@
+-- The search for points finds those that are, and no others.
+use Rattle.std.proofs.Common.{◌≡◌, ◌≢◌, ◌<◌, ◌≤◌, ◌+◌, ℕ, List, [], ◌∷◌, ◌++◌, length, get_or, refl, sym, subst, ◌∙◌, arith, ◌⊎◌, inl, inr}
+use Rattle.std.specs.List.{Contains}
+use Rattle.std.proofs.lemmas.Bool.{cases_lt}
+use Rattle.std.proofs.lemmas.Grind.{common_steps}
+use Rattle.std.proofs.lemmas.List.Elements.{Contains-get_or, Contains-push, Contains-push_cases, Contains-append_left}
+use Rattle.std.proofs.lemmas.List.Quantifiers.{all_pairs_push}
+use Rattle.m51_cells.proofs.Small.{contains_after, first_or_after, none_in_empty}
+use Rattle.m51_cells.specs.declared.limits.TheConstants.{MOST_POINTS}
+use Rattle.std.specs.Prelude.{IfOk, Option, Some, None, Result, Ok, Err}
+use Rattle.m51_cells.specs.declared.memory.NoMemory.{NoMemory}
+use Rattle.m51_module.specs.declared.parts.LayoutParts.{LayoutParts}
+use Rattle.m51_stackbound.specs.declared.point.Point.{Point}
+use Rattle.m51_stackbound.specs.Points.{successors, IsReached, First, After}
+use Rattle.m51_stackbound.specs.Search.{Notes, NotesAll, AreDifferent, AreReached, AreTooMany, Finds}
+
+-- what adding points does to a list: it grows at its end by what is new
+pub record Grows (old new : List Point) (added : Point → Type 0) : Type 0 where
+  pub front : (i : ℕ) (d : Point) → i < length old → get_or new i d ≡ get_or old i d
+  pub longer : length old ≤ length new
+  pub from : (p : Point) → Contains new p → Contains old p ⊎ added p
+  pub kept : (p : Point) → Contains old p → Contains new p
+  pub all : (p : Point) → added p → Contains new p
+  pub different : AreDifferent old → AreDifferent new
+
+-- a point that is not in a list differs from each that is
+pub new_differs : (old : List Point) (p : Point) → (Contains old p → ⊥) → AreDifferent old → AreDifferent (old ++ p ∷ [])
+new_differs old p new h = all_pairs_push (λ a b. a ≢ b) old p h (λ k d below e. new (k, below, subst (λ q. get_or old k q ≡ q) e (grind (arith, common_steps, below))))
+
+pub note_grows : (old new : List Point) (p : Point) → Notes old p new → Grows old new (λ q. p ≡ q)
+note_grows old new p (inl (same, there)) = subst (λ l. Grows old l (λ q. p ≡ q)) (sym same) (record {
+  front = λ i d below. refl;
+  longer = omega arith;
+  from = λ q h. inl h;
+  kept = λ q h. h;
+  all = λ q e. subst (λ q. Contains old q) e there;
+  different = λ h. h;
+})
+note_grows old new p (inr (is, absent)) = subst (λ l. Grows old l (λ q. p ≡ q)) (sym is) (record {
+  front = λ i d below. grind (arith, common_steps, below);
+  longer = grind (arith, common_steps);
+  from = λ q h. Contains-push_cases old p q h;
+  kept = λ q h. Contains-append_left old (p ∷ []) q h;
+  all = λ q e. subst (λ q. Contains (old ++ p ∷ []) q) e (Contains-push old p);
+  different = λ h. new_differs old p absent h;
+})
+
+-- growing twice
+pub grows_twice : (old middle new : List Point) (one two : Point → Type 0) → Grows old middle one → Grows middle new two → Grows old new (λ p. one p ⊎ two p)
+grows_twice old middle new one two g h = record {
+  front = λ i d below. h.front i d (omega (arith, below, g.longer)) ∙ g.front i d below;
+  longer = omega (arith, g.longer, h.longer);
+  from = λ p k. elim (h.from p k) as (λ _. Contains old p ⊎ (one p ⊎ two p)) [
+    | inl before ↦ elim (g.from p before) as (λ _. Contains old p ⊎ (one p ⊎ two p)) [
+      | inl first ↦ inl first
+      | inr added ↦ inr (inl added)
+    ]
+    | inr added ↦ inr (inr added)
+  ];
+  kept = λ p k. h.kept p (g.kept p k);
+  all = λ p k. elim k as (λ _. Contains new p) [
+    | inl added ↦ h.kept p (g.all p added)
+    | inr added ↦ h.all p added
+  ];
+  different = λ k. h.different (g.different k);
+}
+
+-- the first of a list is in it
+pub contains_first : (p : Point) (ps : List Point) (q : Point) → p ≡ q → Contains (p ∷ ps) q
+contains_first p ps q e = (0, omega arith, e)
+
+pub notes_grow : (ps old new : List Point) → NotesAll old ps new → Grows old new (λ q. Contains ps q)
+notes_grow [] old new same = subst (λ l. Grows old l (λ q. Contains [] q)) (sym same) (record {
+  front = λ i d below. refl;
+  longer = omega arith;
+  from = λ q h. inl h;
+  kept = λ q h. h;
+  all = λ q h. absurd (none_in_empty q h);
+  different = λ h. h;
+})
+notes_grow (p ∷ ps) old new (middle, first, rest) =
+    let g = grows_twice old middle new (λ q. p ≡ q) (λ q. Contains ps q) (note_grows old middle p first) (notes_grow ps middle new rest) in
+    record {
+      front = g.front;
+      longer = g.longer;
+      from = λ q h. elim (g.from q h) as (λ _. Contains old q ⊎ Contains (p ∷ ps) q) [
+        | inl before ↦ inl before
+        | inr added ↦ elim added as (λ _. Contains old q ⊎ Contains (p ∷ ps) q) [
+          | inl here ↦ inr (contains_first p ps q here)
+          | inr there ↦ inr (contains_after p ps q there)
+        ]
+      ];
+      kept = g.kept;
+      all = λ q h. g.all q (first_or_after p ps q h);
+      different = g.different;
+    }
+
+-- one point, noted in an empty list
+pub one_noted : (p : Point) (new : List Point) → Notes [] p new → new ≡ p ∷ []
+one_noted p new (inl (same, there)) = absurd (none_in_empty p there)
+one_noted p new (inr (is, absent)) = is
+
+pub one_differs : (p : Point) (new : List Point) → Notes [] p new → AreDifferent new
+one_differs p new h = subst (λ ps. AreDifferent ps) (sym (one_noted p new h)) (λ i j d less within. absurd (omega (arith, less, within)))
+
+-- the search: what is found are points, the first ones are found, and so are the successors of those that were looked at
+pub record IsSearching (l : LayoutParts) (image : List ℕ) (firsts : List Point) (points : List Point) (next : ℕ) : Type 0 where
+  pub only : (p : Point) → Contains points p → IsReached l image firsts p
+  pub begun : (p : Point) → Contains firsts p → Contains points p
+  pub looked : (i : ℕ) (d p : Point) → i < next → i < length points → Contains (successors l image (get_or points i d)) p → Contains points p
+  pub different : AreDifferent points
+  pub next_few : next ≤ MOST_POINTS
+
+module _ (l : LayoutParts) (image : List ℕ) (firsts : List Point) where
+  pub search_first : AreDifferent firsts → IsSearching l image firsts firsts 0
+  search_first different = record {
+    only = λ p k. First p k;
+    begun = λ p k. k;
+    looked = λ i d p below inside k. absurd (omega (arith, below));
+    different = different;
+    next_few = omega arith;
+  }
+
+  pub search_step : (old new : List Point) (next : ℕ) (e : Point) → IsSearching l image firsts old next → next < length old → length old ≤ MOST_POINTS
+      → NotesAll old (successors l image (get_or old next e)) new → IsSearching l image firsts new (next + 1)
+  search_step old new next e s below few h =
+      let at : Point = get_or old next e in
+      let g = notes_grow (successors l image at) old new h in
+      record {
+        only = λ p k. elim (g.from p k) as (λ _. IsReached l image firsts p) [
+          | inl before ↦ s.only p before
+          | inr added ↦ After at p (s.only at (Contains-get_or old next e below)) added
+        ];
+        begun = λ p k. g.kept p (s.begun p k);
+        looked = λ i d p before inside k. elim (cases_lt i next) as (λ _. Contains new p) [
+          | inl early ↦ g.kept p (s.looked i d p early (omega (arith, early, below)) (subst (λ q. Contains (successors l image q) p) (g.front i d (omega (arith, early, below))) k))
+          | inr late ↦
+              let is : i ≡ next = omega (arith, late, before) in
+              let same : get_or new i d ≡ at = g.front i d (omega (arith, is, below)) ∙ grind (arith, common_steps, is, below) in
+              g.all p (subst (λ q. Contains (successors l image q) p) same k)
+        ];
+        different = g.different s.different;
+        next_few = omega (arith, below, few);
+      }
+
+  -- each point is found
+  all_found : (points : List Point) (next : ℕ) → IsSearching l image firsts points next → length points ≤ next → (p : Point) → IsReached l image firsts p → Contains points p
+  all_found points next s done _ (First p first) = s.begun p first
+  all_found points next s done _ (After p q is after) =
+      let h = all_found points next s done p is in
+      s.looked h.0 p q (omega (arith, h.1, done)) h.1 (subst (λ r. Contains (successors l image r) q) (sym h.2) after)
+
+  pub search_done : (points : List Point) (next : ℕ) → IsSearching l image firsts points next → length points ≤ next → AreReached l image firsts points
+  search_done points next s done = record {
+    only = s.only;
+    all = all_found points next s done;
+    different = s.different;
+    few = omega (arith, done, s.next_few);
+  }
+
+  pub search_stops : (points : List Point) (next : ℕ) → IsSearching l image firsts points next → MOST_POINTS < length points → AreTooMany l image firsts
+  search_stops points next s many = record { points = points; only = s.only; different = s.different; many = many }
+
+-- what is reached from points is reached from those that have them
+pub reached_more : (l : LayoutParts) (image : List ℕ) (fs gs : List Point) → ((p : Point) → Contains fs p → Contains gs p) → (p : Point)
+    → IsReached l image fs p → IsReached l image gs p
+reached_more l image fs gs on _ (First p first) = First p (on p first)
+reached_more l image fs gs on _ (After p q is after) = After p q (reached_more l image fs gs on p is) after
+
+-- points that were noted one after another are those that were to be noted
+module _ (l : LayoutParts) (image : List ℕ) (firsts noted : List Point) (h : NotesAll [] firsts noted) where
+  on : (p : Point) → Contains firsts p → Contains noted p
+  on = (notes_grow firsts [] noted h).all
+
+  back : (p : Point) → Contains noted p → Contains firsts p
+  back p k = elim ((notes_grow firsts [] noted h).from p k) as (λ _. Contains firsts p) [
+    | inl none ↦ absurd (none_in_empty p none)
+    | inr added ↦ added
+  ]
+
+  pub noted_differ : AreDifferent noted
+  noted_differ = (notes_grow firsts [] noted h).different (λ i j d lt within. absurd (omega (arith, within)))
+
+  pub finds_noted : (r : Option (List Point)) → Finds l image noted r → Finds l image firsts r
+  finds_noted (Some points) f = record {
+    only = λ p k. reached_more l image noted firsts back p (f.only p k);
+    all = λ p k. f.all p (reached_more l image firsts noted on p k);
+    different = f.different;
+    few = f.few;
+  }
+  finds_noted None f = record {
+    points = f.points;
+    only = λ p k. reached_more l image noted firsts back p (f.only p k);
+    different = f.different;
+    many = f.many;
+  }
+
+  pub finds_ok : (r : Result (Option (List Point)) NoMemory) → IfOk r (Finds l image noted) → IfOk r (Finds l image firsts)
+  finds_ok (Ok found) f = finds_noted found f
+  finds_ok (Err error) f = f

@@ -1,0 +1,130 @@
+-- Points and the starts that they are of: what is entered, what covers it, and which root leads to it.
+use Rattle.std.proofs.Common.{◌≡◌, ◌≤◌, ◌+◌, ℕ, zero, suc, List, [], ◌∷◌, map, refl, sym, ap, subst, ◌∙◌, arith, ◌⊎◌, inl, inr}
+use Rattle.std.specs.List.{Contains}
+use Rattle.m51_module.specs.declared.parts.LayoutParts.{LayoutParts}
+use Rattle.m51_module.specs.declared.start.Start.{Start}
+use Rattle.m51_module.specs.declared.start.Start.TheVariants.{Reset, At}
+use Rattle.m51_stackbound.specs.declared.point.Point.{Point}
+use Rattle.m51_stackbound.specs.Bounds.{Nothing, One, ComesTo}
+use Rattle.m51_stackbound.specs.Depths.{CallsAt, HasHeight, Takes, Own, Call}
+use Rattle.m51_stackbound.specs.Points.{entry_at, first_points, point_at, IsPoint, IsReached, First, After}
+use Rattle.m51_stackbound.specs.Units.{handlers}
+use Rattle.m51_cells.proofs.Small.{contains_after, first_or_after, none_in_empty}
+use Rattle.m51_stackbound.proofs.Reaching.{contains_first}
+use Rattle.m51_stackbound.proofs.Stepping.{steps_to}
+
+-- an element of a list of entries is the entry of an element
+pub record IsEntryOf (vs : List ℕ) (p : Point) : Type 0 where
+  pub vector : ℕ
+  pub listed : Contains vs vector
+  pub is : p ≡ entry_at vector
+
+entry_of : (vs : List ℕ) (p : Point) → Contains (map entry_at vs) p → IsEntryOf vs p
+entry_of [] p h = absurd (none_in_empty p h)
+entry_of (v ∷ vs) p h = elim (first_or_after (entry_at v) (map entry_at vs) p h) as (λ _. IsEntryOf (v ∷ vs) p) [
+  | inl e ↦ record { vector = v; listed = (0, omega arith, refl); is = sym e }
+  | inr more ↦ let r = entry_of vs p more in record { vector = r.vector; listed = (suc r.listed.0, omega (arith, r.listed.1), r.listed.2); is = r.is }
+]
+
+entry_listed : (vs : List ℕ) (v : ℕ) → Contains vs v → Contains (map entry_at vs) (entry_at v)
+entry_listed [] v h = absurd (omega (arith, h.1))
+entry_listed (w ∷ vs) v (zero, below, is) = contains_first (entry_at w) (map entry_at vs) (entry_at v) (ap entry_at is)
+entry_listed (w ∷ vs) v (suc k, below, is) = contains_after (entry_at w) (map entry_at vs) (entry_at v) (entry_listed vs v (k, omega (arith, below), is))
+
+reset_point : Point
+reset_point = point_at Reset 0 7
+
+same_address : (a b : ℕ) → At a ≡ At b → a ≡ b
+same_address a b e = cc e
+
+not_reset : (a : ℕ) → Reset ≡ At a → ⊥
+not_reset a e = absurd (cc e)
+
+module _ (l : LayoutParts) (image : List ℕ) where
+  -- the first points are the reset's, and the entries of the interrupts that have handlers
+  pub first_cases : (p : Point) → Contains (first_points l) p → (p ≡ point_at Reset 0 7) ⊎ IsEntryOf (handlers l) p
+  first_cases p h = elim (first_or_after (point_at Reset 0 7) (map entry_at (handlers l)) p h) as (λ _. (p ≡ point_at Reset 0 7) ⊎ IsEntryOf (handlers l) p) [
+    | inl e ↦ inl (sym e)
+    | inr more ↦ inr (entry_of (handlers l) p more)
+  ]
+
+  pub reset_first : IsPoint l image (point_at Reset 0 7)
+  reset_first = First (point_at Reset 0 7) (contains_first (point_at Reset 0 7) (map entry_at (handlers l)) (point_at Reset 0 7) refl)
+
+  pub handler_first : (v : ℕ) → Contains (handlers l) v → IsPoint l image (entry_at v)
+  handler_first v h = First (entry_at v) (contains_after (point_at Reset 0 7) (map entry_at (handlers l)) (entry_at v) (entry_listed (handlers l) v h))
+
+  -- a point of the start at an address
+  pub record IsUnder (a : ℕ) (p : Point) : Type 0 where
+    pub entered : IsPoint l image (entry_at a)
+    pub reached : IsReached l image (entry_at a ∷ []) p
+
+  itself : (a : ℕ) → IsPoint l image (entry_at a) → IsUnder a (entry_at a)
+  itself a is = record { entered = is; reached = First (entry_at a) (contains_first (entry_at a) [] (entry_at a) refl) }
+
+  entry_under : (a to : ℕ) (p : Point) → p ≡ entry_at to → p.start ≡ At a → IsPoint l image p → IsUnder a p
+  entry_under a to p e s is =
+      let same : to ≡ a = same_address to a (sym (ap (λ (q : Point). q.start) e) ∙ s) in
+      let here : p ≡ entry_at a = e ∙ ap entry_at same in
+      subst (λ (q : Point). IsUnder a q) (sym here) (itself a (subst (λ (q : Point). IsPoint l image q) here is))
+
+  -- each point of a start is reached from the start's entry
+  pub under : (a : ℕ) (p : Point) → IsPoint l image p → p.start ≡ At a → IsUnder a p
+  under a _ (First p first) s = elim (first_cases p first) as (λ _. IsUnder a p) [
+    | inl e ↦ absurd (not_reset a (sym (ap (λ (q : Point). q.start) e) ∙ s))
+    | inr h ↦ entry_under a h.vector p h.is s (First p first)
+  ]
+  under a _ (After p q is after) s = elim (steps_to l image p q after) as (λ _. IsUnder a q) [
+    | inl within ↦
+        let before = under a p is (sym within.start_is ∙ s) in
+        record { entered = before.entered; reached = After p q before.reached after }
+    | inr entry ↦ entry_under a entry.to q entry.is s (After p q is after)
+  ]
+
+  -- a value that SP may come to that is at least so much
+  pub record ComesAbove (bytes : ℕ) : Type 0 where
+    pub value : ℕ
+    pub comes : ComesTo l image value
+    pub high : bytes ≤ value
+
+  reset_takes : Takes l image Reset [] 7
+  reset_takes = Own Reset 7 (record { point = point_at Reset 0 7; is_point = reset_first; start_is = refl; height_is = refl })
+
+  reset_above : (path : List Start) (bytes : ℕ) → Takes l image Reset path bytes → ComesAbove bytes
+  reset_above path bytes t = record {
+    value = bytes;
+    comes = record { path = path; reset = bytes; more = 0; takes = t; adds = Nothing; value_is = omega arith };
+    high = omega arith;
+  }
+
+  handler_above : (v : ℕ) (path : List Start) (bytes : ℕ) → Contains (handlers l) v → Takes l image (At v) path bytes → ComesAbove bytes
+  handler_above v path bytes h t = record {
+    value = 7 + (2 + bytes);
+    comes = record { path = []; reset = 7; more = 2 + bytes; takes = reset_takes; adds = One v bytes path h t; value_is = refl };
+    high = omega arith;
+  }
+
+  -- what a start takes adds to what a root takes
+  pub rooted : (p : Point) → IsPoint l image p → (path : List Start) (bytes : ℕ) → Takes l image p.start path bytes → ComesAbove bytes
+  rooted _ (First p first) path bytes t = elim (first_cases p first) as (λ _. ComesAbove bytes) [
+    | inl e ↦ reset_above path bytes (subst (λ (q : Point). Takes l image q.start path bytes) e t)
+    | inr h ↦ handler_above h.vector path bytes h.listed (subst (λ (q : Point). Takes l image q.start path bytes) h.is t)
+  ]
+  rooted _ (After p q is after) path bytes t = elim (steps_to l image p q after) as (λ _. ComesAbove bytes) [
+    | inl within ↦ rooted p is path bytes (subst (λ s. Takes l image s path bytes) within.start_is t)
+    | inr entry ↦
+        let called : Takes l image (At entry.to) path bytes = subst (λ (r : Point). Takes l image r.start path bytes) entry.is t in
+        let call : CallsAt l image p.start p.height entry.to = record { point = p; is_point = is; start_is = refl; height_is = refl; calls = entry.calls } in
+        let more = rooted p is (At entry.to ∷ path) (p.height + 2 + bytes) (Call p.start p.height entry.to path bytes call called) in
+        record { value = more.value; comes = more.comes; high = omega (arith, more.high) }
+  ]
+
+  -- a start that takes bytes has a point
+  pub of_taken : (start : Start) (path : List Start) (bytes : ℕ) → Takes l image start path bytes → (height : ℕ) × HasHeight l image start height
+  of_taken start _ bytes (Own _ _ h) = (bytes, h)
+  of_taken start _ _ (Call _ height to more bytes c rest) = (height, record { point = c.point; is_point = c.is_point; start_is = c.start_is; height_is = c.height_is })
+
+  pub taken_above : (start : Start) (path : List Start) (bytes : ℕ) → Takes l image start path bytes → ComesAbove bytes
+  taken_above start path bytes t =
+      let h = (of_taken start path bytes t).1 in
+      rooted h.point h.is_point path bytes (subst (λ s. Takes l image s path bytes) (sym h.start_is) t)

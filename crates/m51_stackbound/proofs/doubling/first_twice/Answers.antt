@@ -1,0 +1,43 @@
+use Rattle.std.proofs.Common.{◌≡◌, ◌+◌, List, get_or, length, ap, sym, subst, ◌∙◌, inl, inr, Option, Some, arith}
+use Rattle.m51_stackbound.specs.declared.point.Place.{Place}
+use Rattle.m51_stackbound.specs.declared.point.Point.{Point}
+use Rattle.m51_module.specs.declared.start.Start.TheVariants.{Reset}
+use Rattle.m51_stackbound.specs.Points.{point_at}
+use Rattle.m51_stackbound.specs.Rules.{IsLeast, lesser, place_of}
+use Rattle.m51_stackbound.specs.Twice.{HasTwo, NotesPlace}
+use Rattle.m51_stackbound.proofs.Doubled.{IsDoubling, doubling_again, doubling_new}
+use Rattle.m51_stackbound.proofs.doubling.first_twice.Goals as goal
+use Rattle.m51_stackbound.proofs.doubling.first_twice.Goals.{then-branch, else-branch}
+
+pub loop-point-preserved : goal.loop-point-preserved
+loop-point-preserved c =
+    let points = c.args.points.now in
+    let i = c.loop-point.point-index in
+    let none : Point = point_at Reset 0 0 in
+    let here : Place = place_of (get_or points i none) in
+    let places : List Place = c.loop-point.places in
+    let new : List Place = c.note.new.self in
+    let least : Option Place = c.loop-point.least in
+    let again = c.in_ok-note.field-0 in
+    let noted : NotesPlace places here new again = subst (λ (p : Place). NotesPlace places p new again) c.place_of-place.ensures c.in_ok-note.ensures in
+    elim c.if-branch.branch [
+      | then-branch w ↦
+          let is : Some (lesser least here) ≡ c.if-branch.least = ap (λ (p : Place). Some (lesser least p)) (sym c.place_of-place.ensures) ∙ ap Some (sym w.lesser.ensures) ∙ sym w.least-is in
+          subst (λ (r : Option Place). IsDoubling points (i + 1) new r) is
+          (elim noted as (λ _. IsDoubling points (i + 1) new (Some (lesser least here))) [
+            | inl old ↦ doubling_again points i none c.loop-point-test.true places new least old.1 old.2 c.loop-point.invariant
+            | inr first ↦ absurd (cc (first.0, w.if-branch.true))
+          ])
+      | else-branch w ↦
+          subst (λ (r : Option Place). IsDoubling points (i + 1) new r) (sym w.least-is)
+          (elim noted as (λ _. IsDoubling points (i + 1) new least) [
+            | inl old ↦ absurd (cc (old.0, w.if-branch.false))
+            | inr first ↦ doubling_new points i none c.loop-point-test.true places new least first.1 first.2 c.loop-point.invariant
+          ])
+    ]
+
+pub returns : goal.returns
+returns c =
+    let points = c.args.points.now in
+    let whole : c.loop-point.point-index ≡ length points = omega arith in
+    subst (λ n. IsLeast (HasTwo points n) c.loop-point.least) whole c.loop-point.invariant.first

@@ -1,0 +1,6 @@
+use Rattle.std.proofs.Common.{take}
+use Rattle.m51_stackbound.specs.Nexts.{AreNexts}
+use Rattle.m51_stackbound.proofs.paths.note_all.Given as goal
+
+abbrev pub invariant-loop-point : goal.invariant-loop-point
+invariant-loop-point l = AreNexts l.layout l.image (take l.point-index l.points) l.depths l.nexts

@@ -1,0 +1,16 @@
+pub mod Above
+pub mod Bounds
+pub mod Climb
+pub mod Depths
+pub mod Instructions
+pub mod Laws
+pub mod Listed
+pub mod Listing
+pub mod Nexts
+pub mod Points
+pub mod Rules
+pub mod Search
+pub mod Totals
+pub mod Twice
+pub mod Units
+pub mod Sample

@@ -1,0 +1,102 @@
+//! Depths: how many bytes of stack a start and what it calls take at most.
+ghost use Rattle.std.specs.Prelude.{◌≡◌, ◌<◌, ◌≤◌, ℕ, length, slice_index, IfOk};
+ghost use Rattle.m51_stackbound.specs.Climb.{depth_in, depth_by, AreTaken, AreSettled, IsBlank, IsRaised, Raises};
+ghost use Rattle.m51_stackbound.specs.Points.{call_of};
+ghost use Rattle.m51_stackbound.specs.Rules.{rank};
+ghost use Rattle.m51_stackbound.specs.Search.{ArePoints};
+
+use crate::following::call_of;
+use crate::judging::rank;
+use crate::point::Point;
+use m51_cells::NoMemory;
+use m51_module::{Image, Layout, Start};
+use std::alloc::{AllocError, Global};
+
+// How many starts there may be.
+const STARTS: usize = 65537;
+
+/// The depth of a start in a table; 256 for each that is above 255.
+pub(crate) fn depth_in(depths: &[u16], start: Start) -> u16
+    requires { length depths.now ≡ 65537 }
+    ensures value { result ≡ depth_in depths.now start }
+    ensures most { ((i : ℕ) → i < length depths.now → slice_index depths.now i ≤ 256) → result ≤ 256 }
+{
+    depths[rank(start) as usize]
+}
+
+// What a point comes to: its height, or what its call makes of it.
+#[tactic(auto, unfolding(crate::specs::Climb::depth_by))]
+fn depth_by(depths: &[u16], point: &Point, called: Option<u16>) -> u16
+    requires len { length depths.now ≡ 65537 }
+    requires most { (i : ℕ) → i < length depths.now → slice_index depths.now i ≤ 256 }
+    ensures { result ≡ depth_by depths.now point.now called }
+{
+    let height = u16::from(point.height);
+    match called {
+        Some(to) => (height + 2 + depth_in(depths, Start::At(to))).min(256),
+        None => height.min(256),
+    }
+}
+
+// Raises the depth of a start, unless it is as great; whether it rose.
+fn raise(depths: &mut [u16], start: Start, depth: u16) -> bool
+    requires { length depths.old ≡ 65537 }
+    ensures raised { Raises start depth depths.old depths.new result }
+    ensures few { rank start < 65537 }
+{
+    let place = rank(start) as usize;
+    if depth <= depths[place] {
+        return false;
+    }
+    depths[place] = depth;
+    true
+}
+
+// Raises the depth of each start by each of its points; whether one rose.
+fn raise_all(layout: &Layout, image: &Image, points: &[Point], depths: &mut [u16]) -> bool
+    requires points { ArePoints layout.now image.now points.now }
+    requires depths { AreTaken layout.now image.now depths.old }
+    ensures { IsRaised layout.now image.now points.now depths.old depths.new result }
+{
+    let mut rose = false;
+    for point in points {
+        let depth = depth_by(depths, point, call_of(layout, image, point));
+        if raise(depths, point.start, depth) {
+            rose = true;
+        }
+    }
+    rose
+}
+
+// Raises depths until they are settled.
+fn settle(layout: &Layout, image: &Image, points: &[Point], depths: &mut [u16])
+    requires points { ArePoints layout.now image.now points.now }
+    requires depths { AreTaken layout.now image.now depths.old }
+    ensures { AreSettled layout.now image.now points.now depths.new }
+{
+    'climb: while raise_all(layout, image, points, depths) {}
+}
+
+// A table of zeros.
+#[tactic(auto, using(crate::proofs::Raised::blank))]
+fn blank_depths(alloc: Global, count: usize) -> Result<Vec<u16>, AllocError>
+    requires { count ≡ 65537 }
+    ensures { IfOk result (λ depths. IsBlank depths.items) }
+{
+    vec![in alloc; 0u16; count]
+}
+
+/// The depths of all starts.
+pub(crate) fn depths_of(
+    alloc: Global,
+    layout: &Layout,
+    image: &Image,
+    points: &[Point],
+) -> Result<Vec<u16>, NoMemory>
+    requires { ArePoints layout.now image.now points.now }
+    ensures { IfOk result (λ depths. AreSettled layout.now image.now points.now depths.items) }
+{
+    let mut depths = blank_depths(alloc, STARTS)?;
+    settle(layout, image, points, &mut depths);
+    Ok(depths)
+}

@@ -1,0 +1,9 @@
+pub mod Stacking
+pub mod Instructions
+pub mod Meeting
+pub mod Frames
+pub mod Judged
+pub mod Steps
+pub mod Running
+pub mod Bounded
+pub mod Reaching

@@ -1,0 +1,3 @@
+CSEG AT 0
+MOV P1,#1
+END

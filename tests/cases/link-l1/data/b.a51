@@ -1,0 +1,3 @@
+PUBLIC P
+P EQU 1
+END

@@ -1,0 +1,1 @@
+NOOVERLAY(?PR?F)

@@ -1,0 +1,5 @@
+CSEG AT 0
+SJMP $
+DSEG AT 7
+DS 1
+END

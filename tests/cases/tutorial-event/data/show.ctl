@@ -1,0 +1,2 @@
+; SHOW keeps LAST from one call to the next
+NOOVERLAY(?PR?SHOW)

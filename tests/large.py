@@ -29,6 +29,15 @@ def segments(count):
     return {'a.a51': lines('NOP', 'SJMP $', *[f'S{k} SEGMENT XDATA' for k in range(count)], 'END')}
 
 
+def procedures(count):
+    """A source whose reset calls so many procedures, each of which goes through the same 61,900 instructions."""
+    calls = [f'LCALL F{k}' for k in range(count)]
+    begins = [f'F{k}: NOP' for k in range(count)]
+    # DS leaves FFH, which is MOV R7,A.
+    unit = ['P SEGMENT CODE UNIT', 'RSEG P', 'MAIN: MOV SP,#30H', *calls, 'W: SJMP W', *begins, 'DS 61900', 'RET']
+    return ['stack', 'a.a51'], {'a.a51': lines('CSEG AT 0', 'LJMP MAIN', *unit, 'END')}
+
+
 def fixups(count):
     """A source with so many fixups of a byte, up to 120 in a line, in two segments."""
     rows = [min(120, count - at) for at in range(0, count, 120)]
@@ -143,6 +152,8 @@ CASES = [
     ('65,536 script lines', SCRIPTED, {'s': b'\n' * 65_536, **LOOP_SOURCE}, ends(0, LOOP)),
     ('65,537 script lines', SCRIPTED, {'s': b'\n' * 65_536 + b';', **LOOP_SOURCE},
      is_refused(7, 'LIMIT SCRIPTLINES 65536\n')),
+    ('990,000 points of a stack', *procedures(16), ends(0, 'STACK @0000 50 RESET,0038\nBOUND 32\n')),
+    ('1,052,000 points of a stack', *procedures(17), is_refused(7, 'LIMIT POINTS 1000000\n')),
     ('a file of 1,048,576 bytes', FLAT, {'a.hex': LOOP_HEX.ljust(1_048_576)}, ends(0, LOOP)),
     ('a file of 1,048,577 bytes', FLAT, {'a.hex': LOOP_HEX.ljust(1_048_577)}, is_refused(7, 'LIMIT BYTES 1048576\n')),
     ('a full library is listed', ['lib', 'list', 'l.lib'], full_library(),

@@ -5,6 +5,7 @@ use Rattle.std.specs.List.{list_any}
 use Rattle.std.specs.Str.{bytes_eq}
 use Rattle.std.proofs.lemmas.Bool.{or_parts}
 use Rattle.std.proofs.lemmas.Slice.Eq.{bytes_eq-Decides}
+use Rattle.m51_cells.proofs.ListsAndOptions.{map_none}
 use Rattle.m51_text.specs.Answer.{LineTree}
 use Rattle.m51_asm.specs.Definitions.{Definition, Defined, definitions_in, label_defined, defined_by, found_in, or_later, definition_from, definition_of}
 use Rattle.m51_asm.specs.Assignment.{body_of, body_at, defined_of, line_definitions}
@@ -14,10 +15,6 @@ use Rattle.m51_asm.proofs.Members.{In, Every, Pairs, in_cons, no_element, in_fir
 or_none : {A : Type 0} (x y : Option A) → or_here x y ≡ None → (x ≡ None) × (y ≡ None)
 or_none None y h = (refl, h)
 or_none (Some x) y h = absurd (cc h)
-
-map_none : {A B : Type 0} (f : A → B) (x : Option A) → option_map f x ≡ None → x ≡ None
-map_none f None h = refl
-map_none f (Some x) h = absurd (cc h)
 
 if_none : {A : Type 0} (b : Bool) (x : A) (o : Option A) → cond b (Some x) o ≡ None → (b ≡ false) × (o ≡ None)
 if_none true x o h = absurd (cc h)

@@ -1,6 +1,7 @@
 -- How the values of names grow with a line that repeats nothing.
 use Rattle.std.proofs.Common.{◌≡◌, ℕ, suc, ◌||◌, Bool, true, false, cond, List, [], ◌∷◌, ◌++◌, take, Option, Some, None, refl, ap, sym, ◌∙◌, option_map, slice_get}
 use Rattle.std.proofs.lemmas.Slice.Eq.{bytes_eq-Decides}
+use Rattle.std.proofs.lemmas.Bool.{or_parts}
 use Rattle.std.specs.Str.{bytes_eq}
 use Rattle.m51_expr.specs.declared.value.Value.{Value}
 use Rattle.m51_expr.specs.Meanings.{Meanings}
@@ -11,14 +12,6 @@ use Rattle.m51_asm.specs.Fitting.{set_by, last_set, externals_before, value_by}
 use Rattle.m51_asm.specs.Repeats.{clashes, or_here, earlier, repeats_from, repeats_a_name, is_repeated, publics_again, renames_module, publics_in}
 use Rattle.m51_asm.specs.ValuesAbove.{defined_value, value_above, or_kept}
 use Rattle.m51_asm.proofs.DefinedLines.{at_line, defined_more}
-
-or_left : (a b : Bool) → (a || b) ≡ false → a ≡ false
-or_left false b h = refl
-or_left true b h = h
-
-or_right : (a b : Bool) → (a || b) ≡ false → b ≡ false
-or_right false b h = h
-or_right true b h = absurd (cc h)
 
 -- a definition that clashes with none of two clashes with none of the first
 no_clash_first : (x y : Option Definition) (d : Definition) → clashes (or_here x y) d ≡ false → clashes x d ≡ false
@@ -37,8 +30,8 @@ pub no_clash_in : (lines : List LineTree) (k : ℕ) (before ds : List Defined) (
 no_clash_in lines k before [] name d h f = absurd (cc f)
 no_clash_in lines k before (e ∷ ds) name d h f =
     no_clash_step (bytes_eq name e.0) (λ t. (bytes_eq-Decides name e.0).0 t)
-    f (or_left (clashes (earlier lines k before e.0) e.1) (repeats_from lines k (before ++ e ∷ []) ds) h)
-    (λ g. no_clash_in lines k (before ++ e ∷ []) ds name d (or_right (clashes (earlier lines k before e.0) e.1) (repeats_from lines k (before ++ e ∷ []) ds) h) g)
+    f (or_parts (clashes (earlier lines k before e.0) e.1) (repeats_from lines k (before ++ e ∷ []) ds) h).0
+    (λ g. no_clash_in lines k (before ++ e ∷ []) ds name d (or_parts (clashes (earlier lines k before e.0) e.1) (repeats_from lines k (before ++ e ∷ []) ds) h).1 g)
   where
     no_clash_step : (b : Bool) → (b ≡ true → name ≡ e.0) → cond b (Some e.1) (found_in ds name) ≡ Some d
         → clashes (earlier lines k before e.0) e.1 ≡ false → (found_in ds name ≡ Some d → clashes (above_of lines k name) d ≡ false)
@@ -89,8 +82,8 @@ module _ (lines : List LineTree) (a : Assignment) (k : ℕ) (name : List ℕ) wh
   pub not_again : is_repeated lines k ≡ false → repeats_from lines k [] (line_definitions lines k) ≡ false
   unfolding is_repeated
   not_again h =
-      or_left (repeats_a_name lines k) (publics_again lines k [] (publics_in (body_at lines k)))
-      (or_left (repeats_a_name lines k || publics_again lines k [] (publics_in (body_at lines k))) (renames_module lines k) h)
+      let both = or_parts (repeats_a_name lines k || publics_again lines k [] (publics_in (body_at lines k))) (renames_module lines k) h in
+      (or_parts (repeats_a_name lines k) (publics_again lines k [] (publics_in (body_at lines k))) both.0).0
 
   pub grown : (line : LineTree) → slice_get lines k ≡ Some line → is_repeated lines k ≡ false
       → value_above lines a (suc k) name ≡ or_kept lines a k (found_in (line_definitions lines k) name) (value_above lines a k name)

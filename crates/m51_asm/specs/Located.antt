@@ -1,5 +1,5 @@
 -- Values over all segments of a text, and how an expression is evaluated over so many: the segments of its own names
--- are numbered for it alone, in a table of their ids.
+-- are numbered only for it, in a table of their ids.
 use Rattle.std.specs.Prelude.{◌≡◌, ℕ, ◌-◌, Bool, true, List, [], ◌∷◌, ◌++◌, is_some, length, ◌≤◌, slice_get}
 use Rattle.std.specs.Prelude.{unwrap_or, Option, Some, None, option_map, Result, Ok, Err, if◌then◌else◌}
 use Rattle.m51_cells.specs.declared.kind.Base.{Base}

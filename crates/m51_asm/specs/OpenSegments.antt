@@ -42,7 +42,7 @@ last_in last kind.Idata = option_map text_segment last.idata
 last_in last kind.Bits = option_map text_segment last.bits
 last_in last kind.Number = option_map text_segment last.number
 
--- the segment behind line k, by what the line says, where an RSEG names a declared segment or none
+-- the segment after line k, by what the line says, where an RSEG names a declared segment or none
 abbrev pub open_behind :
     ℕ → Meanings → (Kind → Option TextSegment) → Option TextSegment → TextSegment → BodyTree → TextSegment
 open_behind k names last named segment (Rseg name) = unwrap_or named segment

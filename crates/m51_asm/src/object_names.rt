@@ -15,7 +15,7 @@ use crate::values::{Located, Origin};
 use crate::values_at::ValuesAt;
 use m51_cells::{Base, Name, is_absolute};
 use m51_expr::{Lookup, Value};
-use m51_module::Segment;
+use m51_module::{Segment, segment_numbered};
 
 // The base with the number that its segment has in the module.
 fn object_base(numbers: &[u8], origin: Origin) -> Base
@@ -47,16 +47,6 @@ pub(crate) fn object_value_of(numbers: &[u8], value: Option<Located>) -> Option<
         Some(value) => Some(object_value(numbers, value)),
         None => None,
     }
-}
-
-// The segment of a number, counted from 1.
-fn numbered(segments: &[Segment], number: u8) -> Option<Segment>
-    ensures { result ≡ numbered segments.now number }
-{
-    if number == 0 {
-        return None;
-    }
-    segments.get(usize::from(number) - 1).copied()
 }
 
 // Whether a segment is absolute, also one that the module does not have.
@@ -114,11 +104,11 @@ impl<'a> Lookup for ObjectNames<'a> {
     }
 
     fn fixed(&self, segment: u8) -> bool {
-        is_fixed(numbered(self.numbering.segments.as_slice(), segment))
+        is_fixed(segment_numbered(self.numbering.segments.as_slice(), segment))
     }
 
     fn bitaddressable(&self, segment: u8) -> bool {
-        has_bits(numbered(self.numbering.segments.as_slice(), segment))
+        has_bits(segment_numbered(self.numbering.segments.as_slice(), segment))
     }
 }
 

@@ -1,5 +1,5 @@
-//! Tests that cross crates: the way from objects to a graph, edits, arguments, devices and the monitor. It is no part
-//! of the product.
+//! Tests that cross crates: the way from objects to a graph, edits, arguments, devices, the monitor and boards on
+//! one line. It is no part of the product.
 #![tactic(auto)]
 
 #[cfg(test)]
@@ -16,5 +16,7 @@ mod monitor_run;
 mod monitor_table;
 #[cfg(test)]
 mod objects;
+#[cfg(test)]
+mod parties;
 #[cfg(test)]
 mod words;

@@ -6,3 +6,4 @@ pub mod NameLaws
 pub mod Padding
 pub mod Passing
 pub mod Small
+pub mod ListsAndOptions

@@ -1,13 +1,13 @@
 -- What a call answers that may want memory.
 use Rattle.std.specs.Prelude.{◌≡◌, Option, Some, None, Result, Ok, Err}
 
--- An error is the refusal that the definition gives; want of memory, which has no refusal, says nothing.
+-- An error is the refusal that the definition gives; out of memory, which has no refusal, says nothing.
 abbrev pub RefusesWith : {V R : Type 0} → Option R → Result V R → Type 0
 RefusesWith None answer = Unit {0}
 RefusesWith (Some refusal) answer = answer ≡ Err refusal
 
--- The call answers what the definition does, want of memory aside: view is what contracts see of its value, and
--- refusal sends an error to the definition's refusal, or to none for want of memory.
+-- The call answers what the definition does, out of memory aside: view is what contracts see of its value, and
+-- refusal sends an error to the definition's refusal, or to none for out of memory.
 abbrev pub Gives : {T V E R : Type 0} → (T → V) → (E → Option R) → Result T E → Result V R → Type 0
 Gives view refusal (Ok value) answer = answer ≡ Ok (view value)
 Gives view refusal (Err error) answer = RefusesWith (refusal error) answer

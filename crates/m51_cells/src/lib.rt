@@ -35,7 +35,7 @@ pub use limits::{
     MOST_POINTS, MOST_RETURN_RECORDS, MOST_SCRIPT_LINES, MOST_SEGMENTS, MOST_SOURCE_LINES,
     MOST_STEPS, MOST_UNITS,
 };
-pub use list::{Bytes, ListOf, Names};
+pub use list::{Bytes, ListOf, Names, copy_of};
 pub use memory::NoMemory;
 pub use name::{LONGEST, Name, is_name_byte};
 

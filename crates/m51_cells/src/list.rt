@@ -1,5 +1,5 @@
 //! Lists in types that contracts compare.
-ghost use Rattle.std.specs.Prelude.{◌≡◌, ◌==◌, [], ◌∷◌, ◌++◌, length, OnOk, OnErr};
+ghost use Rattle.std.specs.Prelude.{◌≡◌, ◌==◌, [], ◌∷◌, ◌++◌, length, IfOk, OnOk, OnErr};
 
 use crate::{Name, NoMemory};
 use std::alloc::Global;
@@ -100,6 +100,17 @@ impl<T> ListOf<T> {
 ///
 /// Source: own choice ("Lists in types").
 pub type Bytes = ListOf<u8>;
+
+/// A copy of these bytes.
+///
+/// Error: out of memory.
+///
+/// Source: own choice ("Lists in types").
+pub fn copy_of(alloc: Global, bytes: &[u8]) -> Result<Bytes, NoMemory>
+    ensures { IfOk result (λ copy. copy ≡ bytes.now) }
+{
+    Ok(Bytes::of(Vec::from_slice(alloc, bytes)?))
+}
 
 /// Names, which contracts see as a list.
 ///

@@ -1,5 +1,7 @@
 //! What no clause says: that the written rules are those of the guides.
-use crate::{Extent, Kind, ListOf, Name, Names, Reloc, Space, cells_of, fits, lines, meets};
+use crate::{
+    Extent, Kind, ListOf, Name, Names, Reloc, Space, cells_of, copy_of, fits, lines, meets,
+};
 use std::test::Fail;
 
 #[test]
@@ -24,6 +26,8 @@ fn a_list_gives_its_items_back(rt: HostRuntime) -> Result<(), Fail> {
     assert_eq!(rt; names.as_slice(), [name].as_slice());
     let items = names.into_vec();
     assert_eq!(rt; items.as_slice(), [name].as_slice());
+    let bytes = copy_of(rt.alloc(), b"P1")?;
+    assert_eq!(rt; bytes.as_slice(), b"P1".as_slice());
     Ok(())
 }
 

@@ -1,25 +1,21 @@
 -- Answers as they are carried out.
-use Rattle.std.proofs.Common.{◌≡◌, ℕ, ◌≤◌, List, ◌++◌, Option, Result, Ok, Err, refl, arith}
+use Rattle.std.proofs.Common.{◌≡◌, ℕ, ◌≤◌, List, ◌++◌, Result, Ok, Err, refl, arith}
 use Rattle.std.specs.Io.KnownBytes.{Appends}
 use Rattle.std.proofs.KnownBytes.{Appends-trans}
-use Rattle.m51_cells.specs.Outside.{Rose, AppendsFront}
+use Rattle.m51_cells.specs.Outside.{Rose}
 use Rattle.m51_cells.proofs.Fronts.{front_at_end}
 use Rattle.m51_sim.specs.declared.runs.RunEnd.{RunEnd}
 use Rattle.m51_sim.specs.declared.runs.RunEnd.TheVariants as ends
 use Rattle.m51_sim.specs.declared.sink.Failed.{Failed}
 use Rattle.m51_sim.specs.Run.{Ended, record_text}
 use Rattle.m51_sim.specs.Runs.{Machine, State, record_of}
-use Rattle.m51_sim.specs.Writing.{SinkState, StopsWithin}
+use Rattle.m51_sim.specs.Writing.{SinkState}
 use Rattle.m51_chain.specs.declared.status.Status.{Status}
 use Rattle.m51_chain.specs.declared.status.Status.TheVariants as status
 use Rattle.m51_chain.specs.Outside.{KeepAt}
 use Rattle.m51_chain.specs.Outcome.{Answer, status_after, status_by}
 use Rattle.m51_chain.specs.Targets.{unkept_text}
 use Rattle.m51_chain.specs.Carried.{status_told, IsKept, IsWritten, IsEnded, IsUnkept, Whole, Cut, Unkept, UnkeptCut}
-
--- bytes that lack their last one are a front
-pub front_of_short : (a b : Option (List ℕ)) (xs : List ℕ) → StopsWithin a b xs → AppendsFront a b xs
-front_of_short a b xs q = (q.0, omega (arith, q.1), q.2)
 
 -- a text that was written, and then another
 pub written_after : (status : Status) (front text : List ℕ) (before between after : SinkState) (result : Result Status Failed)

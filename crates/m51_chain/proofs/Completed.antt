@@ -5,7 +5,7 @@ use Rattle.m51_words.specs.declared.job.Job.{Job}
 use Rattle.m51_words.specs.Files.{file_count, name_kept, names_read}
 use Rattle.m51_chain.specs.declared.status.Status.{Status}
 use Rattle.m51_chain.specs.declared.status.Status.TheVariants as status
-use Rattle.m51_chain.specs.Asked.{asked_of}
+use Rattle.m51_words.specs.Jobs.{job_of}
 use Rattle.m51_chain.specs.Carried as carried
 use Rattle.m51_chain.specs.Complete.{Completed, IsComplete, IsUnfailed}
 use Rattle.m51_chain.specs.Expected as answers
@@ -34,7 +34,7 @@ abbrev ByAsked : Files → Option Job → Answer → Type 0
 ByAsked files None answer = answer ≡ usage_answer
 ByAsked files (Some job) answer = ByJob files job answer
 
-by_asked : (words : List (List ℕ)) (files : Files) (answer : Answer) → IsAnswer words files answer → ByAsked files (asked_of words) answer
+by_asked : (words : List (List ℕ)) (files : Files) (answer : Answer) → IsAnswer words files answer → ByAsked files (job_of words) answer
 by_asked words files answer (answers.Faulty none is) = rw none is
 by_asked words files answer (answers.Many job asked many is) = rw asked (inl (many, is))
 by_asked words files answer (answers.NoFile job name asked few absent is) = rw asked (inr (few, rw absent is))
@@ -55,7 +55,7 @@ one_asked files (Some job) a b (inr few) (inl many) = absurd (omega (arith, many
 one_asked files (Some job) a b (inr few) (inr less) = one_reading job (read_of files (names_read job)) a b few.1 less.1
 
 one_answer : (words : List (List ℕ)) (files : Files) (a b : Answer) → IsAnswer words files a → IsAnswer words files b → a ≡ b
-one_answer words files a b h k = one_asked files (asked_of words) a b (by_asked words files a h) (by_asked words files b k)
+one_answer words files a b h k = one_asked files (job_of words) a b (by_asked words files a h) (by_asked words files b k)
 
 -- an answer that ended without a failed call is kept and written whole
 whole : (answer : Answer) (c : Change) (told : Status) → IsUnfailed c → Ended answer c told → Written answer c told

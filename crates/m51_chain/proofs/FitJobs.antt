@@ -1,26 +1,23 @@
--- A job of asm has one source, and one of gen makes 1 to 100 units.
-use Rattle.std.proofs.Common.{◌≡◌, ◌≤◌, nat_le, take, inl, inr, ℕ, Bool, true, false, cond, List, [], ◌∷◌, Option, Some, None, refl, subst}
+-- A job of asm has one source, one of gen makes 1 to 100 units, and one of party has 2 to 8 sources.
+use Rattle.std.proofs.Common.{◌≡◌, ◌≤◌, take, ℕ, Bool, true, false, cond, List, [], ◌∷◌, Option, Some, None, refl, subst}
 use Rattle.std.specs.Prelude.{option_map, option_and_then, count_by, ◌==◌, codes}
 use Rattle.std.specs.Str.{bytes_eq}
 use Rattle.std.specs.Str.Parse.{digits_value}
-use Rattle.std.proofs.lemmas.Bool.Decides.{leb_tells}
 use Rattle.std.proofs.lemmas.Option.{cond_some}
-use Rattle.std.proofs.lemmas.Bool.{and_parts, eqb-true}
+use Rattle.std.proofs.lemmas.Bool.{and_parts, eqb-true, leb-true}
 use Rattle.clap.specs.Words.{App, Row}
 use Rattle.m51_words.specs.declared.job.Job.{Job}
 use Rattle.m51_words.specs.declared.job.Job.TheVariants.{Build, Asm, Library, Flat, Gen, Dis, Stack, Party}
 use Rattle.m51_words.specs.Numbers.{number_of, start_of, units_of}
-use Rattle.m51_words.specs.Endings.{are_assembled, is_source}
+use Rattle.m51_words.specs.Endings.{are_assembled, are_boards, is_source}
 use Rattle.m51_words.specs.Commands.{build_app, asm_app, lib_app, flat_app, gen_app, dis_app, stack_app, party_app, rows_in, value_of, words_of}
-use Rattle.m51_words.specs.Jobs.{asked, asm_files, asm_of, asm_with, gen_with, steps_in, build_of, lib_of, flat_of, gen_of, link_of, party_of, job_by, job_of}
-use Rattle.m51_chain.specs.Asked.{IsFit, is_built}
+use Rattle.m51_words.specs.Jobs.{asked, asm_files, asm_of, asm_with, gen_with, steps_in, build_of, lib_of, flat_of, gen_of, link_of, party_files, party_of, party_with, job_by, job_of}
+use Rattle.m51_chain.specs.Asked.{IsFit}
 
--- what is known of such jobs
+-- what is known of a job, if there is one
 abbrev HasOne : Option Job → Type 0
 HasOne None = Unit {0}
-HasOne (Some (Asm job)) = count_by is_source job.files ≡ 1
-HasOne (Some (Gen job)) = (1 ≤ job.units) × (job.units ≤ 100)
-HasOne (Some job) = Unit {0}
+HasOne (Some job) = IsFit job
 
 is_one : (n : ℕ) → (n == 1) ≡ true → n ≡ 1
 is_one n h = eqb-true n 1 h
@@ -44,12 +41,20 @@ unfolding asm_of
 asm_rows None = tt
 asm_rows (Some rows) = asm_words rows (words_of rows)
 
-le_of : (a b : ℕ) → nat_le a b ≡ true → a ≤ b
-le_of a b h =
-    elim (leb_tells a b) [
-      | inl holds ↦ holds.1
-      | inr fails ↦ absurd (cc (h, fails.0))
-    ]
+party_one : (b : Bool) (rows : List Row) (files : List (List ℕ)) (steps : Option ℕ) → are_boards files ≡ b
+    → HasOne (option_map Party (cond b (option_map (party_with rows files) steps) None))
+party_one false rows files steps is = tt
+party_one true rows files None is = tt
+party_one true rows files (Some n) is = is
+
+party_words : (rows : List Row) (words : Option (List (List ℕ))) → HasOne (option_map Party (option_and_then (party_files rows) words))
+party_words rows None = tt
+party_words rows (Some files) = party_one (are_boards files) rows files _ refl
+
+party_rows : (rows : Option (List Row)) → HasOne (option_map Party (option_and_then party_of rows))
+unfolding party_of
+party_rows None = tt
+party_rows (Some rows) = party_words rows (words_of rows)
 
 number_within : (most low high : ℕ) (text : List ℕ) (n : ℕ) → number_of most low high text ≡ Some n → (low ≤ n) × (n ≤ high)
 unfolding number_of
@@ -57,7 +62,7 @@ number_within most low high text n h =
     let found = cond_some _ _ n h in
     let last = and_parts _ _ found.0 in
     let first = and_parts _ _ last.0 in
-    rw (← found.1) (le_of low (digits_value 10 text) first.1, le_of (digits_value 10 text) high last.1)
+    rw (← found.1) (leb-true low (digits_value 10 text) first.1, leb-true (digits_value 10 text) high last.1)
 
 test_within : (b : Bool) (text : List ℕ) (n : ℕ) → cond b None (number_of 3 1 100 text) ≡ Some n → (1 ≤ n) × (n ≤ 100)
 test_within true text n h = absurd (cc h)
@@ -132,7 +137,7 @@ verbs_one words =
       other_one dis_app link_of Dis words (λ job. tt),
       (
         other_one stack_app link_of Stack words (λ job. tt),
-        (other_one party_app party_of Party words (λ job. tt), tt),
+        (party_rows (rows_in party_app words), tt),
       ),
     ) in
     let after_asm : AreOne (from_lib words) = (
@@ -149,16 +154,5 @@ unfolding job_by
 words_one [] = tt
 words_one (verb ∷ words) = first_one verb (verbs_of (verb ∷ words)) (verbs_one (verb ∷ words))
 
--- what is built of these is fit
-built_fit : (job : Job) → HasOne (Some job) → is_built job ≡ true → IsFit job
-built_fit (Build job) one built = tt
-built_fit (Asm job) one built = one
-built_fit (Library job) one built = tt
-built_fit (Flat job) one built = tt
-built_fit (Gen job) one built = one
-built_fit (Dis job) one built = tt
-built_fit (Stack job) one built = tt
-built_fit (Party job) one built = absurd (cc built)
-
-pub asked_fit : (words : List (List ℕ)) (job : Job) → job_of words ≡ Some job → is_built job ≡ true → IsFit job
-asked_fit words job asked built = built_fit job (subst HasOne asked (words_one words)) built
+pub asked_fit : (words : List (List ℕ)) (job : Job) → job_of words ≡ Some job → IsFit job
+asked_fit words job asked = subst HasOne asked (words_one words)

@@ -10,9 +10,9 @@ use Rattle.m51_script.specs.declared.script.Script.{Script}
 use Rattle.m51_chain.specs.declared.linking.LinkedFiles.{LinkedFiles}
 use Rattle.m51_chain.specs.declared.work.Stop.{Stop}
 use Rattle.m51_chain.specs.declared.work.Stop.TheVariants as stop
-use Rattle.m51_chain.specs.Linking.{AreLinked, AreRefused, Follows, IsInputsOutcome, IsLinkedOr, IsLinkedOutcome, IsProgramOutcome, Nothing, Unlinked, program_in}
-use Rattle.m51_chain.specs.Outcome.{Comes, Outcome, refused}
-use Rattle.m51_chain.specs.ProgramFiles.{AreAnswered, Given, IsGivenOutcome, ProgramFiles, Refused}
+use Rattle.m51_chain.specs.Linking.{AreLinked, AreRefused, Follows, IsInputsOutcome, IsLinkedOr, IsLinkedOutcome, IsProgramOutcome, Unlinked, program_in}
+use Rattle.m51_chain.specs.Outcome.{Comes, Outcome, refused, stopped}
+use Rattle.m51_chain.specs.ProgramFiles.{AreAnswered, Given, IsFilesOutcome, IsGivenOutcome, Nothing, ProgramFiles, Refused}
 
 -- what the exit of a `?` returns, where the error stays
 pub came : {T : Type 0} (result : Result T Stop) (why : Stop) → IsErrAnd result (λ e. e ≡ why) → result ≡ Err why
@@ -46,6 +46,26 @@ files_refused files contents Is stop.Memory h = tt
 files_refused files contents Is (stop.Refused why text) h =
     let it : IsLinkedOutcome files contents (λ script. Nothing) (refused why text) = h in
     record { given = it.given; answer = it.answer; is = ungiven files Is it.given (refused why text) it.is }
+
+-- what comes of the files of which one is refused, whatever would come of what they give
+unfiled : (files : ProgramFiles) (Is : InputsTree → Outcome → Type 0) (given : Result InputsTree InputError) (outcome : Outcome)
+    → IsGivenOutcome files Nothing given outcome → IsGivenOutcome files Is given outcome
+unfiled files Is given outcome (Refused error refuses is) = Refused error refuses is
+unfiled files Is given outcome (Given inputs is none) = absurd none
+
+file_refused : (files : ProgramFiles) (contents : List (List ℕ)) (Is : InputsTree → Outcome → Type 0) (outcome : Outcome)
+    → IsFilesOutcome files contents Nothing outcome → IsFilesOutcome files contents Is outcome
+file_refused files contents Is outcome h = record { given = h.given; answer = h.answer; is = unfiled files Is h.given outcome h.is }
+
+pub file_stops : (files : ProgramFiles) (contents : List (List ℕ)) (Is : InputsTree → Outcome → Type 0) (why : Stop)
+    → IfSome (stopped why) (IsFilesOutcome files contents Nothing) → Comes (IsFilesOutcome files contents Is) (Err why)
+file_stops files contents Is stop.Memory h = tt
+file_stops files contents Is (stop.Refused why text) h = file_refused files contents Is (refused why text) h
+
+pub inputs_refused : (files : ProgramFiles) (contents : List (List ℕ)) (why : Stop) → IfSome (stopped why) (IsFilesOutcome files contents Nothing)
+    → AreRefused files contents why
+inputs_refused files contents stop.Memory h = tt
+inputs_refused files contents (stop.Refused why text) h = file_refused files contents (IsInputsOutcome (λ script. Nothing)) (refused why text) h
 
 -- a link that is refused refuses the files
 pub link_refused : (files : ProgramFiles) (contents : List (List ℕ)) (inputs : InputsTree) (why : Stop) → AreAnswered files contents (Ok inputs)

@@ -11,6 +11,8 @@ pub mod Ends
 pub mod Edits
 pub mod FitJobs
 pub mod InputsGiven
+pub mod Accepted
+pub mod Joined
 pub mod OneRuns
 pub mod OneChains
 pub mod OneOutcome

@@ -1,7 +1,7 @@
 -- A job and its contents have one outcome.
-use Rattle.std.proofs.Common.{◌≡◌, ℕ, List, [], ◌∷◌, length, Option, Result, Ok, Err, sym, ap, ◌∙◌, subst}
+use Rattle.std.proofs.Common.{◌≡◌, ℕ, List, [], ◌∷◌, length, Option, None, Result, Err, sym, ap, ◌∙◌, subst}
 use Rattle.std.proofs.lemmas.List.{ext_get_or}
-use Rattle.m51_asm.specs.Answer.{AnswerTree, IsAnswer}
+use Rattle.m51_asm.specs.Answer.{AnswerTree}
 use Rattle.m51_asm.proofs.OneAnswer.{one_answer as one_text}
 use Rattle.m51_hex.specs.Memory.{memory_in}
 use Rattle.m51_inputs.specs.declared.error.InputError.{InputError}
@@ -15,7 +15,11 @@ use Rattle.m51_module.specs.declared.linked.Refusal.{Refusal}
 use Rattle.m51_module.specs.declared.linked.Run.{Run}
 use Rattle.m51_module.specs.declared.parts.LayoutParts.{LayoutParts}
 use Rattle.m51_module.specs.declared.source.SourceFile.{SourceFile}
+use Rattle.m51_party.specs.Family.{Family}
+use Rattle.m51_party.specs.Report.{has_event}
+use Rattle.m51_party.proofs.SameBoards.{AllAlike, AreAlike, family_alike, text_alike}
 use Rattle.m51_script.specs.declared.script.Script.{Script}
+use Rattle.m51_sim.specs.Boards.{BoardState, IsStarted}
 use Rattle.m51_stackbound.proofs.Unique.{answer_is_unique}
 use Rattle.m51_text.specs.Answer.{text_of}
 use Rattle.m51_words.specs.declared.job.FlatJob.{FlatJob}
@@ -33,19 +37,20 @@ use Rattle.m51_chain.specs.FlatRuns.{IsFlatOutcome, IsFlatWork, IsScripted, flat
 use Rattle.m51_chain.specs.InputRefusals.{input_outcome, script_outcome}
 use Rattle.m51_chain.specs.Linking.{Follows, IsInputsOutcome, IsLinkedOutcome, IsProgramOutcome, Unlinked, link_outcome, program_in}
 use Rattle.m51_chain.specs.Optional.{content_if}
-use Rattle.m51_chain.specs.Outcome.{Outcome}
+use Rattle.m51_chain.specs.Outcome.{Outcome, status_if}
+use Rattle.m51_chain.specs.Parties as parties
+use Rattle.m51_chain.specs.Parties.{AreBoardsOf, IsBoardOf, IsPartyReport, IsPartyWork, party_files, party_report}
 use Rattle.m51_chain.specs.Refusals.{hex_outcome}
-use Rattle.m51_chain.specs.ProgramFiles.{Given, IsGivenOutcome, ProgramFiles, Refused, control_content, script_content, word_contents}
+use Rattle.m51_chain.specs.ProgramFiles.{Given, IsFilesOutcome, IsGivenOutcome, ProgramFiles, Refused, control_content, script_content, word_contents}
 use Rattle.m51_chain.specs.Programs.{IsReport, program_report}
 use Rattle.m51_chain.specs.Verbs.{IsOutcome}
+use Rattle.m51_chain.proofs.Accepted.{ok_same}
+use Rattle.m51_chain.proofs.Joined.{all_fresh}
 use Rattle.m51_chain.proofs.OneChains.{one_heaviest}
 use Rattle.m51_chain.proofs.OneRuns.{one_image, one_roots, one_runs}
 
 err_same : {A E : Type 0} (r : Result A E) (x y : E) → r ≡ Err x → r ≡ Err y → x ≡ y
 err_same r x y h k = cc (h, k)
-
-ok_same : {A E : Type 0} (r : Result A E) (x y : A) → r ≡ Ok x → r ≡ Ok y → x ≡ y
-ok_same r x y h k = cc (h, k)
 
 abbrev linked_of : LayoutParts → List ℕ → List Run → List ℕ → Linked
 linked_of layout image written roots = record { layout = layout; image = image; written = written; roots = roots }
@@ -82,15 +87,20 @@ one_given files Is given a b only (Given inputs is one) (Refused e also two) = a
 one_given files Is given a b only (Given inputs is one) (Given others also two) =
     only others a b (subst (λ i. Is i a) (ok_same _ inputs others is also) one) two
 
+one_answered_files : (files : ProgramFiles) (contents : List (List ℕ)) (Is : InputsTree → Outcome → Type 0) (a b : Outcome)
+    → ((inputs : InputsTree) (x y : Outcome) → Is inputs x → Is inputs y → x ≡ y)
+    → IsFilesOutcome files contents Is a → IsFilesOutcome files contents Is b → a ≡ b
+one_answered_files files contents Is a b only h k =
+    let one = one_for_files one_text files.words (word_contents files contents) (control_content files contents) (script_content files contents) in
+    let same : h.given ≡ k.given = one.only h.given h.answer ∙ sym (one.only k.given k.answer) in
+    one_given files Is k.given a b only (subst (λ g. IsGivenOutcome files Is g a) same h.is) k.is
+
 one_files : (files : ProgramFiles) (contents : List (List ℕ)) (Is : Script → Linked → Outcome → Type 0) (a b : Outcome)
     → ((script : Script) (linked : Linked) (x y : Outcome) → Is script linked x → Is script linked y → x ≡ y)
     → IsLinkedOutcome files contents Is a → IsLinkedOutcome files contents Is b → a ≡ b
 one_files files contents Is a b only h k =
-    let one = one_for_files one_text files.words (word_contents files contents) (control_content files contents) (script_content files contents) in
-    let same : h.given ≡ k.given = one.only h.given h.answer ∙ sym (one.only k.given k.answer) in
-    one_given files (IsInputsOutcome Is) k.given a b
-    (λ inputs x y. one_program (program_in inputs) (Is inputs.script) x y (only inputs.script))
-    (subst (λ g. IsGivenOutcome files (IsInputsOutcome Is) g a) same h.is) k.is
+    one_answered_files files contents (IsInputsOutcome Is) a b
+    (λ inputs x y. one_program (program_in inputs) (Is inputs.script) x y (only inputs.script)) h k
 
 one_report : (linked : Linked) (hex : Option (List ℕ)) (script : Script) (steps : ℕ) (a b : Outcome) → IsReport linked hex script steps a
     → IsReport linked hex script steps b → a ≡ b
@@ -151,6 +161,46 @@ one_generated job a b h k =
     let same : h.answer ≡ k.answer = one.only h.answer h.answered ∙ sym (one.only k.answer k.answered) in
     one_answered source job.steps k.answer a b (subst (λ x. IsGenerated source job.steps x a) same h.is) k.is
 
+-- boards of the same program and script
+one_board : (script : Script) (p : Program) (b c : BoardState) → IsBoardOf script p b → IsBoardOf script p c → AreAlike b c
+one_board script p b c h k =
+    let same : h.linked ≡ k.linked = one_linked p h.linked k.linked h.is k.is in
+    let started : IsStarted k.linked.layout k.linked.image script b = subst (λ l. IsStarted l.layout l.image script b) same h.started in
+    record {
+      layout = started.layout_is ∙ sym k.started.layout_is;
+      image = started.image_is ∙ sym k.started.image_is;
+      script = started.script_is ∙ sym k.started.script_is;
+      state = started.state ∙ sym k.started.state;
+    }
+
+one_for_each : (script : Script) (ps : List Program) (bs cs : List BoardState) → AreBoardsOf script ps bs → AreBoardsOf script ps cs → AllAlike bs cs
+one_for_each script [] [] [] h k = tt
+one_for_each script (p ∷ ps) (b ∷ bs) (c ∷ cs) h k = (one_board script p b c h.0 k.0, one_for_each script ps bs cs h.1 k.1)
+one_for_each script [] (b ∷ bs) cs h k = absurd h
+one_for_each script [] [] (c ∷ cs) h k = absurd k
+one_for_each script (p ∷ ps) [] cs h k = absurd h
+one_for_each script (p ∷ ps) (b ∷ bs) [] h k = absurd k
+
+one_joined : (script : Script) (ps : List Program) (bs cs : List BoardState) (steps : ℕ) (a b : Outcome) → AreBoardsOf script ps bs → AreBoardsOf script ps cs
+    → IsPartyReport bs steps a → IsPartyReport cs steps b → a ≡ b
+one_joined script ps bs cs steps a b h k one two =
+    let alike : AllAlike bs cs = one_for_each script ps bs cs h k in
+    let family : one.family ≡ two.family = family_alike bs cs steps one.family two.family alike (all_fresh script ps cs k) one.belongs two.belongs in
+    one.is ∙ ap (party_report bs steps) family
+    ∙ ap (λ text. report_with two.family text) (text_alike bs cs steps two.family alike) ∙ sym two.is
+  where
+    report_with : Family → List ℕ → Outcome
+    report_with family text = record { status = status_if (has_event family); text = text; keeps = None }
+
+one_party : (steps : ℕ) (inputs : InputsTree) (a b : Outcome) → IsPartyWork steps inputs a → IsPartyWork steps inputs b → a ≡ b
+one_party steps inputs a b (parties.Unlinked why is one) (parties.Unlinked other also two) =
+    one ∙ ap link_outcome (err_same _ why other is also) ∙ sym two
+one_party steps inputs a b (parties.Unlinked why is one) (parties.Ran ps bs also are two) = absurd (cc (is, also))
+one_party steps inputs a b (parties.Ran ps bs is are one) (parties.Unlinked why also two) = absurd (cc (is, also))
+one_party steps inputs a b (parties.Ran ps bs is are one) (parties.Ran qs cs also bre two) =
+    let same : ps ≡ qs = ok_same _ ps qs is also in
+    one_joined inputs.script qs bs cs steps a b (subst (λ x. AreBoardsOf inputs.script x bs) same are) bre one two
+
 pub one_outcome : (job : Job) (contents : List (List ℕ)) (a b : Outcome) → IsOutcome job contents a → IsOutcome job contents b → a ≡ b
 one_outcome (jobs.Build job) contents a b h k =
     one_files (build_files job) contents (λ script linked. IsReport linked job.hex script job.steps) a b
@@ -163,4 +213,4 @@ one_outcome (jobs.Dis job) contents a b h k =
     one_files (link_files job) contents (λ script. IsDisassembled) a b (λ script linked x y i j. i ∙ sym j) h k
 one_outcome (jobs.Stack job) contents a b h k =
     one_files (link_files job) contents (λ script. IsBounded) a b (λ script. one_bounded) h k
-one_outcome (jobs.Party job) contents a b h k = absurd h
+one_outcome (jobs.Party job) contents a b h k = one_answered_files (party_files job) contents (IsPartyWork job.steps) a b (one_party job.steps) h k

@@ -1,5 +1,5 @@
 -- Plans for work, and for what the shelf did.
-use Rattle.std.proofs.Common.{◌≡◌, ℕ, List, Option, Some, None, Result, Ok, Err, refl, ap, ◌∙◌}
+use Rattle.std.proofs.Common.{◌≡◌, ℕ, Bool, true, false, List, Option, Some, None, Result, Ok, Err, refl, ap, ◌∙◌}
 use Rattle.std.specs.Prelude.{IfOk}
 use Rattle.m51_cells.specs.declared.memory.NoMemory.{NoMemory}
 use Rattle.m51_words.specs.declared.job.Job.{Job}
@@ -15,12 +15,16 @@ use Rattle.m51_chain.specs.declared.work.Stop.TheVariants as stop
 use Rattle.m51_cells.specs.declared.event.Event.{Event}
 use Rattle.m51_chain.specs.Due.{IsPlanned}
 use Rattle.m51_chain.specs.Expected.{HasOutcome, MayKeep}
-use Rattle.m51_chain.specs.Outcome.{Comes, answer_of, named_answer, outcome_of, refused, status_at, status_by, status_of}
+use Rattle.m51_chain.specs.Outcome.{Comes, answer_of, named_answer, outcome_of, refused, status_at, status_by, status_if, status_of}
 use Rattle.m51_chain.specs.Verbs.{IsOutcome}
 
 may_by : (event : Option Event) (keeps : Option (List ℕ)) → MayKeep (status_by event) keeps
 may_by None keeps = tt
 may_by (Some event) keeps = tt
+
+may_if : (event : Bool) (keeps : Option (List ℕ)) → MayKeep (status_if event) keeps
+may_if false keeps = tt
+may_if true keeps = tt
 
 may_end : (e : Ending) (keeps : Option (List ℕ)) → MayKeep (status_at e) keeps
 unfolding status_at
@@ -28,6 +32,7 @@ may_end ending.Ran keeps = tt
 may_end ending.Event keeps = tt
 may_end (ending.Run board steps) keeps = may_by _ keeps
 may_end (ending.FlatRun board steps) keeps = may_by _ keeps
+may_end (ending.Party boards steps) keeps = may_if _ keeps
 
 may_refuse : (why : Reason) → MayKeep (status_of why) None
 may_refuse reason.Source = refl

@@ -8,7 +8,7 @@ use Rattle.m51_chain.specs.declared.work.Finished.{Finished}
 use Rattle.m51_chain.specs.declared.work.Plan.{Plan}
 use Rattle.m51_chain.specs.declared.work.Stop.{Stop}
 use Rattle.m51_chain.specs.declared.work.Stop.TheVariants as stop
-use Rattle.m51_chain.specs.Asked.{asked_of}
+use Rattle.m51_words.specs.Jobs.{job_of}
 use Rattle.m51_chain.specs.Shelf.{Files}
 use Rattle.m51_chain.specs.Outside.{ReadAt, HasFailed}
 use Rattle.m51_chain.specs.Outcome.{Answer, answer_of, outcome_of, refused, named_answer}
@@ -40,14 +40,14 @@ pub data IsDueFor (job : Job) (holds : Option Files) (before after : ReadAt) (an
 
 -- The answer is due for these words: they are faulty, or it is due for their job.
 pub data IsDue (words : List (List ℕ)) (holds : Option Files) (before after : ReadAt) (answer : Answer) : Type 0 where
-  Faulty : asked_of words ≡ None → answer ≡ usage_answer → IsDue words holds before after answer
-  Asked : (job : Job) → asked_of words ≡ Some job → IsDueFor job holds before after answer
+  Faulty : job_of words ≡ None → answer ≡ usage_answer → IsDue words holds before after answer
+  Asked : (job : Job) → job_of words ≡ Some job → IsDueFor job holds before after answer
       → IsDue words holds before after answer
 
 -- The files that the words name were started, as far as it came, and no other.
 pub record ReadsOnly (words : List (List ℕ)) (before after : ReadAt) : Type 0 where
   pub job : Job
-  pub asked : asked_of words ≡ Some job
+  pub asked : job_of words ≡ Some job
   pub few : file_count job ≤ MOST_FILES
   pub reads : ReadsSome (names_read job) before after
 

@@ -5,7 +5,7 @@ use Rattle.m51_words.specs.declared.job.Job.{Job}
 use Rattle.m51_words.specs.Files.{file_count, names_read, name_kept}
 use Rattle.m51_chain.specs.declared.status.Status.{Status}
 use Rattle.m51_chain.specs.declared.status.Status.TheVariants as status
-use Rattle.m51_chain.specs.Asked.{asked_of}
+use Rattle.m51_words.specs.Jobs.{job_of}
 use Rattle.m51_chain.specs.Shelf.{Files}
 use Rattle.m51_chain.specs.Outcome.{Answer, Outcome, named_answer}
 use Rattle.m51_chain.specs.Outcome.{usage_answer, many_answer, long_answer, unread_answer}
@@ -34,12 +34,12 @@ pub record HasOutcome (job : Job) (contents : List (List ℕ)) (answer : Answer)
 -- The answer for these words and files, the first in this order: the words are faulty; there are too many file words; a
 -- file is not there or is too long, the first of those that are read; else what the verb makes of their contents.
 pub data IsAnswer (words : List (List ℕ)) (files : Files) (answer : Answer) : Type 0 where
-  Faulty : asked_of words ≡ None → answer ≡ usage_answer → IsAnswer words files answer
-  Many : (job : Job) → asked_of words ≡ Some job → MOST_FILES < file_count job → answer ≡ many_answer
+  Faulty : job_of words ≡ None → answer ≡ usage_answer → IsAnswer words files answer
+  Many : (job : Job) → job_of words ≡ Some job → MOST_FILES < file_count job → answer ≡ many_answer
       → IsAnswer words files answer
-  NoFile : (job : Job) (name : List ℕ) → asked_of words ≡ Some job → file_count job ≤ MOST_FILES
+  NoFile : (job : Job) (name : List ℕ) → job_of words ≡ Some job → file_count job ≤ MOST_FILES
       → read_of files (names_read job) ≡ Absent name → answer ≡ unread_answer name → IsAnswer words files answer
-  LongFile : (job : Job) → asked_of words ≡ Some job → file_count job ≤ MOST_FILES
+  LongFile : (job : Job) → job_of words ≡ Some job → file_count job ≤ MOST_FILES
       → read_of files (names_read job) ≡ TooLong → answer ≡ long_answer → IsAnswer words files answer
-  Worked : (job : Job) (contents : List (List ℕ)) → asked_of words ≡ Some job → file_count job ≤ MOST_FILES
+  Worked : (job : Job) (contents : List (List ℕ)) → job_of words ≡ Some job → file_count job ≤ MOST_FILES
       → read_of files (names_read job) ≡ Whole contents → HasOutcome job contents answer → IsAnswer words files answer

@@ -1,10 +1,9 @@
 -- What gen makes: its source is assembled and linked, and the run of the program is counted.
-use Rattle.std.specs.Prelude.{◌≡◌, ℕ, List, [], ◌∷◌, length, map, sum, None}
+use Rattle.std.specs.Prelude.{◌≡◌, ℕ, List, [], length, map, sum, None}
 use Rattle.m51_asm.specs.Answer as answer
 use Rattle.m51_asm.specs.Answer.{AnswerTree, IsAnswer}
 use Rattle.m51_generator.specs.Lines.{generated}
 use Rattle.m51_linker.specs.declared.linked.Linked.{Linked}
-use Rattle.m51_linker.specs.Link.{program_of}
 use Rattle.m51_module.specs.declared.placed.Mark.{Mark}
 use Rattle.m51_module.specs.declared.placed.Mark.TheVariants.{Overlaid}
 use Rattle.m51_module.specs.declared.placed.Placed.{Placed}
@@ -21,7 +20,7 @@ use Rattle.m51_sim.specs.SeparateMachine.{separate_machine, separate_start}
 use Rattle.m51_words.specs.declared.job.GenJob.{GenJob}
 use Rattle.m51_chain.specs.declared.work.Reason.TheVariants as reason
 use Rattle.m51_chain.specs.FaultLines.{fault_lines}
-use Rattle.m51_chain.specs.Linking.{IsProgramOutcome}
+use Rattle.m51_chain.specs.Linking.{IsProgramOutcome, alone}
 use Rattle.m51_chain.specs.Outcome.{Outcome, refused, status_by}
 
 -- the size of an overlaid segment, and the sizes of all
@@ -56,7 +55,7 @@ abbrev pub IsGenerated : SourceFile → ℕ → AnswerTree → Outcome → Type 
 IsGenerated source steps (answer.Faults faults) outcome =
     outcome ≡ refused reason.Source (fault_lines source.name [] faults)
 IsGenerated source steps (answer.Gives parts rows) outcome =
-    IsProgramOutcome (program_of (parts ∷ []) [] []) (IsCounted steps) outcome
+    IsProgramOutcome (alone parts) (IsCounted steps) outcome
 
 -- what gen makes of its numbers
 pub record IsGenOutcome (job : GenJob) (outcome : Outcome) : Type 0 where

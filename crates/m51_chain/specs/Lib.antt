@@ -19,6 +19,7 @@ pub mod Assembles
 pub mod Generates
 pub mod Libraries
 pub mod FlatRuns
+pub mod Parties
 pub mod Verbs
 pub mod Expected
 pub mod Due

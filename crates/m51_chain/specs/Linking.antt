@@ -1,11 +1,11 @@
 -- What comes of a program: its files are refused, it is not linked, or something comes of it as it is linked.
-use Rattle.std.specs.Prelude.{◌≡◌, ℕ, List, Result, Ok, Err, IfSome}
-use Rattle.m51_inputs.specs.declared.inputs.Inputs.{Inputs}
-use Rattle.m51_inputs.specs.Inputs.{InputsTree, inputs_tree}
+use Rattle.std.specs.Prelude.{◌≡◌, ℕ, List, [], ◌∷◌, Result, Ok, Err, IfSome}
+use Rattle.m51_inputs.specs.Inputs.{InputsTree}
 use Rattle.m51_linker.specs.declared.linked.Linked.{Linked}
 use Rattle.m51_linker.specs.Link.{IsLinked, Program, program_of}
 use Rattle.m51_module.specs.declared.linked.Refusal.{Refusal}
 use Rattle.m51_module.specs.declared.linked.Refusal.TheVariants as refusal
+use Rattle.m51_module.specs.declared.parts.ModuleParts.{ModuleParts}
 use Rattle.m51_print.specs.Refusals.{refusal_text}
 use Rattle.m51_script.specs.declared.script.Script.{Script}
 use Rattle.m51_chain.specs.declared.linking.LinkedFiles.{LinkedFiles}
@@ -13,7 +13,7 @@ use Rattle.m51_chain.specs.declared.work.Reason.{Reason}
 use Rattle.m51_chain.specs.declared.work.Reason.TheVariants as reason
 use Rattle.m51_chain.specs.declared.work.Stop.{Stop}
 use Rattle.m51_chain.specs.Outcome.{Outcome, refused, stopped}
-use Rattle.m51_chain.specs.ProgramFiles.{AreAnswered, IsFilesOutcome, ProgramFiles}
+use Rattle.m51_chain.specs.ProgramFiles.{AreAnswered, IsFilesOutcome, Nothing, ProgramFiles}
 
 -- a link is refused at a limit, or by a rule
 abbrev pub reason_of : Refusal → Reason
@@ -30,6 +30,10 @@ pub data IsProgramOutcome (program : Result Program Refusal) (Is : Linked → Ou
   Follows : (p : Program) (linked : Linked) → program ≡ Ok p → IsLinked p linked → Is linked outcome
       → IsProgramOutcome program Is outcome
 
+-- the program of a module that is linked alone
+abbrev pub alone : ModuleParts → Result Program Refusal
+alone parts = program_of (parts ∷ []) [] []
+
 -- modules and libraries are linked by the control lines
 abbrev pub program_in : InputsTree → Result Program Refusal
 program_in inputs = program_of inputs.modules inputs.libraries inputs.controls
@@ -42,10 +46,6 @@ abbrev pub IsLinkedOutcome : ProgramFiles → List (List ℕ) → (Script → Li
 IsLinkedOutcome files contents Is outcome = IsFilesOutcome files contents (IsInputsOutcome Is) outcome
 
 -- What functions on the way answer.
-
--- nothing comes of a linked program: what is left are refusals
-abbrev pub Nothing : Linked → Outcome → Type 0
-Nothing linked outcome = ⊥
 
 -- the program as it is linked, or a refusal of its link; out of memory is free
 abbrev pub IsLinkedOr : Result Program Refusal → Result Linked Stop → Type 0
@@ -62,11 +62,6 @@ pub record AreLinked (files : ProgramFiles) (contents : List (List ℕ)) (found 
 -- a refusal of files; out of memory is free
 abbrev pub AreRefused : ProgramFiles → List (List ℕ) → Stop → Type 0
 AreRefused files contents stop = IfSome (stopped stop) (IsLinkedOutcome files contents (λ script. Nothing))
-
--- what files give, or their refusal
-abbrev pub AreAnsweredOr : ProgramFiles → List (List ℕ) → Result Inputs Stop → Type 0
-AreAnsweredOr files contents (Ok inputs) = AreAnswered files contents (Ok (inputs_tree inputs))
-AreAnsweredOr files contents (Err stop) = AreRefused files contents stop
 
 abbrev pub AreLinkedOr : ProgramFiles → List (List ℕ) → Result LinkedFiles Stop → Type 0
 AreLinkedOr files contents (Ok found) = AreLinked files contents found

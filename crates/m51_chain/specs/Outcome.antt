@@ -1,7 +1,13 @@
 -- What the work of a verb comes to, and the answer that is written and kept.
-use Rattle.std.specs.Prelude.{ℕ, List, [], ◌++◌, codes, Option, Some, None, Result, Ok, Err, option_map}
+use Rattle.std.specs.Prelude.{ℕ, Bool, true, false, List, [], ◌++◌, codes, Option, Some, None, Result, Ok, Err}
+use Rattle.std.specs.Prelude.{option_map}
 use Rattle.m51_cells.specs.declared.event.Event.{Event}
 use Rattle.m51_flat.specs.Reads.{CellMap}
+use Rattle.m51_party.specs.declared.party.PartyEnd.{PartyEnd}
+use Rattle.m51_party.specs.declared.party.PartyEnd.TheVariants as party_ends
+use Rattle.m51_party.specs.Report.{has_event}
+use Rattle.m51_party.specs.Rounds.{family_of}
+use Rattle.m51_party.specs.Text.{party_text}
 use Rattle.m51_print.specs.Lines.{titles_of}
 use Rattle.m51_sim.specs.declared.runs.RunEnd.{RunEnd}
 use Rattle.m51_sim.specs.declared.runs.RunEnd.TheVariants as ends
@@ -52,6 +58,11 @@ abbrev pub status_by : Option Event → Status
 status_by None = status.Ran
 status_by (Some event) = status.Event
 
+-- an event ends the run of some board before its last step
+abbrev pub status_if : Bool → Status
+status_if false = status.Ran
+status_if true = status.Event
+
 -- the run of a board, and of a flat one
 abbrev pub run_of : BoardState → ℕ → Record Separate
 run_of board steps =
@@ -68,18 +79,26 @@ status_at ending.Ran = status.Ran
 status_at ending.Event = status.Event
 status_at (ending.Run board steps) = status_by (run_of board steps).event
 status_at (ending.FlatRun board steps) = status_by (flat_run_of board steps).event
+status_at (ending.Party boards steps) = status_if (has_event (family_of boards steps))
 
 unfoldable pub text_at : Ending → List ℕ
 text_at ending.Ran = []
 text_at ending.Event = []
 text_at (ending.Run board steps) = record_text (titles_of board.monitor.layout.placed) (run_of board steps)
 text_at (ending.FlatRun board steps) = record_text [] (flat_run_of board steps)
+text_at (ending.Party boards steps) = party_text boards steps (family_of boards steps)
 
 -- the status of a run that came to its end
 abbrev pub status_after : RunEnd → Result Status Failed
 status_after ends.Finished = Ok status.Ran
 status_after (ends.Stopped event) = Ok status.Event
 status_after ends.WriteFault = Err (record {})
+
+-- the status of a party that came to its end
+abbrev pub party_status : PartyEnd → Result Status Failed
+party_status party_ends.Finished = Ok status.Ran
+party_status party_ends.Stopped = Ok status.Event
+party_status party_ends.WriteFault = Err (record {})
 
 -- the outcome of accepted work, and of a refusal
 abbrev pub outcome_of : Finished → Outcome

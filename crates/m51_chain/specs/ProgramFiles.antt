@@ -1,10 +1,12 @@
 -- The files of a program: file words, a control file and a script. They are refused, or something comes of them.
-use Rattle.std.specs.Prelude.{◌≡◌, ℕ, ◌+◌, List, length, take, drop, Option, option_to_list, Result, Ok, Err}
+use Rattle.std.specs.Prelude.{◌≡◌, ℕ, ◌+◌, List, length, take, drop, Option, option_to_list, Result, Ok, Err, IfSome}
 use Rattle.m51_inputs.specs.declared.error.InputError.{InputError}
-use Rattle.m51_inputs.specs.Inputs.{Answers, InputsTree}
+use Rattle.m51_inputs.specs.declared.inputs.Inputs.{Inputs}
+use Rattle.m51_inputs.specs.Inputs.{Answers, InputsTree, inputs_tree}
+use Rattle.m51_chain.specs.declared.work.Stop.{Stop}
 use Rattle.m51_chain.specs.InputRefusals.{input_outcome}
 use Rattle.m51_chain.specs.Optional.{content_if}
-use Rattle.m51_chain.specs.Outcome.{Outcome}
+use Rattle.m51_chain.specs.Outcome.{Outcome, stopped}
 
 -- File words, and the files that options name. They are read in this order.
 pub record ProgramFiles : Type 0 where
@@ -49,9 +51,18 @@ pub record IsFilesOutcome
   pub answer : AreAnswered files contents given
   pub is : IsGivenOutcome files Is given outcome
 
--- Conditions of functions.
+-- Conditions of functions, and what functions on the way answer.
 
 -- there are as many contents as files
 pub record HasParts (files : ProgramFiles) (contents : List (List ℕ)) : Type 0 where
   pub count : length contents
       ≡ length files.words + length (option_to_list files.control) + length (option_to_list files.script)
+
+-- nothing comes of it: what is left are refusals
+abbrev pub Nothing : {A : Type 0} → A → Outcome → Type 0
+Nothing it outcome = ⊥
+
+-- what files give, or the refusal of a file; out of memory is free
+abbrev pub AreAnsweredOr : ProgramFiles → List (List ℕ) → Result Inputs Stop → Type 0
+AreAnsweredOr files contents (Ok inputs) = AreAnswered files contents (Ok (inputs_tree inputs))
+AreAnsweredOr files contents (Err stop) = IfSome (stopped stop) (IsFilesOutcome files contents Nothing)

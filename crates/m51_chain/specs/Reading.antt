@@ -74,7 +74,7 @@ pub record HandsOver (before after : ReadAt) (result : Result (List ℕ) ReadErr
   pub goes : GoesOn before.given after.given bytes
   pub all : IsThat bytes result
 
--- A piece of the open file was handed out, and is what came behind the bytes that were read before.
+-- A piece of the open file was handed out, and is what came after the bytes that were read before.
 pub record GivesOn {T E : Type 0} (before after : ReadAt) (old new : List ℕ) (result : Result T E) : Type 0 where
   pub piece : List ℕ
   pub goes : GoesOn before.given after.given piece

@@ -1,4 +1,4 @@
--- What the status of the top call tells, and what lies behind it.
+-- What the status of the top call tells, and what caused it.
 use Rattle.std.specs.Prelude.{◌≡◌, ◌⊎◌, ℕ, ◌<◌, List, Option, Some, None}
 use Rattle.std.specs.Io.KnownBytes.{Appends}
 use Rattle.m51_cells.specs.declared.limits.TheConstants.{MOST_FILES, MOST_FILE_BYTES}
@@ -7,7 +7,7 @@ use Rattle.m51_words.specs.declared.job.Job.{Job}
 use Rattle.m51_words.specs.Files.{file_count, name_kept}
 use Rattle.m51_chain.specs.declared.status.Status.{Status}
 use Rattle.m51_chain.specs.declared.status.Status.TheVariants as status
-use Rattle.m51_chain.specs.Asked.{asked_of}
+use Rattle.m51_words.specs.Jobs.{job_of}
 use Rattle.m51_chain.specs.Shelf.{File, Files, HoldsOthers}
 use Rattle.m51_chain.specs.Outside.{Change, HasFailed}
 use Rattle.m51_chain.specs.Outcome.{Answer, usage_answer, many_answer, long_answer, unread_answer}
@@ -30,7 +30,7 @@ Ended answer c told = IsEnded answer c.keeps_before c.keeps c.sink_before c.sink
 -- a call on the shelf failed, on a file that the words name, and the answer says so
 pub record IsUnread (words : List (List ℕ)) (holds : Option Files) (c : Change) (answer : Answer) : Type 0 where
   pub job : Job
-  pub asked : asked_of words ≡ Some job
+  pub asked : job_of words ≡ Some job
   pub at : IsAtFor job holds c.reads
   pub failed : HasFailed c.reads_before c.reads
   pub is : answer ≡ unread_answer c.reads.named
@@ -46,26 +46,26 @@ IsTold words held c told =
 pub record IsWorked (words : List (List ℕ)) (c : Change) (told : Status) : Type 0 where
   pub answer : Answer
   pub job : Job
-  pub asked : asked_of words ≡ Some job
+  pub asked : job_of words ≡ Some job
   pub work : IsWorkFor job None c.reads_before c.reads answer
   pub done : Written answer c told
 
 -- the words are faulty
 pub record IsUsage (words : List (List ℕ)) (c : Change) : Type 0 where
-  pub faulty : asked_of words ≡ None
+  pub faulty : job_of words ≡ None
   pub done : Written usage_answer c status.Usage
 
 -- there are too many file words
 pub record IsMany (words : List (List ℕ)) (c : Change) : Type 0 where
   pub job : Job
-  pub asked : asked_of words ≡ Some job
+  pub asked : job_of words ≡ Some job
   pub many : MOST_FILES < file_count job
   pub done : Written many_answer c status.Limit
 
 -- more than 1,048,576 bytes were taken of a file that the words name
 pub record IsLongFile (words : List (List ℕ)) (c : Change) : Type 0 where
   pub job : Job
-  pub asked : asked_of words ≡ Some job
+  pub asked : job_of words ≡ Some job
   pub at : IsAtFor job None c.reads
   pub over : MOST_FILE_BYTES < c.reads.taken
   pub done : Written long_answer c status.Limit
@@ -73,7 +73,7 @@ pub record IsLongFile (words : List (List ℕ)) (c : Change) : Type 0 where
 -- a call on the shelf failed, on a file that the words name and the text names
 pub record IsReadFault (words : List (List ℕ)) (c : Change) : Type 0 where
   pub job : Job
-  pub asked : asked_of words ≡ Some job
+  pub asked : job_of words ≡ Some job
   pub at : IsAtFor job None c.reads
   pub failed : HasFailed c.reads_before c.reads
   pub done : Written (unread_answer c.reads.named) c status.ReadFault
@@ -94,13 +94,13 @@ IsSaid c = Appends c.sink_before.text c.sink.text (unkept_text c.keeps.missed)
 pub record IsKeepFault (words : List (List ℕ)) (c : Change) : Type 0 where
   pub answer : Answer
   pub job : Job
-  pub asked : asked_of words ≡ Some job
+  pub asked : job_of words ≡ Some job
   pub work : IsWorkFor job None c.reads_before c.reads answer
   pub unkept : IsUnkept answer c.keeps_before c.keeps
   pub named : name_kept job ≡ Some c.keeps.missed
   pub said : IsSaid c
 
--- what lies behind each status, whether or not the outside tells its bytes
+-- what caused each status, whether or not the outside tells its bytes
 abbrev pub IsCaused : List (List ℕ) → Change → Status → Type 0
 IsCaused words c status.Ran = IsWorked words c status.Ran
 IsCaused words c status.Event = IsWorked words c status.Event
@@ -118,7 +118,7 @@ IsCaused words c status.Stack = IsWorked words c status.Stack
 -- the words keep a file of this name
 pub record IsKeptName (words : List (List ℕ)) (name : List ℕ) : Type 0 where
   pub job : Job
-  pub asked : asked_of words ≡ Some job
+  pub asked : job_of words ≡ Some job
   pub named : name_kept job ≡ Some name
 
 -- told files stay, but for the one that is kept, if one is

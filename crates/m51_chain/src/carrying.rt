@@ -1,13 +1,14 @@
 //! Carrying a plan out: keeping, writing, running. It allocates nothing.
 ghost use Rattle.std.specs.Prelude.{◌≡◌, ◌≤◌, ◌++◌, None, Some};
 ghost use Rattle.m51_chain.specs.Carried.{IsWritten, IsEnded, status_told};
-ghost use Rattle.m51_chain.specs.Outcome.{answer_of, file_of, status_after, status_at, text_at};
+ghost use Rattle.m51_chain.specs.Outcome.{answer_of, file_of, party_status, status_after, status_at, text_at};
 ghost use Rattle.m51_chain.specs.Shelf.{HoldsOthers};
 ghost use Rattle.m51_chain.specs.Told.{HoldsBut};
 
 use crate::shelf::Shelf;
 use crate::status::Status;
 use crate::work::{Ending, Kept, Plan};
+use m51_party::PartyEnd;
 use m51_sim::{Failed, RunEnd, Sink, write_whole};
 
 // Writes a text, and ends with the status.
@@ -32,6 +33,17 @@ fn status_after(end: RunEnd) -> Result<Status, Failed>
     }
 }
 
+// The status of a party that came to its end.
+fn party_status(end: PartyEnd) -> Result<Status, Failed>
+    ensures { result ≡ party_status end }
+{
+    match end {
+        PartyEnd::Finished => Ok(Status::Ran),
+        PartyEnd::Stopped => Ok(Status::Event),
+        PartyEnd::WriteFault => Err(Failed),
+    }
+}
+
 // Ends: runs, if there is something to run, and writes the record.
 #[tactic(auto, unfolding(crate::specs::Outcome::status_at, crate::specs::Outcome::text_at))]
 fn end<S: Sink>(ending: Ending, out: &mut S) -> Result<Status, Failed>
@@ -43,6 +55,7 @@ fn end<S: Sink>(ending: Ending, out: &mut S) -> Result<Status, Failed>
         Ending::Event => Ok(Status::Event),
         Ending::Run { mut board, steps } => status_after(board.run(steps.number(), out)),
         Ending::FlatRun { mut board, steps } => status_after(board.run(steps.number(), out)),
+        Ending::Party { party, steps } => party_status(party.run(steps.number(), out)),
     }
 }
 

@@ -39,7 +39,7 @@ fn run(alloc: Global, job: &FlatJob, image: Image, script: Script) -> Result<Fin
 }
 
 // The script of a file, or the one without lines.
-fn script_in(alloc: Global, file: Option<&Bytes>) -> Result<Script, ScriptError>
+pub(crate) fn script_in(alloc: Global, file: Option<&Bytes>) -> Result<Script, ScriptError>
     ensures { Gives (λ script. script) refusal_of result (script_in (option_copied file.entry)) }
 {
     match file {

@@ -1,16 +1,15 @@
 //! The verb `gen`.
-ghost use Rattle.std.specs.Prelude.{◌≡◌, ◌≤◌, [], ◌∷◌, IfOk, length};
-ghost use Rattle.m51_linker.specs.Link.{IsReady, program_of};
+ghost use Rattle.std.specs.Prelude.{◌≡◌, ◌≤◌, [], IfOk, length};
+ghost use Rattle.m51_linker.specs.Link.{IsReady};
 ghost use Rattle.m51_chain.specs.Generates.{IsCounted, IsGenOutcome, overlaid_size, overlaid_sizes, summary_outcome};
-ghost use Rattle.m51_chain.specs.Linking.{IsProgramOutcome};
+ghost use Rattle.m51_chain.specs.Linking.{IsProgramOutcome, alone};
 ghost use Rattle.m51_chain.specs.Outcome.{Comes, outcome_of, status_at, status_by, text_at};
 
 use crate::assembling::refuse_source;
-use crate::linking::link_modules;
+use crate::linking::link_alone;
 use crate::work::{Ending, Finished, Stop};
 use m51_asm::{Assembled, assemble};
 use m51_cells::{Bytes, NoMemory};
-use m51_control::Controls;
 use m51_generator::generate;
 use m51_linker::Linked;
 use m51_module::{Mark, Module, Placed, Tally};
@@ -76,12 +75,9 @@ fn summary(alloc: Global, steps: Steps, linked: Linked) -> Result<Finished, NoMe
 
 // Links a module, runs it, and counts.
 fn count_program(alloc: Global, steps: Steps, parts: Module) -> Result<Finished, Stop>
-    ensures { Comes (IsProgramOutcome (program_of (parts ∷ []) [] []) (IsCounted steps)) result }
+    ensures { Comes (IsProgramOutcome (alone parts) (IsCounted steps)) result }
 {
-    let mut modules = Vec::new(alloc);
-    modules.push(parts)?;
-    let controls = Controls::none(alloc);
-    let linked = link_modules(alloc, modules, &[], &controls)?;
+    let linked = link_alone(alloc, parts)?;
     Ok(summary(alloc, steps, linked)?)
 }
 

@@ -2,7 +2,6 @@
 #![tactic(auto)]
 
 mod analysing;
-mod asked;
 mod assembling;
 mod building;
 mod carrying;
@@ -12,6 +11,7 @@ mod flat;
 mod folder;
 mod generating;
 mod input_refusing;
+mod joining;
 mod library;
 mod linking;
 mod memory;
@@ -25,6 +25,7 @@ mod status;
 mod sure;
 mod target;
 mod top;
+mod unrun;
 mod work;
 
 pub use folder::DirShelf;

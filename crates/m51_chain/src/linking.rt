@@ -3,9 +3,9 @@ ghost use Rattle.std.specs.Prelude.{◌≡◌, ◌≢◌, ◌≤◌, IfOk, Some,
 ghost use Rattle.std.specs.List.{All};
 ghost use Rattle.m51_cells.specs.declared.limits.TheConstants.{MOST_FILES, MOST_FILE_BYTES};
 ghost use Rattle.m51_linker.specs.Link.{IsReady, program_of};
-ghost use Rattle.m51_chain.specs.Linking.{AreAnsweredOr, AreLinkedOr, IsLinkedOr, link_outcome, reason_of};
+ghost use Rattle.m51_chain.specs.Linking.{AreLinkedOr, IsLinkedOr, alone, link_outcome, reason_of};
 ghost use Rattle.m51_chain.specs.Outcome.{stopped};
-ghost use Rattle.m51_chain.specs.ProgramFiles.{HasParts, named};
+ghost use Rattle.m51_chain.specs.ProgramFiles.{AreAnsweredOr, HasParts, named};
 
 use crate::input_refusing::refuse_inputs;
 use crate::optional::content_if;
@@ -39,7 +39,7 @@ fn count_of(name: &Option<FileName>) -> usize
 }
 
 // What the files give.
-fn inputs_in(
+pub(crate) fn inputs_in(
     alloc: Global,
     files: &[FileName],
     control: &Option<FileName>,
@@ -99,6 +99,17 @@ pub(crate) fn link_modules(
         Err(Refusal::Memory) => Err(Stop::Memory),
         Err(refusal) => Err(refuse_link(alloc, &refusal)?),
     }
+}
+
+// Links a module alone: there are no libraries and no control lines.
+pub(crate) fn link_alone(alloc: Global, parts: Module) -> Result<Linked, Stop>
+    ensures answer { IsLinkedOr (alone parts) result }
+    ensures ready { IfOk result IsReady }
+{
+    let mut modules = Vec::new(alloc);
+    modules.push(parts)?;
+    let controls = Controls::none(alloc);
+    link_modules(alloc, modules, &[], &controls)
 }
 
 // Links what the files give.

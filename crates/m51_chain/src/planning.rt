@@ -3,8 +3,9 @@ ghost use Rattle.std.specs.Prelude.{◌≡◌, ◌⊎◌, ◌≤◌, IfOk, None,
 ghost use Rattle.std.specs.List.{All};
 ghost use Rattle.m51_cells.specs.declared.limits.TheConstants.{MOST_FILES, MOST_FILE_BYTES};
 ghost use Rattle.m51_words.specs.Files.{file_count, name_kept, names_read};
+ghost use Rattle.m51_words.specs.Jobs.{job_of};
 ghost use Rattle.m51_words.specs.Texts.{texts};
-ghost use Rattle.m51_chain.specs.Asked.{IsFit, asked_of};
+ghost use Rattle.m51_chain.specs.Asked.{IsFit};
 ghost use Rattle.m51_chain.specs.Due.{IsDue, IsDueFor, IsPlanned, ReadsOnly};
 ghost use Rattle.m51_chain.specs.Expected.{HasOutcome};
 ghost use Rattle.m51_chain.specs.Outcome.{Comes, answer_of, file_of, status_of, under};
@@ -12,11 +13,11 @@ ghost use Rattle.m51_chain.specs.Reading.{ReadsSome};
 ghost use Rattle.m51_chain.specs.Verbs.{IsOutcome};
 
 use crate::analysing::{bound_files, disassemble_files};
-use crate::asked::asked_of;
 use crate::assembling::assemble;
 use crate::building::build;
 use crate::flat::run_flat;
 use crate::generating::count;
+use crate::joining::join_files;
 use crate::library::operate;
 use crate::reading::{Unread, read_all};
 use crate::refusing::{refuse_long_file, refuse_many_files, refuse_unread_file, refuse_words};
@@ -25,7 +26,7 @@ use crate::status::Status;
 use crate::target::Target;
 use crate::work::{Finished, Kept, Plan, Reason, Stop};
 use m51_cells::{Bytes, MOST_FILES, NoMemory};
-use m51_words::{Job, WordsError, file_count, name_kept, names_read};
+use m51_words::{Job, WordsError, file_count, job_of, name_kept, names_read};
 use std::alloc::Global;
 
 // What the verb makes of the contents of its files.
@@ -44,7 +45,7 @@ fn work(alloc: Global, job: &Job, contents: &[Bytes]) -> Result<Finished, Stop>
         Job::Flat(job) => run_flat(alloc, job, contents),
         Job::Dis(job) => disassemble_files(alloc, job, contents),
         Job::Stack(job) => bound_files(alloc, job, contents),
-        Job::Party(_) => unreachable!(),
+        Job::Party(job) => join_files(alloc, job, contents),
     }
 }
 
@@ -170,14 +171,14 @@ pub(crate) fn plan<F: Shelf>(
 ) -> Result<Plan, NoMemory>
     ensures due { IfOk result (λ plan. IsDue (texts words.now) (F.state files.old).holds
         (F.state files.old).reads (F.state files.new).reads (answer_of plan)) }
-    ensures usage { asked_of (texts words.now) ≡ None → files.new ≡ files.old }
+    ensures usage { job_of (texts words.now) ≡ None → files.new ≡ files.old }
     ensures later { (F.state files.old).reads.faults ≤ (F.state files.new).reads.faults }
     ensures reads { ((F.state files.new).reads ≡ (F.state files.old).reads)
         ⊎ ReadsOnly (texts words.now) (F.state files.old).reads (F.state files.new).reads }
     ensures holds { (F.state files.new).holds ≡ (F.state files.old).holds }
     ensures keeps { (F.state files.new).keeps ≡ (F.state files.old).keeps }
 {
-    match asked_of(alloc, words) {
+    match job_of(alloc, words) {
         Ok(job) => plan_job(alloc, &job, files),
         Err(WordsError::Usage) => refuse_words(alloc),
         Err(WordsError::Memory) => Err(NoMemory),

@@ -1,7 +1,7 @@
 //! The top call.
 ghost use Rattle.std.specs.Prelude.{◌≡◌, ◌⊎◌, ◌≤◌, None, Some};
+ghost use Rattle.m51_words.specs.Jobs.{job_of};
 ghost use Rattle.m51_words.specs.Texts.{texts};
-ghost use Rattle.m51_chain.specs.Asked.{asked_of};
 ghost use Rattle.m51_chain.specs.Complete.{IsComplete};
 ghost use Rattle.m51_chain.specs.Due.{ReadsOnly};
 ghost use Rattle.m51_chain.specs.Expected.{IsAnswer};
@@ -43,8 +43,8 @@ pub fn chain<F: Shelf, S: Sink>(
     ensures cause { IsCaused (texts words.now)
         (change (F.state files.old) (F.state files.new) (S.state out.old) (S.state out.new)) result }
 
-    // Faulty words, and those that ask for what is not built, are refused before a file is touched.
-    ensures usage { asked_of (texts words.now) ≡ None → files.new ≡ files.old }
+    // Faulty words are refused before a file is touched.
+    ensures usage { job_of (texts words.now) ≡ None → files.new ≡ files.old }
 
     // No other files than those of the words are started, in their order, and of each at most one byte past the limit
     // is taken; with too many file words none is.

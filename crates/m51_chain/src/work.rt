@@ -4,6 +4,7 @@ ghost use Rattle.m51_chain.specs.Outcome.{outcome_of, written};
 
 use crate::status::Status;
 use crate::target::Target;
+use crate::unrun::UnrunParty;
 use m51_cells::{Bytes, NoMemory};
 use m51_sim::{Board, FlatBoard};
 use m51_words::Steps;
@@ -37,6 +38,8 @@ pub(crate) enum Ending {
     Run { board: Board, steps: Steps },
     // With a run on one memory, whose record is written.
     FlatRun { board: FlatBoard, steps: Steps },
+    // With the run of boards on one line, whose text is written.
+    Party { party: UnrunParty, steps: Steps },
 }
 
 // What the work of a verb comes to, where it is accepted.

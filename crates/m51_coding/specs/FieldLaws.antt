@@ -58,7 +58,7 @@ BlocksLead =
 abbrev pub IsBitOf : Part → Type 0
 IsBitOf part = (b : ℕ) → part ≡ Bit b → b ≤ 7
 
--- A reference is one that an object can hold: it has a bit number for CONV alone.
+-- A reference is one that an object can hold: it has a bit number only for CONV.
 abbrev pub ReferencesHaveBits : Type 0
 ReferencesHaveBits =
     (names : Meanings) (at : Field) (next : ℕ) (v : Value) (r : Reference) → IsBitOf v.part

@@ -34,7 +34,7 @@ abbrev pub is_short : Verb → ℕ → ℕ → Bool
 is_short Jmp next target = is_near (distance next target)
 is_short Call next target = false
 
--- the first form that serves for a target in the current segment; that of a block is taken in an absolute one alone
+-- the first form that serves for a target in the current segment; that of a block is taken only in an absolute one
 abbrev pub shortest : Meanings → Verb → ℕ → ℕ → Jump
 shortest names verb next target =
     if is_short verb next target then Short

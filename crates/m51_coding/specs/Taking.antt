@@ -20,7 +20,7 @@ takes_class field.Addr11 kind.Code = true
 takes_class field.Rel kind.Code = true
 takes_class at class = false
 
--- HIGH and LOW of a base stand in 8 bits of data or of an address alone; the dot of a base there, and where a bit
+-- HIGH and LOW of a base stand only in 8 bits of data or of an address; the dot of a base there, and where a bit
 -- stands.
 abbrev pub takes_part : Field → Part → Bool
 takes_part at Whole = true

@@ -1,16 +1,9 @@
 -- References that lie in bytes, one by one.
 use Rattle.std.proofs.Common.{ℕ, zero, suc, ◌+◌, ◌<◌, ◌≤◌, List, [], ◌∷◌, length, get_or, arith}
-use Rattle.m51_module.specs.declared.content.Form.{Form}
-use Rattle.m51_module.specs.declared.content.Form.TheVariants.{Word, Inblock}
 use Rattle.m51_module.specs.Validity.{field_len}
+use Rattle.m51_module.proofs.FieldLengths.{some_byte}
 use Rattle.m51_content.specs.Content.{ReferenceAt}
 use Rattle.m51_content.specs.Within.{LieFrom, LieInside}
-
--- a field has a byte
-pub some_byte : (form : Form) → 0 < field_len form
-some_byte Word = omega arith
-some_byte Inblock = omega arith
-some_byte form = omega arith
 
 -- references that lie between two bytes: the first is not after the second
 ordered : (from to : ℕ) (rs : List ReferenceAt) → LieFrom from to rs → from ≤ to

@@ -20,6 +20,7 @@ use Rattle.m51_expr.specs.Evaluation.{value_of}
 use Rattle.m51_expr.specs.Operand as line
 use Rattle.m51_expr.specs.Operand.{OperandTree}
 use Rattle.m51_module.specs.Validity.{field_len}
+use Rattle.m51_module.proofs.FieldLengths.{some_byte}
 use Rattle.m51_coding.specs.declared.coding.Coded.{Coded}
 use Rattle.m51_coding.specs.declared.reference.Reference.{Reference}
 use Rattle.m51_coding.specs.Reference.{form_of}
@@ -30,7 +31,6 @@ use Rattle.m51_content.specs.Content.{placed_from, coded_content}
 use Rattle.m51_content.specs.Within.{LieFrom}
 use Rattle.m51_content.proofs.FieldRows.{width_of, width_at, widths_lie, widths_of, is_told, FieldsLie, fields_lie}
 use Rattle.m51_content.proofs.JoinedContent.{Lies, lie_from_lower}
-use Rattle.m51_content.proofs.LyingReferences.{some_byte}
 
 -- the field of a reference has as many bytes as the field of its operand
 pub same_width : (at : Field) (part : Part) → field_len (form_of at part) ≡ width_of at

@@ -1,11 +1,10 @@
 //! What PUBLIC makes of a name.
 ghost use Rattle.std.specs.Prelude.{◌≡◌};
-ghost use Rattle.m51_expr.specs.Value.{is_whole};
 ghost use Rattle.m51_content.specs.PublicNames.{public, from_base, public_from, public_of_value, public_valued};
 ghost use Rattle.m51_content.specs.PublicNames.{public_by};
 
 use m51_cells::{BASE_NOT_ALLOWED, Base, Kind, Name, OUT_OF_RANGE, UNKNOWN_NAME, same_kind};
-use m51_expr::{Part, Value};
+use m51_expr::{Value, is_whole};
 use m51_module::Public;
 
 /// What defines a name, as far as PUBLIC asks.
@@ -21,16 +20,6 @@ pub enum Definer {
     External,
     /// A label, `EQU`, or the word of an address; or nothing, as of a predefined name.
     Other,
-}
-
-// Whether no operator is over the number.
-fn is_whole(part: Part) -> bool
-    ensures { result ≡ is_whole part }
-{
-    match part {
-        Part::Whole => true,
-        Part::High | Part::Low | Part::Bit(_) => false,
-    }
 }
 
 // The public of a value.

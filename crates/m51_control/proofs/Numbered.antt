@@ -1,16 +1,11 @@
 -- Names of which some are read, and controls of lines of which some are read.
-use Rattle.std.proofs.Common.{◌≡◌, ℕ, ◌+◌, ◌≤◌, false, cond, List, [], ◌∷◌, ◌++◌, length, Option, Some, None, Ok, Err, refl, sym, ap, ◌∙◌, append_assoc, length-append, arith}
+use Rattle.std.proofs.Common.{◌≡◌, ℕ, ◌+◌, ◌≤◌, false, cond, List, [], ◌∷◌, ◌++◌, length, Some, Ok, Err, refl, sym, ap, ◌∙◌, append_assoc, length-append, arith}
 use Rattle.std.specs.List.{All}
 use Rattle.std.proofs.lemmas.List.Elements.{All-append, All-from_recursion}
 use Rattle.m51_control.specs.declared.control.Control.{Control}
 use Rattle.m51_control.specs.Grammar.{control_of}
 use Rattle.m51_cells.specs.Blanks.{is_skipped}
 use Rattle.m51_control.specs.Controls.{Read, with_line, read_from, IsAllowed}
-
--- names before those that follow
-abbrev pub in_front : List (List ℕ) → Option (List (List ℕ)) → Option (List (List ℕ))
-in_front front None = None
-in_front front (Some names) = Some (front ++ names)
 
 -- controls before those that follow
 abbrev pub before : List (ℕ × Control) → Read → Read

@@ -38,7 +38,7 @@ read_lines all = if nat_lt MOST_CONTROL_LINES (length all) then Err Limit else r
 abbrev pub controls_of : List ℕ → Read
 controls_of bytes = read_lines (lines bytes)
 
--- why a file is refused; want of memory is no refusal
+-- why a file is refused; out of memory is no refusal
 abbrev pub refusal_of : ControlError → Option ControlError
 refusal_of Memory = None
 refusal_of refusal = Some refusal

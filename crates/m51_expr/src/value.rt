@@ -56,7 +56,9 @@ pub fn plain(number: u16, class: Kind) -> Value
 }
 
 /// Whether neither `HIGH`, `LOW` nor `.` is over the number.
-pub(crate) fn is_whole(part: Part) -> bool
+///
+/// Source: own choice ("Values with a base").
+pub fn is_whole(part: Part) -> bool
     ensures { result ≡ is_whole part }
 {
     match part {

@@ -1,12 +1,12 @@
 -- Levels that climb along the edges until each edge leads to a higher one.
-use Rattle.std.proofs.Common.{◌≡◌, ◌≢◌, ◌⊎◌, inl, inr, ℕ, zero, suc, ◌+◌, ◌*◌, ◌<◌, ◌≤◌, true, false, Bool, ◌||◌, List, [], ◌∷◌, ◌++◌, length, take, set, get_or, sum, refl, sym, ap, subst, ◌∙◌, arith, length-append}
-use Rattle.std.proofs.Math.Nat.{mul-suc}
+use Rattle.std.proofs.Common.{◌≡◌, inl, inr, ℕ, zero, suc, ◌+◌, ◌*◌, ◌<◌, ◌≤◌, true, false, Bool, ◌||◌, List, [], ◌∷◌, ◌++◌, length, take, set, get_or, sum, refl, sym, ap, subst, ◌∙◌, arith, length-append}
 use Rattle.std.proofs.lemmas.List.{take_more, get_or-set_same, get_or-set_other, length-set}
 use Rattle.std.proofs.lemmas.List.Elements.{Contains-push_cases, Contains-get_or}
-use Rattle.std.proofs.lemmas.List.Sums.{sum_by-set, sum_by-cons}
+use Rattle.std.proofs.lemmas.List.Sums.{sum_by-set}
 use Rattle.std.proofs.lemmas.Bool.{false≢true}
 use Rattle.m51_module.specs.Walks.{Edges, HasEdge, IsWalk, last_of, Reaches}
 use Rattle.m51_cells.proofs.Small.{none_in_empty}
+use Rattle.m51_cells.proofs.ListsAndOptions.{sum_most}
 use Rattle.m51_module.proofs.Units.{same_or_not}
 use Rattle.m51_module.proofs.Reach.{last_on, reach_edge, reach_on, walk_on}
 use Rattle.m51_graph.specs.Leading.{leads}
@@ -149,14 +149,6 @@ climbs_more edges i d old now new rose false within below h c =
     subst (λ levels. IsClimbing edges (take (i + 1) edges) old levels rose) (sym h.1)
     (subst (λ (es : Edges). IsClimbing edges es old now rose) (sym (take_more edges i d below))
     (climbs_pass edges (take i edges) edge.0 edge.1 old now rose (omega (arith, h.0)) c))
-
--- a sum of numbers that have a bound
-pub sum_most : (most : ℕ) (xs : List ℕ) → ((i : ℕ) → i < length xs → get_or xs i 0 ≤ most) → sum xs ≤ most * length xs
-sum_most most [] h = omega arith
-sum_most most (x ∷ xs) h =
-    let rest = sum_most most xs (λ i below. h (suc i) (omega arith)) in
-    let whole : sum (x ∷ xs) ≡ x + sum xs = sum_by-cons (λ (y : ℕ). y) x xs in
-    omega (arith, rest, whole, h 0 (omega arith), mul-suc most (length xs))
 
 module _ (edges : Edges) (levels : List ℕ) (within : LeadWithin (length levels) edges) (no_cycle : (u : ℕ) → Reaches edges u u → ⊥) (walked : AreWalked edges levels) where
   -- levels are no higher than there are units

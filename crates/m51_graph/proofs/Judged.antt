@@ -1,6 +1,5 @@
 -- What the rules on edges and roots make sure of.
-use Rattle.std.proofs.Common.{◌≡◌, ◌⊎◌, inl, inr, ℕ, zero, suc, ◌+◌, ◌-◌, ◌<◌, true, false, Bool, cond, nat_eq, List, [], ◌∷◌, length, drop, filter, get_or, Option, Some, None, Result, Ok, Err, refl, sym, ap, subst, ◌∙◌, arith}
-use Rattle.std.specs.Prelude.{slice_get}
+use Rattle.std.proofs.Common.{◌≡◌, inl, inr, ℕ, zero, suc, ◌+◌, ◌-◌, ◌<◌, true, false, Bool, cond, nat_eq, List, [], ◌∷◌, length, drop, get_or, Option, Some, None, Result, Ok, refl, sym, ap, subst, ◌∙◌, arith}
 use Rattle.std.specs.List.{Contains, list_any}
 use Rattle.std.specs.Option.{option_map_or, option_or}
 use Rattle.std.proofs.lemmas.Bool.{cases_Bool, false≢true}
@@ -11,11 +10,11 @@ use Rattle.m51_cells.specs.Outcome.{RefusesWith}
 use Rattle.m51_module.specs.declared.linked.Refusal.{Refusal}
 use Rattle.m51_module.specs.declared.linked.Refusal.TheVariants.{L8}
 use Rattle.m51_module.specs.Roots.{vectors}
-use Rattle.m51_module.specs.Walks.{Edges, Reaches}
-use Rattle.m51_cells.proofs.Small.{contains_after, first_or_after, none_in_empty}
+use Rattle.m51_cells.proofs.Small.{first_or_after, none_in_empty}
+use Rattle.m51_cells.proofs.ListsAndOptions.{filter_keeps}
 use Rattle.m51_module.proofs.Units.{same_or_not}
 use Rattle.m51_graph.specs.declared.parts.GraphParts.{GraphParts}
-use Rattle.m51_graph.specs.Graph.{AreOfUnits, IsGraph, IsOwn, Owns, UnitLiesUnder}
+use Rattle.m51_graph.specs.Graph.{AreOfUnits, IsGraph, IsOwn, UnitLiesUnder}
 use Rattle.m51_graph.specs.Graphs.{judged_by, on_cycles, passed, unless, under_two, unit_under_two, first_under_two, cyclic_from, has_overlaid, roots_above, lies_under}
 use Rattle.m51_graph.specs.Leading.{leads}
 use Rattle.m51_graph.proofs.Deciding.{leads_tells}
@@ -88,19 +87,6 @@ none_under_two reach g unit (title ∷ more) h zero below =
 none_under_two reach g unit (title ∷ more) h (suc k) below =
     subst (λ n. unit_under_two reach g.roots g.own n (get_or more k []) ≡ None) (omega arith)
     (none_under_two reach g (unit + 1) more (none_of_both (unit_under_two reach g.roots g.own unit title) (first_under_two reach g.roots g.own (unit + 1) more) h).1 k (omega (arith, below)))
-
--- what passes the test is among what is left
-pub filter_keeps : (p : ℕ → Bool) (xs : List ℕ) (x : ℕ) → Contains xs x → p x ≡ true → Contains (filter p xs) x
-filter_keeps p [] x h passes = absurd (none_in_empty x h)
-filter_keeps p (y ∷ ys) x h passes = elim (first_or_after y ys x h) as (λ _. Contains (filter p (y ∷ ys)) x) [
-  | inl here ↦
-      let first : p y ≡ true = ap p here ∙ passes in
-      subst (λ b. Contains (cond b (y ∷ filter p ys) (filter p ys)) x) (sym first) (0, omega arith, here)
-  | inr behind ↦ elim (p y) as (λ b. Contains (cond b (y ∷ filter p ys) (filter p ys)) x) [
-    | true ↦ contains_after y (filter p ys) x (filter_keeps p ys x behind passes)
-    | false ↦ filter_keeps p ys x behind passes
-  ]
-]
 
 -- a unit without that refusal lies under one root at most
 at_most_one : (title xs : List ℕ) (x y : ℕ) → under_two title xs ≡ None → Contains xs x → Contains xs y → x ≡ y

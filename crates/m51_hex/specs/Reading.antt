@@ -10,7 +10,7 @@ use Rattle.m51_hex.specs.Line.{record_of}
 use Rattle.m51_hex.specs.Memory.{Memory, memory_in, memory_of, stored}
 use Rattle.m51_hex.specs.Record.{Record}
 
--- an error is the refusal itself; want of memory is none
+-- an error is the refusal itself; out of memory is none
 abbrev pub refusal_of : HexError → Option HexError
 refusal_of WantsMemory = None
 refusal_of error = Some error

@@ -2,25 +2,18 @@
 ghost use Rattle.std.specs.Prelude.{◌≡◌, ◌≤◌, length, IfOk};
 ghost use Rattle.m51_inputs.specs.Files.{sources_of, includes_of, source_words};
 
-use m51_cells::{Bytes, NoMemory};
+use m51_cells::{Bytes, NoMemory, copy_of};
 use m51_module::SourceFile;
 use m51_words::{FileName, is_include, is_source};
 use std::alloc::Global;
-
-// A copy of these bytes.
-fn bytes_of(alloc: Global, bytes: &[u8]) -> Result<Bytes, NoMemory>
-    ensures { IfOk result (λ copy. copy ≡ bytes.now) }
-{
-    Ok(Bytes::of(Vec::from_slice(alloc, bytes)?))
-}
 
 // The file of this name, with a copy of its bytes.
 fn file_of(alloc: Global, name: &FileName, bytes: &Bytes) -> Result<SourceFile, NoMemory>
     ensures { IfOk result (λ file. file ≡ record { name = name.now; bytes = bytes.now }) }
 {
     Ok(SourceFile {
-        name: bytes_of(alloc, name.as_str().as_bytes())?,
-        bytes: bytes_of(alloc, bytes.as_slice())?,
+        name: copy_of(alloc, name.as_str().as_bytes())?,
+        bytes: copy_of(alloc, bytes.as_slice())?,
     })
 }
 

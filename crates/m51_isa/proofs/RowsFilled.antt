@@ -21,7 +21,8 @@ rows_are_filled : (i : Instr) (a b c : ℕ) → HasText i (with_numbers i a b c)
 rows_are_filled Nop a b c = record { same = refl; length = refl }
 rows_are_filled i a b c = record { same = refl; length = refl }
 
-rows_are_apart : (i : Instr) → generic (text_of i).mnemonic (look_of (text_of i).first) (look_of (text_of i).second) (look_of (text_of i).third) ≡ None
+-- no row is written as a generic jump
+pub rows_are_apart : (i : Instr) → generic (text_of i).mnemonic (look_of (text_of i).first) (look_of (text_of i).second) (look_of (text_of i).third) ≡ None
 rows_are_apart Nop = refl
 rows_are_apart i = refl
 

@@ -15,7 +15,7 @@ abbrev pub verb_of : List ℕ → Option Verb
 verb_of word =
     if bytes_eq word (codes "JMP") then Some Jmp else if bytes_eq word (codes "CALL") then Some Call else None
 
--- JMP or CALL with an address alone
+-- JMP or CALL with only an address
 abbrev pub generic : List ℕ → Look → Look → Look → Option Verb
 generic word Plain Nothing Nothing = verb_of word
 generic word _ _ _ = None

@@ -67,7 +67,7 @@ abbrev pub meant_by : List ℕ → Jump → Option Verb → List ℕ
 meant_by word form (Some verb) = (text_of (jump_row verb form)).mnemonic
 meant_by word form None = word
 
--- numbers that are put into the fields of a row change the numbers of its text alone, and not its length
+-- numbers that are put into the fields of a row change only the numbers of its text, and not its length
 pub record HasText (i j : Instr) (a b c : ℕ) : Type 0 where
   pub same : text_of j ≡ text (text_of i).mnemonic (numbered (text_of i).first a) (numbered (text_of i).second b)
       (numbered (text_of i).third c)

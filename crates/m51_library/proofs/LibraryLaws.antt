@@ -3,6 +3,7 @@ use Rattle.std.proofs.Common.{◌≡◌, ℕ, ◌+◌, ◌≤◌, nat_le, true, 
 use Rattle.std.specs.List.{All, flat_map}
 use Rattle.std.proofs.lemmas.Bool.{le-leb}
 use Rattle.std.proofs.lemmas.List.Elements.{All-head, All-tail}
+use Rattle.std.proofs.Math.Nat.{mod-add-div}
 use Rattle.m51_cells.specs.declared.limits.TheConstants.{MOST_MODULES}
 use Rattle.m51_module.specs.declared.parts.ModuleParts.{ModuleParts}
 use Rattle.m51_module.specs.Library.{IsLibrary}
@@ -11,7 +12,7 @@ use Rattle.m51_records.specs.declared.types.TheConstants.{LIBRARY_HEADER}
 use Rattle.m51_records.specs.Fields.{pair, pair_at, checked}
 use Rattle.m51_records.specs.Reading.{one_at, module_at}
 use Rattle.m51_records.specs.Spelling.{bytes_of, records_in}
-use Rattle.m51_records.proofs.FieldLaws.{IsBytes, pair_takes, pair_again}
+use Rattle.m51_records.proofs.FieldLaws.{IsBytes, pair_takes}
 use Rattle.m51_records.proofs.ModuleAgain.{module_again}
 use Rattle.m51_records.proofs.SectionLaws.{one_takes, one_again}
 use Rattle.m51_records.proofs.Tools.{on_ok, checked_ok, ended_ok}
@@ -35,7 +36,7 @@ count_again : (end count : ℕ) → count ≤ MOST_MODULES → count_in end (pai
 unfolding count_in
 count_again end count few =
     let small : nat_le count MOST_MODULES ≡ true = le-leb count MOST_MODULES few in
-    rw (pair_again count, small) refl
+    rw (mod-add-div count 256, small) refl
 
 -- the first record
 pub first_takes : (total : ℕ) (bytes : List ℕ) (count : ℕ) (rest : List ℕ) → IsBytes bytes → one_at LIBRARY_HEADER count_in total 0 bytes ≡ Ok (count, rest) → bytes ≡ count_record count ++ rest

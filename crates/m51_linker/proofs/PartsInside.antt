@@ -7,6 +7,7 @@ use Rattle.std.proofs.lemmas.Bool.{and_parts, ltb-false, not-false}
 use Rattle.std.proofs.lemmas.List.Quantifiers.{position-Some}
 use Rattle.std.proofs.lemmas.Option.{slice_get-get_or, slice_get-map, slice_get_within}
 use Rattle.m51_cells.proofs.KindLaws.{kind_same}
+use Rattle.m51_cells.proofs.ListsAndOptions.{map_none}
 use Rattle.m51_cells.specs.declared.kind.Kind.{Kind}
 use Rattle.m51_cells.specs.Kinds.{most_of, same_kind, same_reloc}
 use Rattle.m51_module.specs.declared.parts.ModuleParts.{ModuleParts}
@@ -20,7 +21,7 @@ use Rattle.m51_resolve.proofs.FirstSight.{any_firsts}
 use Rattle.m51_resolve.proofs.JoinSteps.{none_at}
 use Rattle.m51_resolve.proofs.Lookups.{around, found, get-append, get_flat, get_left, IsThere, take_flat}
 use Rattle.m51_resolve.proofs.Positions.{none_found}
-use Rattle.m51_resolve.proofs.Within.{any-map, end-append, end_least, filter_at, find_none, firsts_append, most_fits, no_option}
+use Rattle.m51_resolve.proofs.Within.{any-map, end-append, end_least, filter_at, find_none, firsts_append, most_fits}
 
 -- a part ends at the end of its joined segment or below it
 part_end : (before : List Segment) (s : Segment) (after : List Segment) → is_relocatable s.reloc ≡ true
@@ -119,7 +120,7 @@ module _ (modules : List ModuleParts) (resolved : AreResolved modules) (n : ℕ)
   -- all parts agree with the one that is seen first
   agree : list_all (parts_agree f) (parts_with all f) ≡ true
   agree = not-false (list_all (parts_agree f) (parts_with all f))
-      (none_at (is_mixed all) (firsts all) n f (find_none (is_mixed all) (firsts all) (no_option (λ (s : Segment). s.name) (find (is_mixed all) (firsts all)) resolved.parts)) at)
+      (none_at (is_mixed all) (firsts all) n f (find_none (is_mixed all) (firsts all) (map_none (λ (s : Segment). s.name) (find (is_mixed all) (firsts all)) resolved.parts)) at)
 
   kind_by : (before after : List Segment) (s : Segment) → all ≡ before ++ s ∷ after → (f ≡ s) ⊎ (are_parts s f ≡ true) → f.kind ≡ s.kind
   kind_by before after s is (inl same) = ap (λ (x : Segment). x.kind) same
@@ -137,7 +138,7 @@ module _ (modules : List ModuleParts) (resolved : AreResolved modules) (n : ℕ)
   small =
       let none : list_any (λ x. is_too_large (joined_of all x)) (firsts all) ≡ false =
       sym (any-map is_too_large (joined_of all) (firsts all))
-      ∙ find_none is_too_large (segments_of modules) (no_option (λ (j : JoinedSegment). j.title) (find is_too_large (segments_of modules)) resolved.sizes) in
+      ∙ find_none is_too_large (segments_of modules) (map_none (λ (j : JoinedSegment). j.title) (find is_too_large (segments_of modules)) resolved.sizes) in
       let fits = ltb-false (most_of f.kind f.reloc) (end_after 0 (parts_with all f)) (none_at (λ x. is_too_large (joined_of all x)) (firsts all) n f none at) in
       omega (arith, fits, most_fits f.kind f.reloc)
 

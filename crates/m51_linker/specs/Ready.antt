@@ -26,7 +26,7 @@ pub record IsFixupPlaced (modules : List ModuleParts) (placing : Placing) (m : �
   pub inside : address_of modules placing m f.segment f.offset + field_len f.form ≤ 65536
   pub offset : (part_of modules m f.segment).1 + f.offset < 65536
 
--- the refusal is that of the rule; want of memory, which is none, says nothing
+-- the refusal is that of the rule; out of memory, which is none, says nothing
 abbrev pub MayRefuse : Option Refusal → Option Refusal → Type 0
 MayRefuse rule None = Unit {0}
 MayRefuse rule (Some refusal) = rule ≡ Some refusal

@@ -17,3 +17,4 @@ pub mod SampleModule
 pub mod SamplePublic
 pub mod Units
 pub mod EdgeTests
+pub mod FieldLengths

@@ -21,7 +21,7 @@ pub record IsLibrary (modules : List ModuleParts) : Type 0 where
   pub names : AllPairs (λ m n. m.name ≢ n.name) modules
   pub publics : AllPairs ShareNoPublic modules
 
--- what an error refuses: want of memory is no refusal
+-- what an error refuses: out of memory is no refusal
 abbrev pub refusal_of : LibError → Option LibError
 refusal_of Memory = None
 refusal_of refusal = Some refusal

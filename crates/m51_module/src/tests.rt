@@ -1,5 +1,6 @@
 //! What no clause says: that the calls give their answers where memory is there.
-use crate::{Image, sample};
+use crate::{Image, external_numbered, sample, segment_numbered};
+use m51_cells::Kind;
 use std::test::Fail;
 
 #[test]
@@ -19,6 +20,18 @@ fn a_module_is_raised(rt: HostRuntime) -> Result<(), Fail> {
     let module = sample::module_with(rt.alloc(), sample::name(b"A"), sample::name(b"P"))?;
     assert_eq!(rt; module.version(), 1);
     assert_eq!(rt; module.raise().version(), 2);
+    Ok(())
+}
+
+#[test]
+fn numbers_count_from_1(rt: HostRuntime) -> Result<(), Fail> {
+    let module = sample::module(rt.alloc())?;
+    let sizes = [0, 1, 2, 3].map(|number| {
+        segment_numbered(module.segments(), number).map(|segment| segment.size)
+    });
+    assert_eq!(rt; sizes, [None, Some(3), Some(1), None]);
+    let kind = external_numbered(module.externals(), 1).map(|external| external.kind);
+    assert_eq!(rt; kind, Some(Kind::Direct));
     Ok(())
 }
 

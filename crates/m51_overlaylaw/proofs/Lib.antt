@@ -1,1 +1,12 @@
 pub mod Printed
+pub mod ControlsKept
+pub mod ChosenModules
+pub mod GraphKept
+pub mod ReadModules
+pub mod SameSegments
+pub mod RefusalLines
+pub mod Outcomes
+pub mod Weights
+pub mod LeastOverlay
+pub mod EarlierRules
+pub mod Reported

@@ -6,12 +6,12 @@ use Rattle.std.specs.Fmt.{decimal}
 use Rattle.m51_cells.specs.declared.kind.Kind.{Kind}
 use Rattle.m51_cells.specs.declared.kind.Kind.TheVariants.{Code, Xdata, Direct, Idata, Bits, Number}
 use Rattle.m51_cells.specs.declared.kind.Reloc.TheVariants.{Unit as UnitType}
+use Rattle.m51_module.specs.declared.parts.LayoutParts.{LayoutParts}
 use Rattle.m51_module.specs.declared.placed.Mark.{Mark}
 use Rattle.m51_module.specs.declared.placed.Mark.TheVariants.{Absolute, Bank, Overlaid, Plain, Reserve}
 use Rattle.m51_module.specs.declared.placed.Placed.{Placed}
-use Rattle.m51_place.specs.declared.placing.Placing.{Placing}
 use Rattle.m51_module.specs.Chains.{is_overlaid_data}
-use Rattle.m51_place.specs.Bound.{count_below, overlays_byte}
+use Rattle.m51_place.specs.Bound.{count_below, overlaid_bytes, overlays_byte}
 use Rattle.m51_place.proofs.Figures.{figure_is_weight}
 use Rattle.m51_print.specs.Map.{is_overlaid_in_data, overlaid_below, overlays}
 use Rattle.m51_print.proofs.Ranges.{counted_more}
@@ -83,6 +83,10 @@ count_same placed (suc n) =
     let one : Bool → ℕ = λ b. cond b 1 0 in
     let test : one (list_any (overlays n) placed) ≡ one (list_any (overlays_byte n) placed) = ap one (any_same n placed) in
     omega (arith, more, test, count_same placed n)
+
+-- the figure of a map is that of the laws on placing
+pub figure_is_same : (l : LayoutParts) → overlaid_below l.placed 256 ≡ overlaid_bytes l
+figure_is_same l = count_same l.placed 256
 
 pub printed : PrintedFigureIsWeight
 printed modules controls g p low high weight valid resolved kept is graph_is_of placed data_only finds h =

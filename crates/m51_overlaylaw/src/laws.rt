@@ -1,4 +1,5 @@
-//! A law of the map, as the contract of a function with an empty body.
+//! Laws on the overlay that a build prints, each as the contract of a function with an empty body.
+ghost use Rattle.m51_overlaylaw.specs.Built.{BuildHasWeight, BuildPrintsLeast, BuildRefusesOverlay, L12OnlyAtPlacing};
 ghost use Rattle.m51_overlaylaw.specs.Laws.{PrintedFigureIsWeight};
 
 /// Where each overlaid segment is DATA of type UNIT and no argument segment, and the bytes below 80H that are open for
@@ -8,4 +9,34 @@ ghost use Rattle.m51_overlaylaw.specs.Laws.{PrintedFigureIsWeight};
 /// Source: own choice ("Heaviest chains").
 pub fn printed_figure_is_weight()
     ensures { PrintedFigureIsWeight }
+{}
+
+/// Under the same condition, for each outcome of `build` that is a run, status 0 or 1: the text begins with the map of
+/// the layout that placing gives, its `CHAIN` lines are the heaviest walks, and its `OVERLAID` line has the weight of
+/// the graph. The overlaid segments of that layout cover so many bytes of internal RAM, and those of no sound layout of
+/// the same segments fewer, whatever their bases.
+///
+/// Source: own choice ("Heaviest chains").
+pub fn build_prints_least_overlay()
+    ensures { BuildPrintsLeast }
+{}
+
+/// Under the same condition, for each outcome of `build` that comes as far as placing: it is status 4 and the line of
+/// L12 with the name of an overlaid segment exactly where the weight exceeds the length of the run, and neither L9
+/// comes nor L12 for a segment before the overlaid ones. With or without that condition L12 comes only where a build
+/// comes as far as placing: no file is refused, and no rule of the link before L9 fails.
+///
+/// Source: own choice ("Heaviest chains").
+pub fn build_refuses_overlay()
+    // Which builds that come as far as placing are refused so.
+    ensures exact { BuildRefusesOverlay }
+    // No other build is.
+    ensures only { L12OnlyAtPlacing }
+{}
+
+/// Where a build comes as far as placing, there is a weight: a heaviest walk from each root, whose bytes are added up.
+///
+/// Source: own choice ("Heaviest chains").
+pub fn build_has_weight()
+    ensures { BuildHasWeight }
 {}

@@ -1,6 +1,8 @@
-//! A law of the map: the figure of overlaid bytes that it prints.
+//! Laws on the overlay that a build prints: it is the least one, and refused exactly where it has no room.
 #![tactic(auto)]
 
 mod laws;
 
-pub use laws::printed_figure_is_weight;
+pub use laws::{
+    build_has_weight, build_prints_least_overlay, build_refuses_overlay, printed_figure_is_weight,
+};

@@ -8,12 +8,10 @@ use Rattle.m51_cells.specs.Outside.{AppendsFront}
 use Rattle.m51_cells.specs.declared.event.Entry.{Entry}
 use Rattle.m51_print.specs.Lines.{entry_line}
 use Rattle.m51_sim.specs.Writing.{StopsWithin}
+use Rattle.m51_sim.proofs.Tellings.{front_of_stop}
 use Rattle.m51_party.specs.Seats.{entry_text}
 use Rattle.m51_party.specs.Steps.{head_text}
 use Rattle.m51_party.specs.Text.{front_of}
-
-pub front_of_stop : (a b : Option (List ℕ)) (xs : List ℕ) → StopsWithin a b xs → AppendsFront a b xs
-front_of_stop a b xs q = (q.0, omega (arith, q.1), q.2)
 
 -- the same of what a call answers
 pub stop_front : {T E : Type 0} (r : Result T E) (a b : Option (List ℕ)) (xs : List ℕ) → OnErr r (StopsWithin a b xs) → OnErr r (AppendsFront a b xs)

@@ -2,8 +2,9 @@ mod Words
 mod Frames
 mod Ticks
 mod Alike
-mod One
+pub mod One
 mod Steps
+pub mod SameBoards
 pub mod Merging
 pub mod Within
 pub mod Spacing

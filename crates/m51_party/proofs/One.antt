@@ -8,6 +8,7 @@ use Rattle.m51_sim.specs.Runs.{Record, State}
 use Rattle.m51_sim.specs.SeparateMachine.{Separate}
 use Rattle.m51_party.specs.Family.{Family, IsFamily, IsFresh, frames_for, frames_sent, record_with, records_from}
 use Rattle.m51_party.specs.Laws.{ExactlyOneFamily, IsOnlyFamily}
+use Rattle.m51_party.specs.Rounds.{family_after, family_of}
 use Rattle.m51_party.proofs.Frames.{joined_same}
 use Rattle.m51_party.proofs.Ticks.{SameBefore, top}
 use Rattle.m51_party.proofs.Alike.{records_alike, records_same}
@@ -66,11 +67,6 @@ one_same limit index (b ∷ bs) n family other over same =
     (records_same b.monitor.layout b.chip.image (inputs_of b.chip.script) (frames_for index family) (frames_for index other) limit (same index) n (separate_of b) over)
     ∙ ap (λ (rs : Family). record_with n (frames_for index other) b ∷ rs) (one_same limit (suc index) bs n family other over same)
 
--- the records that boards make of no frames, of the frames of these records, and so on
-family_after : List BoardState → ℕ → ℕ → Family
-family_after bs n zero = []
-family_after bs n (suc rounds) = records_from 0 bs n (family_after bs n rounds)
-
 -- after so many rounds the frames before that cycle stay
 rounds_same : (bs : List BoardState) (n : ℕ) → AllStart bs → (rounds : ℕ) → GivenSame rounds (family_after bs n rounds) (family_after bs n (suc rounds))
 unfolding family_after
@@ -96,10 +92,15 @@ two_are_one : (bs : List BoardState) (n : ℕ) → AllStart bs → (family other
 two_are_one bs n starts family other is also limit over =
     also ∙ sym (one_same limit 0 bs n family other over (two_same bs n starts family other is also limit)) ∙ sym is
 
-one_from : (bs : List BoardState) (n : ℕ) → AllStart bs → (rounds : ℕ) → top < rounds → (family : Family) × IsOnlyFamily bs n family
+one_from : (bs : List BoardState) (n : ℕ) → AllStart bs → (rounds : ℕ) → top < rounds → IsOnlyFamily bs n (family_after bs n (suc rounds))
 one_from bs n starts rounds over =
     let is = family_is bs n starts rounds over in
-    (family_after bs n (suc rounds), record { is = is; only = λ other also. two_are_one bs n starts (family_after bs n (suc rounds)) other is also rounds over })
+    record { is = is; only = λ other also. two_are_one bs n starts (family_after bs n (suc rounds)) other is also rounds over }
+
+-- the family that is found in rounds is the only one
+pub only_family : (bs : List BoardState) (n : ℕ) → All IsFresh bs → IsOnlyFamily bs n (family_of bs n)
+unfolding family_of
+only_family bs n fresh = one_from bs n (all_start bs fresh) (2 ^ 64) (omega arith)
 
 pub exactly_one : ExactlyOneFamily
-exactly_one bs n fresh = one_from bs n (all_start bs fresh) (2 ^ 64) (omega arith)
+exactly_one bs n fresh = (family_of bs n, only_family bs n fresh)

@@ -1,8 +1,7 @@
 -- The bytes with a ninth bit that a board sends, one after another: only the last one may still be on the line.
-use Rattle.std.proofs.Common.{◌≡◌, ◌≢◌, ℕ, zero, suc, ◌+◌, ◌^◌, ◌-◌, ◌≤◌, ◌<◌, Bool, true, cond, List, [], ◌∷◌, ◌++◌, Option, Some, None, refl, ap, subst, ◌∙◌, arith, append-nil}
+use Rattle.std.proofs.Common.{◌≡◌, ◌≢◌, ℕ, zero, suc, ◌+◌, ◌^◌, ◌-◌, ◌≤◌, ◌<◌, Bool, List, [], ◌∷◌, ◌++◌, Option, Some, None, refl, ap, subst, ◌∙◌, arith, append-nil}
 use Rattle.std.specs.Prelude.{◌==◌, IsSome, IfSome, option_to_list, min}
-use Rattle.std.proofs.lemmas.Bool.{cond_both, ne_eqb}
-use Rattle.std.proofs.lemmas.Grind.{common_steps}
+use Rattle.std.proofs.lemmas.Bool.{ne_eqb}
 use Rattle.m51_cells.specs.declared.event.Entry.{Entry}
 use Rattle.m51_cells.specs.declared.event.Entry.TheVariants.{Port, Sent as SentByte}
 use Rattle.m51_flat.specs.declared.state.Cpu.{Cpu}
@@ -11,10 +10,10 @@ use Rattle.m51_flat.specs.Sfr.{flag, scon}
 use Rattle.m51_flat.specs.Flags.{tb8}
 use Rattle.m51_timers_uart.specs.declared.periph.Periph.{Periph}
 use Rattle.m51_timers_uart.specs.declared.periph.Sent.{Sent}
-use Rattle.m51_timers_uart.specs.Sending.{begun, bit_times, has_ninth, serial_mode}
+use Rattle.m51_timers_uart.specs.Sending.{begun, serial_mode}
 use Rattle.m51_timers_uart.specs.LineLaws.{written_to}
 use Rattle.m51_timers_uart.specs.Tick.{ticked}
-use Rattle.m51_timers_uart.proofs.Lines.{one_bit_passes}
+use Rattle.m51_timers_uart.proofs.Lines.{one_bit_passes, ninth_ten}
 use Rattle.m51_sim.specs.declared.cycles.Timed.{Timed}
 use Rattle.m51_sim.specs.Cycles.{Inputs, cycle_passed, cycles_passed, first_sent, frames_in, next_cycle, sent_in}
 use Rattle.m51_sim.specs.Effects.{changed_by}
@@ -28,13 +27,6 @@ use Rattle.m51_party.proofs.Within.{ticks_count}
 -- a byte with a ninth bit that is on its way arrives no earlier than this
 abbrev pub IsApart : ℕ → ℕ → Periph → Type 0
 IsApart least cycle p = IsSome p.ninth → p.left ≢ 0 → least ≤ p.left + cycle + 4
-
-ten : (m : ℕ) → has_ninth m ≡ true → bit_times m ≡ 10
-ten m h = grind (arith, common_steps, h)
-
-ninth_ten : (m : ℕ) (b : Bool) → IsSome (cond (has_ninth m) (Some b) None) → bit_times m ≡ 10
-ninth_ten m b =
-    cond_both (has_ninth m) (Some b) None (λ o. IsSome o → bit_times m ≡ 10) (λ e i. ten m e) (λ e i. absurd (cc i))
 
 begun_apart : (least cycle : ℕ) (cpu : Cpu) (byte : ℕ) (p : Periph) → least ≤ cycle + 14 → IsApart least cycle (begun cpu byte p)
 unfolding begun

@@ -6,6 +6,7 @@ use Rattle.m51_timers_uart.specs.Tick.{ticked}
 use Rattle.m51_party.proofs.Words.{Passing}
 use Rattle.m51_sim.specs.declared.cycles.Timed.{Timed}
 use Rattle.m51_sim.specs.Cycles.{Inputs, after_tick, cycle_passed, cycles_passed, frames_in, next_cycle, sent_in, with_extra}
+use Rattle.m51_sim.proofs.StepCycles.{one_counts}
 use Rattle.m51_party.proofs.Frames.{From, first_from, first_same, sent_frames, sent_from}
 
 -- the last number of a cycle
@@ -31,10 +32,6 @@ tick_sends inputs p least h k =
     let told = (ticked p.cpu (inputs.pins cycle) (inputs.frames cycle) p.periph).sent in
     first_from least p.sent (sent_in cycle told) k (sent_from cycle least told h)
 
-pub tick_counts : (inputs : Inputs) (p : Passing) → (cycle_passed inputs p).cycle ≡ next_cycle p.cycle
-unfolding cycle_passed
-tick_counts inputs p = refl
-
 -- the next number does not fall either
 pub next_no_less : (a b : ℕ) → a ≤ b → next_cycle a ≤ next_cycle b
 next_no_less a b h = omega (arith, h)
@@ -46,7 +43,7 @@ ticks_from inputs least zero p h k = record { later = omega arith; most = h; sen
 ticks_from inputs least (suc count) p h k =
     let before = ticks_from inputs least count p h k in
     let q = cycles_passed inputs count p in
-    let is = tick_counts inputs q in
+    let is = one_counts inputs q in
     let more = next_later q.cycle before.most in
     record {
       later = omega (arith, is, more, before.later);
@@ -95,8 +92,8 @@ module _ (inputs : Inputs) (xs ys : List Timed) (limit : ℕ) (same : SameBefore
       → ((cycle : ℕ) → cycle < suc limit → frames_in cycle (sent_frames p.sent) ≡ frames_in cycle (sent_frames q.sent))
       → HaveParted (cycle_passed (with_extra xs inputs) p) (cycle_passed (with_extra ys inputs) q)
   parted_from p q h k sent =
-      let one = tick_counts (with_extra xs inputs) p in
-      let two = tick_counts (with_extra ys inputs) q in
+      let one = one_counts (with_extra xs inputs) p in
+      let two = one_counts (with_extra ys inputs) q in
       record {
         left = omega (arith, one, h);
         right = omega (arith, two, k);

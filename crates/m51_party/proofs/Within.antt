@@ -10,15 +10,16 @@ use Rattle.m51_sim.specs.Cycles.{Inputs, after_tick, cycle_passed, cycles_passed
 use Rattle.m51_sim.specs.Effects.{attempt_of, changed_by, passed_into, port_entry}
 use Rattle.m51_sim.specs.Runs.{State}
 use Rattle.m51_sim.specs.SeparateMachine.{Separate, memory_after, separate_effect, separate_machine, separate_performs}
+use Rattle.m51_sim.proofs.StepCycles.{one_counts}
 use Rattle.m51_party.proofs.Words.{Allowed, Passing}
-use Rattle.m51_party.proofs.Ticks.{tick_counts, top}
+use Rattle.m51_party.proofs.Ticks.{top}
 
 -- the number of the cycle grows by one in each, up to its last value
 pub ticks_count : (inputs : Inputs) (count : ℕ) (p : Passing) → p.cycle ≤ top → (cycles_passed inputs count p).cycle ≡ min (p.cycle + count) top
 unfolding cycles_passed
 ticks_count inputs zero p h = omega (arith, h)
 ticks_count inputs (suc count) p h =
-    let is = tick_counts inputs (cycles_passed inputs count p) in
+    let is = one_counts inputs (cycles_passed inputs count p) in
     let before = ticks_count inputs count p h in
     omega (arith, is, before, h)
 

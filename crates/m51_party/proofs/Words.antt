@@ -2,9 +2,7 @@
 use Rattle.m51_sim.specs.Effects.{changed_by}
 use Rattle.m51_sim.specs.Runs.{entries_of}
 use Rattle.m51_sim.specs.SeparateMachine.{memory_after}
-
-abbrev argument_of : {A B : Type 0} → (A → B) → Type 0
-argument_of {A} {B} f = A
+use Rattle.m51_sim.proofs.TakenTypes.{taken_by}
 
 abbrev third_of : {A B C D : Type 0} → (A → B → C → D) → Type 0
 third_of {A} {B} {C} {D} f = C
@@ -18,7 +16,7 @@ Passing = given_by changed_by
 
 -- what a step tells
 abbrev pub Entries : Type 0
-Entries = argument_of entries_of
+Entries = taken_by entries_of
 
 -- an effect that is allowed
 abbrev pub Allowed : Type 0

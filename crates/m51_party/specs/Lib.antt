@@ -1,4 +1,5 @@
 pub mod Family
+pub mod Rounds
 pub mod Text
 pub mod Laws
 pub mod Seats

@@ -18,6 +18,10 @@ pub record IsPartyOf (boards : List BoardState) (party : List Seat) : Type 0 whe
   pub fresh : All IsFresh boards
   pub seats : party ≡ map new_seat boards
 
+-- its boards
+abbrev pub boards_of : List Seat → List BoardState
+boards_of party = map (λ s. s.board) party
+
 -- some record has an event
 abbrev pub has_event : Family → Bool
 has_event family = list_any (λ r. is_some r.event) family

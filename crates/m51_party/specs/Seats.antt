@@ -1,4 +1,5 @@
--- What contracts of private functions see of the boards on the line: facts that they hand on, and no definitions.
+-- What contracts of private functions see of the boards on the line: a board that was not stepped, and facts that they
+-- hand on.
 use Rattle.std.specs.Prelude.{◌≡◌, ℕ, suc, ◌+◌, ◌-◌, ◌^◌, Bool, ◌&&◌, ◌==◌, nat_lt, min, if◌then◌else◌}
 use Rattle.std.specs.Prelude.{List, [], ◌∷◌, ◌++◌, is_none, length, flat_map, option_to_list}
 use Rattle.std.specs.Prelude.{slice_get, slice_set, Option, Some, None}

@@ -9,9 +9,9 @@ use Rattle.std.proofs.lemmas.Bool.Decides.{Decides-eqb, same_from_decides}
 use Rattle.std.proofs.lemmas.List.Elements.{All-contains, filter_passes}
 use Rattle.std.proofs.lemmas.List.Folds.{Any-from_list_any, list_any_at}
 use Rattle.std.proofs.lemmas.List.FromFn.{get_or-range_with_len, length-range_with_len}
-use Rattle.m51_graph.proofs.Judged.{filter_keeps}
 use Rattle.m51_cells.specs.declared.cell.Space.{Space}
 use Rattle.m51_cells.specs.declared.extent.Extent.{Extent}
+use Rattle.m51_cells.proofs.ListsAndOptions.{filter_keeps}
 use Rattle.m51_module.specs.Conflict.{AreRelated, Same, Before, After, FirstUnderNone, SecondUnderNone, UnderTwo, FirstPlain, SecondPlain, Owners}
 use Rattle.m51_module.specs.Cells.{extent_at}
 use Rattle.m51_module.specs.Roots.{vectors}

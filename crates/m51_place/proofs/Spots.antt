@@ -5,7 +5,7 @@ use Rattle.std.specs.Option.{option_map_or}
 use Rattle.std.specs.List.{All}
 use Rattle.std.proofs.lemmas.Bool.{false≢true}
 use Rattle.std.proofs.lemmas.List.Elements.{All-nil, All-cons}
-use Rattle.std.proofs.lemmas.Option.{slice_get-map}
+use Rattle.std.proofs.lemmas.Option.{slice_get-map, same_Some}
 use Rattle.std.proofs.lemmas.Option.{none-some}
 use Rattle.m51_cells.specs.declared.kind.Kind.{Kind}
 use Rattle.m51_cells.specs.declared.kind.Kind.TheVariants.{Code, Xdata, Direct, Idata, Bits, Number}
@@ -115,9 +115,6 @@ own_is_of segments controls g is number j at =
     let read : Option (Option ℕ) → Option ℕ = λ found. option_map_or (λ (own : Option ℕ). own) found None in
     ap read (ap (λ (os : List (Option ℕ)). slice_get os number) is.own ∙ slice_get-map f segments number ∙ ap (option_map f) at)
 
-same_number : (m n : ℕ) → Some m ≡ Some n → m ≡ n
-same_number m n e = cc e
-
 owned_is_marked : (titles : List (List ℕ)) (controls : List (ℕ × Control)) (j : JoinedSegment) (unit : ℕ) → overlaid_by titles controls j ≡ Some unit → j.overlay ≡ true
 owned_is_marked titles controls j unit h = elim (cases_Bool j.overlay) as (λ _. j.overlay ≡ true) [
   | inl marked ↦ marked
@@ -139,7 +136,7 @@ module _ (segments : List JoinedSegment) (controls : List (ℕ × Control)) (g :
           absolute = λ _. joined.some abs;
           code = λ _ e. cc e;
         };
-        numbered = λ n e. subst (λ m. IsSegmentOf g segments m (absolute number j).placed) (same_number number n e) (record {
+        numbered = λ n e. subst (λ m. IsSegmentOf g segments m (absolute number j).placed) (same_Some number n e) (record {
           j = j;
           is = at;
           title = refl;
@@ -180,7 +177,7 @@ module _ (segments : List JoinedSegment) (controls : List (ℕ × Control)) (g :
           absolute = λ e. absurd (not_absolute t.own e);
           code = λ code e. let owner = has_owner t.own e in joined.code (marked t.number j owner.0 h.segment (sym h.own ∙ owner.1)) code;
         };
-        numbered = λ n e. subst (λ m. IsSegmentOf g segments m (located_at t base).placed) (same_number t.number n e) (record {
+        numbered = λ n e. subst (λ m. IsSegmentOf g segments m (located_at t base).placed) (same_Some t.number n e) (record {
           j = j;
           is = h.segment;
           title = refl;

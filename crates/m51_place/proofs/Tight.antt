@@ -7,6 +7,7 @@ use Rattle.std.proofs.lemmas.List.Elements.{All-append, All-contains, Contains-a
 use Rattle.std.proofs.lemmas.List.Folds.{Any-from_list_any}
 use Rattle.std.proofs.lemmas.List.Sums.{sum_by-append}
 use Rattle.std.proofs.lemmas.Option.{none-some}
+use Rattle.std.proofs.Math.Nat.{le_trans}
 use Rattle.m51_control.specs.declared.control.Control.{Control}
 use Rattle.m51_control.specs.Controls.{AreKept}
 use Rattle.m51_module.specs.declared.linked.Chain.{Chain}
@@ -72,9 +73,6 @@ tally_range (suc n) base size = omega (arith, tally_range n base size)
 
 both_ways : (a b : ℕ) → a ≤ b → b ≤ a → a ≡ b
 both_ways a b h k = omega (arith, h, k)
-
-at_most : (a b c : ℕ) → a ≤ b → b ≤ c → a ≤ c
-at_most a b c h k = omega (arith, h, k)
 
 -- what lies in a range counts no more than its length
 in_range_most : (n : ℕ) (test : ℕ → Bool) (base size : ℕ) → ((byte : ℕ) → test byte ≡ true → (base ≤ byte) × (byte < base + size)) → count_below test n ≤ size
@@ -238,7 +236,7 @@ module _ (modules : List ModuleParts) (controls : List (ℕ × Control)) (g : Gr
       let run_is : low + (high - low) ≡ high = omega (arith, finds.run.order) in
       let room = in_range_most 256 test low (high - low) (λ byte covers. let at = covered_in byte covers in (at.from, omega (arith, at.till, run_is))) in
       let bound = least l weight layout_sound h in
-      (both_ways _ _ most bound, finds.run.order, at_most _ _ _ bound room)
+      (both_ways _ _ most bound, finds.run.order, le_trans bound room)
 
 pub placing_tight : PlacingIsTight
 placing_tight modules controls g p low high weight valid resolved kept is graph_is_of placed data_only finds h =

@@ -1,4 +1,4 @@
--- Of the code: what placing one segment after another stands on.
+-- Of the code: what placing one segment after another needs.
 use Rattle.std.specs.Prelude.{◌≡◌, ◌≢◌, ℕ, ◌<◌, true, length, Some}
 use Rattle.m51_cells.specs.declared.kind.Kind.TheVariants.{Number}
 use Rattle.m51_cells.specs.Fits.{allows}

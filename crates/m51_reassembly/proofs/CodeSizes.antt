@@ -1,5 +1,5 @@
 -- The assembler gives a disassembled instruction the length of its row.
-use Rattle.std.proofs.Common.{◌≡◌, Some, None, option_map, refl, ap, ◌∙◌}
+use Rattle.std.proofs.Common.{◌≡◌, Some, option_map, refl, ap, ◌∙◌}
 use Rattle.std.specs.Prelude.{unwrap_or}
 use Rattle.m51_isa.specs.declared.instr.Instr.{Instr}
 use Rattle.m51_isa.specs.declared.instr.Instr.TheVariants.{Nop}
@@ -9,10 +9,10 @@ use Rattle.m51_isa.specs.Logic.{logic}
 use Rattle.m51_isa.specs.Moves.{moves}
 use Rattle.m51_isa.specs.Branches.{branches}
 use Rattle.m51_isa.specs.Jumps.{jumps}
-use Rattle.m51_isa.specs.Generic.{generic}
 use Rattle.m51_isa.specs.Search.{search, row_or, row_for}
 use Rattle.m51_isa.specs.Spelling.{text_of, look_of}
 use Rattle.m51_isa.specs.Table.{length_of as row_length}
+use Rattle.m51_isa.proofs.RowsFilled.{rows_are_apart}
 use Rattle.m51_expr.specs.Meanings.{Meanings}
 use Rattle.m51_coding.specs.Coding.{length_of}
 use Rattle.m51_asm.specs.Fitting.{size_by}
@@ -27,11 +27,6 @@ use Rattle.m51_reassembly.specs.Places.{line_size}
 use Rattle.m51_reassembly.specs.Sound.{AreSlots, IsContent, IsSound}
 use Rattle.m51_reassembly.proofs.InstructionsCut.{instruction_read}
 
--- no row is written as a generic jump
-no_generic : (i : Instr) → generic (text_of i).mnemonic (look_of (text_of i).first) (look_of (text_of i).second) (look_of (text_of i).third) ≡ None
-no_generic Nop = refl
-no_generic i = refl
-
 -- a row that is found has the length of the row
 found_length : (i : Instr) → option_map row_length (search (text_of i).mnemonic (look_of (text_of i).first) (look_of (text_of i).second) (look_of (text_of i).third)) ≡ Some (row_length i)
 unfolding arithmetic logic moves branches jumps
@@ -41,7 +36,7 @@ found_length i = refl
 row_length_is : (i : Instr) (form : Jump) → option_map row_length (row_for (text_of i).mnemonic form (look_of (text_of i).first) (look_of (text_of i).second) (look_of (text_of i).third)) ≡ Some (row_length i)
 row_length_is i form =
     let t = text_of i in
-    ap (λ verb. option_map row_length (row_or form verb (search t.mnemonic (look_of t.first) (look_of t.second) (look_of t.third)))) (no_generic i)
+    ap (λ verb. option_map row_length (row_or form verb (search t.mnemonic (look_of t.first) (look_of t.second) (look_of t.third)))) (rows_are_apart i)
     ∙ found_length i
 
 -- the length of a disassembled instruction, in whatever form

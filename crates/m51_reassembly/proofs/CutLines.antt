@@ -1,7 +1,7 @@
 -- The cut of a line of words, with blanks between them or none.
-use Rattle.std.proofs.Common.{◌≡◌, ℕ, ◌+◌, ◌-◌, ◌<◌, ◌&&◌, true, List, [], ◌∷◌, ◌++◌, length, length-append, drop, take, map, Some, Ok, refl, ap, ◌∙◌, append_assoc, arith, subst}
-use Rattle.std.specs.List.{list_all, slice_range}
-use Rattle.std.proofs.Math.Seq.{drop-append_seam, take-append_seam}
+use Rattle.std.proofs.Common.{◌≡◌, ℕ, ◌+◌, ◌-◌, ◌<◌, ◌&&◌, true, List, [], ◌∷◌, ◌++◌, length, length-append, drop, map, Some, Ok, refl, ap, ◌∙◌, append_assoc, arith, subst}
+use Rattle.std.specs.List.{list_all}
+use Rattle.std.proofs.Math.Seq.{drop-append_seam}
 use Rattle.std.proofs.lemmas.List.Folds.{list_all-append}
 use Rattle.m51_lex.specs.declared.token.Token.{Token}
 use Rattle.m51_lex.specs.Characters.{space}
@@ -12,7 +12,7 @@ use Rattle.m51_expr.specs.Symbol.{symbol_of}
 use Rattle.m51_stmt.specs.Answer.{and_then, or_fault}
 use Rattle.m51_stmt.specs.Statement.{StmtTree}
 use Rattle.m51_stmt.specs.Lines.{statement, statement_fault, read, token_line}
-use Rattle.m51_stmt.proofs.LineCuts.{Word, token_at, AreWords, symbol, are_symbols}
+use Rattle.m51_stmt.proofs.LineCuts.{Word, token_at, AreWords, symbol, are_symbols, one_blank, word_within}
 use Rattle.m51_text.specs.Said.{is_character}
 
 -- the word stands as a token of its own before these bytes
@@ -35,15 +35,11 @@ no_words = record { tokens = λ at. []; cut = λ at. refl; words = λ before. tt
 moved : (line : List ℕ) (more : List Token) (ws : List Word) (other : List ℕ) → other ≡ line → AreWords other more ws → AreWords line more ws
 moved line more ws other e h = subst (λ l. AreWords l more ws) e h
 
-at_blank : (at : ℕ) (rest : List ℕ) → tokens_at 0 at (space ∷ rest) ≡ tokens_at 0 (at + 1) rest
-unfolding lexeme_of
-at_blank at rest = refl
-
 -- a blank before a line
 pub after_blank : (rest : List ℕ) (ws : List Word) → IsCutInto rest ws → IsCutInto (space ∷ rest) ws
 after_blank rest ws c = record {
   tokens = λ at. c.tokens (at + 1);
-  cut = λ at. at_blank at rest ∙ c.cut (at + 1);
+  cut = λ at. one_blank at rest ∙ c.cut (at + 1);
   words = λ before.
       let next : length (before ++ space ∷ []) ≡ length before + 1 = length-append before (space ∷ []) in
       moved (before ++ space ∷ rest) (c.tokens (length before + 1)) ws ((before ++ space ∷ []) ++ rest) (append_assoc before (space ∷ []) rest)
@@ -61,12 +57,6 @@ one_token w rest at is =
     ∙ is.front at (λ k. tokens_at 0 (at + 1 + k) (drop (1 + k) l))
     ∙ ap (put_front (token_at at w ∷ [])) (ap (λ a. tokens_at 0 a (drop (1 + (n - 1)) l)) after ∙ ap (λ k. tokens_at 0 (at + n) (drop k l)) same ∙ ap (λ r. tokens_at 0 (at + n) r) (drop-append_seam w.text rest))
 
-inside : (before text rest : List ℕ) → slice_range (before ++ (text ++ rest)) (length before) (length before + length text) ≡ text
-inside before text rest =
-    let size : length before + length text - length before ≡ length text = omega arith in
-    ap (λ l. take (length before + length text - length before) l) (drop-append_seam before (text ++ rest))
-    ∙ ap (λ n. take n (text ++ rest)) size ∙ take-append_seam text rest
-
 -- a word before a line
 pub after_word : (w : Word) (rest : List ℕ) (ws : List Word) → Stands w rest → IsCutInto rest ws → IsCutInto (w.text ++ rest) (w ∷ ws)
 after_word w rest ws is c = record {
@@ -75,7 +65,7 @@ after_word w rest ws is c = record {
   words = λ before.
       let next : length (before ++ w.text) ≡ length before + length w.text = length-append before w.text in (
         refl,
-        inside before w.text rest,
+        word_within before w.text rest,
         moved (before ++ (w.text ++ rest)) (c.tokens (length before + length w.text)) ws ((before ++ w.text) ++ rest) (append_assoc before w.text rest)
             (subst (λ n. AreWords ((before ++ w.text) ++ rest) (c.tokens n) ws) next (c.words (before ++ w.text))),
       );

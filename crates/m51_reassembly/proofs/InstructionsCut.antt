@@ -35,10 +35,10 @@ use Rattle.m51_reassembly.proofs.StandingWords.{name_stands, comma_stands}
 use Rattle.m51_reassembly.proofs.OperandsCut.{IsReadOperand, is_there, slot_read}
 
 -- no operand stands after one that is not there
-abbrev in_order : Slot → Slot → Slot → Bool
+abbrev pub in_order : Slot → Slot → Slot → Bool
 in_order a b c = (is_there a || not (is_there b)) && (is_there b || not (is_there c))
 
-rows_in_order : (i : Instr) → in_order (text_of i).first (text_of i).second (text_of i).third ≡ true
+pub rows_in_order : (i : Instr) → in_order (text_of i).first (text_of i).second (text_of i).third ≡ true
 rows_in_order Nop = refl
 rows_in_order i = refl
 

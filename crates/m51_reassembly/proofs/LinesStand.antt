@@ -29,7 +29,7 @@ unfolding value_of
 number_is names base = refl
 
 -- from line k on the text says these lines
-abbrev Says : List LineTree → ℕ → List Line → Type 0
+abbrev pub Says : List LineTree → ℕ → List Line → Type 0
 Says lines k [] = Unit {0}
 Says lines k (l ∷ ls) = (body_at lines k ≡ (meant l).body) × Says lines (suc k) ls
 
@@ -41,25 +41,25 @@ says_from lines k n (l ∷ ls) h =
       says_from lines (suc k) (n + 1) ls (λ j. (let next : suc k + j ≡ k + suc j = omega arith in ap (slice_get lines) next) ∙ h (suc j)),
     )
 
-says_all : (ls : List Line) → Says (read_from 1 ls) 0 ls
+pub says_all : (ls : List Line) → Says (read_from 1 ls) 0 ls
 says_all ls = says_from (read_from 1 ls) 0 1 ls (λ j. (let same : 0 + j ≡ j = omega arith in ap (slice_get (read_from 1 ls)) same))
 
 -- what a line says other than CSEG keeps the segment
-abbrev Keeps : BodyTree → Type 0
+abbrev pub Keeps : BodyTree → Type 0
 Keeps b = (lines : List LineTree) (k : ℕ) (names : Meanings) (last : Kind → Option TextSegment) (s : TextSegment) → segment_by lines k names last s b ≡ s
 
-content_keeps : (t : Target) (c : Content) → Keeps (meaning.body_of t c)
+pub content_keeps : (t : Target) (c : Content) → Keeps (meaning.body_of t c)
 content_keeps t (content.Byte byte) = λ lines k names last s. refl
 content_keeps t (content.Code i) = λ lines k names last s. refl
 
 module _ (lines : List LineTree) (a : Assignment) (f : Fits lines a) where
   -- line k stands in this segment, to which the lines before give so many bytes
-  record StandsAt (k : ℕ) (s : TextSegment) (given : ℕ) : Type 0 where
-    segment : a.segment k ≡ s
-    given_is : filled lines a s.id k ≡ given
-    known : (j : ℕ) → j ≤ k → (a.segment j).id < k + 2
+  pub record LineStands (k : ℕ) (s : TextSegment) (given : ℕ) : Type 0 where
+    pub segment : a.segment k ≡ s
+    pub given_is : filled lines a s.id k ≡ given
+    pub known : (j : ℕ) → j ≤ k → (a.segment j).id < k + 2
 
-  at_start : StandsAt 0 opening 0
+  pub at_start : LineStands 0 opening 0
   unfolding filled
   at_start = record {
     segment = f.first;
@@ -83,7 +83,7 @@ module _ (lines : List LineTree) (a : Assignment) (f : Fits lines a) where
       (λ from. let e : suc k ≡ j = omega (arith, low, from) in subst (λ i. (a.segment i).id < suc k + 2) e next)
       (order j (suc k))
 
-  goes_on : (k : ℕ) (s : TextSegment) (given size : ℕ) (b : BodyTree) → StandsAt k s given → body_at lines k ≡ b → Keeps b → size_at lines a k ≡ size → StandsAt (suc k) s (given + size)
+  goes_on : (k : ℕ) (s : TextSegment) (given size : ℕ) (b : BodyTree) → LineStands k s given → body_at lines k ≡ b → Keeps b → size_at lines a k ≡ size → LineStands (suc k) s (given + size)
   unfolding filled segment_behind
   goes_on k s given size b h is keeps gives =
       let stays : a.segment (suc k) ≡ a.segment k =
@@ -96,7 +96,7 @@ module _ (lines : List LineTree) (a : Assignment) (f : Fits lines a) where
         known = still_known k h.known (let low = h.known k (omega arith) in let e = ap (λ x. x.id) stays in omega (arith, low, e));
       }
 
-  begins : (k : ℕ) (s : TextSegment) (given base : ℕ) → StandsAt k s given → body_at lines k ≡ Select kind.Code (Some (tree.Number base)) → StandsAt (suc k) (absolute (k + 2) kind.Code base) 0
+  pub begins : (k : ℕ) (s : TextSegment) (given base : ℕ) → LineStands k s given → body_at lines k ≡ Select kind.Code (Some (tree.Number base)) → LineStands (suc k) (absolute (k + 2) kind.Code base) 0
   unfolding segment_behind
   begins k s given base h is =
       let new : a.segment (suc k) ≡ absolute (k + 2) kind.Code base =
@@ -108,21 +108,21 @@ module _ (lines : List LineTree) (a : Assignment) (f : Fits lines a) where
         known = still_known k h.known (let e = ap (λ x. x.id) new in omega (arith, e));
       }
 
-  size_of : (k : ℕ) (l : Line) → IsSound l → body_at lines k ≡ (meant l).body → size_at lines a k ≡ line_size l
+  pub size_of : (k : ℕ) (l : Line) → IsSound l → body_at lines k ≡ (meant l).body → size_at lines a k ≡ line_size l
   unfolding size_at
   size_of k l sound is = ap (size_by (above lines a k) (a.form k)) is ∙ size_is (above lines a k) (a.form k) l sound
 
-  keeps_line : (k : ℕ) (s : TextSegment) (given : ℕ) (l : Line) → IsSound l → StandsAt k s given → body_at lines k ≡ (meant l).body → Keeps (meant l).body → StandsAt (suc k) s (given + line_size l)
+  pub keeps_line : (k : ℕ) (s : TextSegment) (given : ℕ) (l : Line) → IsSound l → LineStands k s given → body_at lines k ≡ (meant l).body → Keeps (meant l).body → LineStands (suc k) s (given + line_size l)
   keeps_line k s given l sound h is keeps = goes_on k s given (line_size l) (meant l).body h is keeps (size_of k l sound is)
 
-  spot_here : (k : ℕ) (s : TextSegment) (given : ℕ) → StandsAt k s given → IsSpot a k (record { segment = s; place = s.base + given })
+  pub spot_here : (k : ℕ) (s : TextSegment) (given : ℕ) → LineStands k s given → IsSpot a k (record { segment = s; place = s.base + given })
   spot_here k s given h = record {
     segment = h.segment;
     place = f.places k ∙ (λ i. (h.segment i).base + filled lines a (h.segment i).id k) ∙ ap (λ n. s.base + n) h.given_is;
   }
 
   -- the lines from line k on stand in their spots
-  spots_are : (ls : List Line) (k : ℕ) (s : TextSegment) (given place : ℕ) → place ≡ s.base + given → AllByRecursion IsSound ls → StandsAt k s given → Says lines k ls
+  spots_are : (ls : List Line) (k : ℕ) (s : TextSegment) (given place : ℕ) → place ≡ s.base + given → AllByRecursion IsSound ls → LineStands k s given → Says lines k ls
       → (j : ℕ) (spot : Spot) → slice_get (spots_from k s place ls) j ≡ Some spot → IsSpot a (k + j) spot
   spots_are [] k s given place at sound h is j spot e = absurd (cc e)
   spots_are (l ∷ ls) k s given place at sound h is zero spot e =

@@ -98,7 +98,7 @@ slot_there t next (Plain f) led h = field_there t next f.field f.number led h
 slot_there t next s led h = tt
 
 -- the operands of an instruction that leads where its fields say
-slots_there : (begin : List ℕ) (next : ℕ) (t : Text) → AllRoom t → AreSlots (written_target begin (address_of next t)) t
+pub slots_there : (begin : List ℕ) (next : ℕ) (t : Text) → AllRoom t → AreSlots (written_target begin (address_of next t)) t
 slots_there begin next t room =
     let a : Option ℕ = address_in next (field_in t.first) in
     let b : Option ℕ = address_in next (field_in t.second) in
@@ -151,7 +151,7 @@ module _ (image : List ℕ) (bytes : AreBytes image) where
   }
 
   -- each of the statements of a row of bytes is that at one of their addresses
-  each_statement : (P : Statement → Type 0) (end passed at more : ℕ) → ((a : ℕ) → at ≤ a → a < at + more → P (statement_at image end a))
+  pub each_statement : (P : Statement → Type 0) (end passed at more : ℕ) → ((a : ℕ) → at ≤ a → a < at + more → P (statement_at image end a))
       → AllByRecursion P (statements_from image end passed at more)
   unfolding statements_from
   each_statement P end passed at zero h = tt

@@ -1,21 +1,23 @@
 -- Names, numbers and signs stand as tokens of their own before what does not go on with them.
-use Rattle.std.proofs.Common.{◌≡◌, ℕ, ◌+◌, ◌-◌, ◌*◌, ◌/◌, ◌%◌, ◌<◌, ◌==◌, ◌||◌, ◌&&◌, cond, nat_lt, nat_le, Bool, true, false, List, [], ◌∷◌, ◌++◌, length, take, Some, None, refl, ap, ◌∙◌, arith, slice_index}
-use Rattle.std.specs.Char.{is_ascii_digit, is_ascii_alphanumeric, digit_value}
+use Rattle.std.proofs.Common.{◌≡◌, ℕ, ◌+◌, ◌-◌, ◌*◌, ◌/◌, ◌%◌, ◌<◌, ◌==◌, ◌||◌, nat_le, Bool, true, false, List, [], ◌∷◌, ◌++◌, length, take, Some, refl, ap, ◌∙◌, arith, slice_index}
+use Rattle.std.specs.Char.{is_ascii_alphanumeric}
 use Rattle.std.specs.Fmt.{digit_glyph}
 use Rattle.std.specs.List.{list_all, prefix_len}
 use Rattle.std.proofs.lemmas.Grind.{common_steps}
 use Rattle.std.proofs.Math.Seq.{take-append_seam}
+use Rattle.std.proofs.lemmas.Bool.{or_parts}
 use Rattle.m51_cells.specs.Hex.{hex2, hex4}
 use Rattle.m51_cells.specs.Name as cells
 use Rattle.m51_cells.specs.Name.{name_of, is_name}
 use Rattle.m51_cells.proofs.NameLaws.{named_is_name, name_parts}
+use Rattle.m51_cells.proofs.Passing.{weaker}
 use Rattle.m51_lex.specs.declared.token.What.TheVariants as what
 use Rattle.m51_lex.specs.Characters.{is_name_byte}
 use Rattle.m51_lex.specs.Number.{number_of, value_in, of_16_bits}
 use Rattle.m51_lex.specs.Lexeme.{lexeme_of, name_lexeme, number_or_fault}
 use Rattle.m51_lex.specs.Tokens.{Cut, put_front, after_lexeme}
 use Rattle.m51_stmt.proofs.LineCuts.{Word, token_at}
-use Rattle.m51_stmt.proofs.WordCuts.{name_word, number_word, sign_word, left, right}
+use Rattle.m51_stmt.proofs.WordCuts.{name_word, number_word, sign_word, left, right, name_first, at_most_31, digit_step, in_16_bits, glyph_run}
 use Rattle.m51_text.specs.Said.{is_character}
 use Rattle.m51_disasm.specs.Texts.{byte_text, word_text}
 use Rattle.m51_reassembly.proofs.CutLines.{Stands}
@@ -32,33 +34,12 @@ run_ends p (w ∷ word) rest all stop =
     let tail = run_ends p word rest (right (p w) (list_all p word) all) stop in
     grind (arith, common_steps, head, tail)
 
-all_also : (p q : ℕ → Bool) → ((b : ℕ) → p b ≡ true → q b ≡ true) → (xs : List ℕ) → list_all p xs ≡ true → list_all q xs ≡ true
-all_also p q h [] all = refl
-all_also p q h (x ∷ xs) all =
-    λ i. h x (left (p x) (list_all p xs) all) i && all_also p q h xs (right (p x) (list_all p xs) all) i
-
 -- names
 of_name : (b : ℕ) → cells.is_name_byte b ≡ true → is_name_byte b ≡ true
 of_name b h = grind (arith, common_steps, h)
 
 name_character : (b : ℕ) → is_name_byte b ≡ true → is_character b ≡ true
 name_character b h = grind (arith, common_steps, h)
-
-no_blank : (b : ℕ) → is_name_byte b ≡ true → (b == 32 || b == 9) ≡ false
-no_blank b h = grind (arith, common_steps, h)
-
-no_comment : (b : ℕ) → is_name_byte b ≡ true → (b == 59) ≡ false
-no_comment b h = grind (arith, common_steps, h)
-
-few : (n : ℕ) → nat_le n 31 ≡ true → nat_lt 31 n ≡ false
-few n h = grind (arith, common_steps, h)
-
-fourth : {X : Type 0} (p q r s : Bool) (a b c d e : X) → p ≡ false → q ≡ false → r ≡ false → s ≡ true → cond p a (cond q b (cond r c (cond s d e))) ≡ d
-fourth p q r s a b c d e h k l m = λ i. cond (h i) a (cond (k i) b (cond (l i) c (cond (m i) d e)))
-
-name_first : (c : ℕ) (rest : List ℕ) → is_ascii_digit c ≡ false → is_name_byte c ≡ true → lexeme_of (c ∷ rest) ≡ name_lexeme (c ∷ rest)
-unfolding lexeme_of
-name_first c rest digit is = fourth (c == 32 || c == 9) (c == 59) (is_ascii_digit c) (is_name_byte c) _ _ _ _ _ (no_blank c is) (no_comment c is) digit is
 
 -- the word stands as a token before this rest
 abbrev IsToken : Word → List ℕ → Type 0
@@ -68,14 +49,14 @@ name_ends : (text rest : List ℕ) (at : ℕ) (go : ℕ → Cut) → list_all is
     → after_lexeme at (name_lexeme (text ++ rest)) go ≡ put_front (token_at at (name_word text) ∷ []) (go (length text - 1))
 name_ends text rest at go all most ends =
     let run = run_ends is_name_byte text rest all ends in
-    let low = few (length text) most in
+    let low = at_most_31 (length text) most in
     rw run (rw low refl)
 
 name_front : (text rest : List ℕ) → is_name text ≡ true → Ends rest → IsToken (name_word text) rest
 name_front [] rest h ends = absurd (cc h)
 name_front (c ∷ more) rest h ends =
     let parts = name_parts c more h in
-    let all : list_all is_name_byte (c ∷ more) ≡ true = all_also cells.is_name_byte is_name_byte of_name (c ∷ more) parts.bytes in
+    let all : list_all is_name_byte (c ∷ more) ≡ true = weaker cells.is_name_byte is_name_byte of_name (c ∷ more) parts.bytes in
     λ at go.
     ap (λ l. after_lexeme at l go) (name_first c (more ++ rest) parts.digit (left (is_name_byte c) (list_all is_name_byte more) all))
     ∙ name_ends (c ∷ more) rest at go all parts.most ends
@@ -84,7 +65,7 @@ name_characters : (text : List ℕ) → is_name text ≡ true → list_all is_ch
 name_characters [] h = absurd (cc h)
 name_characters (c ∷ more) h =
     let parts = name_parts c more h in
-    all_also cells.is_name_byte is_character (λ b is. name_character b (of_name b is)) (c ∷ more) parts.bytes
+    weaker cells.is_name_byte is_character (λ b is. name_character b (of_name b is)) (c ∷ more) parts.bytes
 
 has_some : (text : List ℕ) → is_name text ≡ true → 0 < length text
 has_some [] h = absurd (cc h)
@@ -122,27 +103,11 @@ unfolding lexeme_of
 slash_stands rest = record { some = omega arith; front = λ at go. refl; characters = refl }
 
 -- numbers
-glyph_value : (d : ℕ) → d < 16 → digit_value (digit_glyph true d) ≡ d
-glyph_value d h = grind (arith, common_steps)
-
-glyph_run : (d : ℕ) → d < 16 → is_ascii_alphanumeric (digit_glyph true d) ≡ true
-glyph_run d h = grind (arith, common_steps)
-
 run_name : (b : ℕ) → is_ascii_alphanumeric b ≡ true → is_name_byte b ≡ true
 run_name b h = ap (λ t. t || (63 == b || (95 == b || false))) h
 
-no_left : (a c : Bool) → (a || c) ≡ false → a ≡ false
-no_left true c h = absurd (cc h)
-no_left false c h = refl
-
 no_run : (b : ℕ) → is_name_byte b ≡ false → is_ascii_alphanumeric b ≡ false
-no_run b h = no_left (is_ascii_alphanumeric b) (63 == b || (95 == b || false)) h
-
-digit_step : (v d : ℕ) (cs : List ℕ) → d < 16 → value_in 16 v (digit_glyph true d ∷ cs) ≡ value_in 16 (v * 16 + d) cs
-digit_step v d cs low =
-    let t : nat_lt d 16 ≡ true = grind (arith, common_steps) in
-    ap (λ x. cond (nat_lt x 16) (value_in 16 (v * 16 + x) cs) None) (glyph_value d low)
-    ∙ ap (λ b. cond b (value_in 16 (v * 16 + d) cs) None) t
+no_run b h = (or_parts (is_ascii_alphanumeric b) (63 == b || (95 == b || false)) h).0
 
 two_digits : (v b : ℕ) (cs : List ℕ) → b < 256 → value_in 16 v (hex2 b ++ cs) ≡ value_in 16 (v * 256 + b) cs
 two_digits v b cs h =
@@ -150,9 +115,6 @@ two_digits v b cs h =
     digit_step v (b / 16) (digit_glyph true (b % 16) ∷ cs) (omega (arith, h))
     ∙ digit_step (v * 16 + b / 16) (b % 16) cs (omega arith)
     ∙ ap (λ n. value_in 16 n cs) same
-
-in_16_bits : (n : ℕ) → n < 65536 → of_16_bits (Some n) ≡ Some n
-in_16_bits n h = let t : nat_le n 65535 ≡ true = grind (arith, common_steps) in ap (λ b. cond b (Some n) None) t
 
 byte_number : (n : ℕ) → n < 256 → number_of (byte_text n) ≡ Some n
 unfolding number_of
@@ -194,7 +156,7 @@ number_front more rest n all is ends =
     ∙ ap (λ o. after_lexeme at (number_or_fault (length text) o) go) is
 
 run_characters : (text : List ℕ) → list_all is_ascii_alphanumeric text ≡ true → list_all is_character text ≡ true
-run_characters text all = all_also is_ascii_alphanumeric is_character (λ b is. name_character b (run_name b is)) text all
+run_characters text all = weaker is_ascii_alphanumeric is_character (λ b is. name_character b (run_name b is)) text all
 
 -- a number of two digits
 abbrev pub byte_word : ℕ → Word

@@ -1,13 +1,10 @@
 -- Each line of a disassembly is read as the statement that is meant.
-use Rattle.std.proofs.Common.{◌≡◌, ℕ, ◌<◌, ◌==◌, true, false, cond, map, List, [], ◌∷◌, ◌++◌, append_assoc, append-nil, drop, Option, Some, None, option_map, Ok, Err, refl, sym, ap, ◌∙◌, subst, arith}
+use Rattle.std.proofs.Common.{◌≡◌, ℕ, ◌<◌, true, false, map, List, [], ◌∷◌, ◌++◌, append_assoc, append-nil, Option, Some, None, option_map, Ok, refl, sym, ap, ◌∙◌, subst, arith}
 use Rattle.std.specs.Prelude.{codes}
-use Rattle.std.proofs.lemmas.Grind.{common_steps}
 use Rattle.std.specs.List.{list_all}
-use Rattle.m51_cells.specs.Name as cells
-use Rattle.m51_cells.specs.Name.{name_of, is_name}
-use Rattle.m51_cells.specs.declared.fault.TheConstants.{BAD_FORM}
+use Rattle.m51_cells.specs.Name.{name_of}
 use Rattle.m51_cells.specs.declared.kind.Kind.TheVariants as kind
-use Rattle.m51_cells.proofs.NameLaws.{named_is_name, name_parts}
+use Rattle.m51_cells.proofs.NameLaws.{named_is_name}
 use Rattle.m51_isa.specs.declared.instr.Instr.{Instr}
 use Rattle.m51_isa.specs.Spelling.{text_of}
 use Rattle.m51_expr.specs.declared.symbol.Symbol.TheVariants as symbols
@@ -17,12 +14,13 @@ use Rattle.m51_stmt.specs.Statement.{BodyTree, StmtTree, OperandTree}
 use Rattle.m51_stmt.specs.Control as control
 use Rattle.m51_stmt.specs.Directives.{directive_of, select_of}
 use Rattle.m51_stmt.specs.Grammar as grammar
-use Rattle.m51_stmt.specs.Lines.{statement, control_line, token_line, any_line}
+use Rattle.m51_stmt.specs.Lines.{statement, token_line, any_line}
 use Rattle.m51_stmt.proofs.LineCuts.{Word, symbol}
-use Rattle.m51_stmt.proofs.WordCuts.{name_word, number_word, sign_word, left}
+use Rattle.m51_stmt.proofs.WordCuts.{name_word, number_word, sign_word}
 use Rattle.m51_stmt.proofs.PrintedParts.{name_symbol}
 use Rattle.m51_stmt.proofs.PrintedBodies.{IsBody, body_words, body_said}
 use Rattle.m51_stmt.proofs.Derives.{statement_reads}
+use Rattle.m51_stmt.proofs.PrintedStatements.{name_line, labelled}
 use Rattle.m51_text.specs.Said.{is_character}
 use Rattle.m51_disasm.specs.declared.line.Line.{Line}
 use Rattle.m51_disasm.specs.declared.line.Line.TheVariants as line
@@ -37,23 +35,6 @@ use Rattle.m51_reassembly.proofs.StandingWords.{name_stands, colon_stands, byte_
 use Rattle.m51_reassembly.proofs.Labels.{label_is_free}
 use Rattle.m51_reassembly.proofs.InstructionsCut.{instruction_read, instruction_is_code}
 
--- a text that begins with a name is one of tokens
-no_dollar : (c : ℕ) → cells.is_name_byte c ≡ true → (c == 0x24) ≡ false
-no_dollar c h = grind (arith, common_steps, h)
-
-no_percent : (c : ℕ) → cells.is_name_byte c ≡ true → (c == 0x25) ≡ false
-no_percent c h = grind (arith, common_steps, h)
-
-name_first : (text rest : List ℕ) → is_name text ≡ true → any_line (text ++ rest) ≡ token_line (text ++ rest)
-unfolding any_line
-name_first [] rest h = absurd (cc h)
-name_first (c ∷ more) rest h =
-    let parts = name_parts c more h in
-    let is : cells.is_name_byte c ≡ true = left (cells.is_name_byte c) (list_all cells.is_name_byte more) parts.bytes in
-    let line = c ∷ (more ++ rest) in
-    ap (λ b. cond b (control_line (drop 1 line)) (cond (c == 0x25) (Err BAD_FORM) (token_line line))) (no_dollar c is)
-    ∙ ap (λ b. cond b (Err BAD_FORM) (token_line line)) (no_percent c is)
-
 -- a text that begins with a name
 pub record Begins (line : List ℕ) : Type 0 where
   pub name : List ℕ
@@ -62,7 +43,7 @@ pub record Begins (line : List ℕ) : Type 0 where
   pub written : name_of name ≡ Some name
 
 begun_line : (line : List ℕ) → Begins line → any_line line ≡ token_line line
-begun_line line b = subst (λ l. any_line l ≡ token_line l) (sym b.is) (name_first b.name b.rest (named_is_name b.name b.name b.written))
+begun_line line b = subst (λ l. any_line l ≡ token_line l) (sym b.is) (name_line b.name b.rest (named_is_name b.name b.name b.written))
 
 -- what a line says after its label: its words are those of a body of the grammar
 pub record IsReadBody (text : List ℕ) (b : BodyTree) : Type 0 where
@@ -86,10 +67,6 @@ bare_read text b r = record {
       (ap statement r.symbols ∙ statement_reads (map symbol (body_words b)) (without_label b) (grammar.Bare (body_said false 0 (λ _. refl) b (r.good 0))));
   characters = r.cut.characters;
 }
-
--- after a label
-abbrev labelled : List ℕ → BodyTree → StmtTree
-labelled name b = record { label = Some name; body = b }
 
 labelled_read : (address : ℕ) (text : List ℕ) (b : BodyTree) → address < 65536 → IsReadBody text b
     → IsRead ((label_text address ++ codes ": ") ++ text) (labelled (label_text address) b)

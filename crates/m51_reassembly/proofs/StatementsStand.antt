@@ -1,6 +1,6 @@
 -- Each statement of a disassembly stands at its address.
 use Rattle.std.proofs.Common.{◌≡◌, ℕ, zero, suc, ◌+◌, ◌-◌, ◌<◌, ◌≤◌, nat_le, Bool, true, false, cond, List, [], ◌∷◌, ◌++◌, append_assoc, length, map, flat_map, Option, Some, None, refl, ap, sym, ◌∙◌, subst, arith, slice_get, slice_index}
-use Rattle.std.proofs.lemmas.Grind.{common_steps}
+use Rattle.std.proofs.lemmas.Bool.{leb-true}
 use Rattle.m51_cells.specs.declared.kind.Kind.TheVariants as kind
 use Rattle.m51_isa.specs.declared.instr.Instr.{Instr}
 use Rattle.m51_isa.specs.declared.instr.Instr.TheVariants.{Nop}
@@ -33,14 +33,11 @@ record IsWithin (at end : ℕ) (c : Content) : Type 0 where
   some : 1 ≤ length_in c
   ends : at + length_in c ≤ end
 
-at_most : (m n : ℕ) → nat_le m n ≡ true → m ≤ n
-at_most m n h = grind (arith, common_steps, h)
-
 code_within : (at end byte : ℕ) (i : Instr) (b : Bool) → can_stand end at i ≡ b → at < end → IsWithin at end (cond b (content.Code i) (content.Byte byte))
 unfolding can_stand
 code_within at end byte i true h below = record {
   some = some_bytes i;
-  ends = at_most (at + length_of i) end (left (nat_le (at + length_of i) end) (all_inside (at + length_of i) (text_of i)) h);
+  ends = leb-true (at + length_of i) end (left (nat_le (at + length_of i) end) (all_inside (at + length_of i) (text_of i)) h);
 }
 code_within at end byte i false h below = record { some = omega arith; ends = omega (arith, below) }
 
@@ -121,7 +118,7 @@ flat_joined image (x ∷ xs) ys =
     ∙ sym (append_assoc (part_lines image x) (flat_map (part_lines image) xs) (flat_map (part_lines image) ys))
 
 -- the lines of a disassembly, about one of its parts
-around : (image : List ℕ) (before : List Part) (part : Part) (after : List Part)
+pub around : (image : List ℕ) (before : List Part) (part : Part) (after : List Part)
     → lines_of image (before ++ part ∷ after) ≡ (line.Nomod51 ∷ flat_map (part_lines image) before) ++ (part_lines image part ++ (flat_map (part_lines image) after ++ line.End ∷ []))
 unfolding lines_of
 around image before part after =

@@ -15,6 +15,7 @@ use Rattle.m51_lex.specs.declared.fault.TheConstants.{LONG_LINE}
 use Rattle.m51_module.specs.declared.source.SourceFile.{SourceFile}
 use Rattle.m51_stmt.specs.Lines.{any_line, statement_of}
 use Rattle.m51_stmt.proofs.WordCuts.{left, right}
+use Rattle.m51_stmt.proofs.ReadStatements.{at_most_255}
 use Rattle.m51_text.specs.Said.{is_character, said, is_end_body, is_end, is_text, include_name, asked}
 use Rattle.m51_text.specs.Text.{TextLine, brought, lines_with, inclusion_by, include_lines, text_lines}
 use Rattle.m51_text.specs.Faults.{ends_source, fault_with, fault_of, fault_by_place, before, faults_from, faults_of}
@@ -32,15 +33,12 @@ use Rattle.m51_reassembly.proofs.StatementsRead.{line_read}
 
 -- ---- each line says what is meant
 
-few : (n : ℕ) → n ≤ 255 → nat_lt 255 n ≡ false
-few n h = grind (arith, common_steps, h)
-
 pub line_said : (l : Line) → IsSound l → said (line_text l) ≡ Ok (meant l)
 unfolding said
 line_said l is =
     let read = line_read l is in
     ap (λ b. cond b (statement_of (line_text l)) (Err BAD_BYTE)) read.characters
-    ∙ ap (λ b. cond b (Err LONG_LINE) (any_line (line_text l))) (few (length (line_text l)) (line_few l)) ∙ read.says
+    ∙ ap (λ b. cond b (Err LONG_LINE) (any_line (line_text l))) (at_most_255 (length (line_text l)) (line_few l)) ∙ read.says
 
 -- ---- the lines of the text
 

@@ -5,6 +5,9 @@ use Rattle.m51_isa.specs.declared.slot.Field.TheVariants as field
 use Rattle.m51_isa.specs.declared.slot.Slot.{Slot}
 use Rattle.m51_isa.specs.declared.slot.Slot.TheVariants as slot
 use Rattle.m51_isa.specs.Spelling.{Text, text_of}
+use Rattle.m51_module.specs.Plan.{IsPlaced}
+use Rattle.m51_module.specs.declared.parts.LayoutParts.{LayoutParts}
+use Rattle.m51_module.specs.declared.placed.Placed.{Placed}
 use Rattle.m51_disasm.specs.declared.line.Line.{Line}
 use Rattle.m51_disasm.specs.declared.line.Line.TheVariants as line
 use Rattle.m51_disasm.specs.declared.line.StatementLine.{StatementLine}
@@ -61,3 +64,7 @@ IsSound line.Nomod51 = Unit {0}
 IsSound (line.Segment base) = base < 65536
 IsSound (line.Statement s) = IsStatementLine s
 IsSound line.End = Unit {0}
+
+-- extents have sizes of two bytes
+abbrev pub HaveSizes : LayoutParts → Type 0
+HaveSizes l = (number : ℕ) (p : Placed) → IsPlaced l number p → p.size < 65536

@@ -4,6 +4,7 @@ use Rattle.std.specs.Prelude.{nat_le}
 use Rattle.std.specs.Cmp.Lexicographic.{bytes_decides}
 use Rattle.std.proofs.lemmas.Bool.{leb-true, le-leb}
 use Rattle.std.proofs.lemmas.List.{take_at, drop_at, take-append-drop, length-take}
+use Rattle.std.proofs.Math.Nat.{mod-add-div}
 use Rattle.m51_cells.specs.declared.kind.Kind.{Kind}
 use Rattle.m51_cells.specs.declared.kind.Kind.TheVariants.{Code, Xdata, Direct, Idata, Bits, Number}
 use Rattle.m51_cells.specs.declared.kind.Reloc.{Reloc}
@@ -42,11 +43,8 @@ pair_back low high h =
     let b : (low + 256 * high) / 256 ≡ high = omega arith in
     rw (a, b) refl
 
-pub pair_again : (n : ℕ) → n % 256 + 256 * (n / 256) ≡ n
-pair_again n = omega arith
-
 pub pair_read : (end n : ℕ) (rest : List ℕ) → pair_at end (pair n ++ rest) ≡ Ok (n, rest)
-pair_read end n rest = ap (λ m. Ok (m, rest)) (pair_again n)
+pair_read end n rest = ap (λ m. Ok (m, rest)) (mod-add-div n 256)
 
 pub pair_takes : (end : ℕ) (bytes : List ℕ) (x : ℕ × List ℕ) → IsBytes bytes → pair_at end bytes ≡ Ok x → (bytes ≡ pair x.0 ++ x.1) × IsBytes x.1
 pair_takes end [] x fits e = absurd cc

@@ -10,6 +10,7 @@ use Rattle.m51_module.specs.declared.content.Piece.{Piece}
 use Rattle.m51_module.specs.declared.segment.Segment.{Segment}
 use Rattle.m51_module.specs.declared.symbol.External.{External}
 use Rattle.m51_module.specs.Validity.{numbered, field_len, IsBitNumber, IsHeld, IsPieceValid, IsFixupValid, FieldBefore, EarlierSegmentOf, BeforeIn}
+use Rattle.m51_module.proofs.FieldLengths.{some_byte}
 use Rattle.m51_records.specs.Contents.{latest}
 use Rattle.m51_records.specs.Fixups.{field_segment_follows, field_follows, holds, is_held, is_inside, is_bit}
 use Rattle.m51_records.proofs.Tools.{all_push, all_front, all_last, pairs_push, pairs_front, pairs_last}
@@ -34,11 +35,6 @@ before_to g f (EarlierSegmentOf less) =
     (le-leb g.segment f.segment (omega (arith, less)), ap (λ b. not b || nat_le (g.offset + field_len g.form) f.offset) (false_of (eqb g.segment f.segment) (λ e. omega (arith, less, eqb-true g.segment f.segment e))))
 before_to g f (BeforeIn same fits) =
     (le-leb g.segment f.segment (omega (arith, same)), ap (λ b. not (eqb g.segment f.segment) || b) (le-leb (g.offset + field_len g.form) f.offset fits) ∙ or_right (not (eqb g.segment f.segment)) true refl)
-
-some_field : (form : Form) → 0 < field_len form
-some_field Word = omega arith
-some_field Inblock = omega arith
-some_field form = omega arith
 
 short_field : (form : Form) → field_len form ≤ 2
 short_field Word = omega arith
@@ -100,10 +96,10 @@ module _ (pieces : List Piece) (segment : ℕ) where
   inside_from : (offset : ℕ) (form : Form) → ((k : ℕ) → k < field_len form → IsHeld pieces segment (offset + k)) → is_inside pieces segment offset form ≡ true
   inside_from offset form h =
       and_from (is_held pieces segment offset) (eqb (field_len form) 1 || is_held pieces segment (offset + 1))
-      (held_from offset (subst (IsHeld pieces segment) (omega arith) (h 0 (some_field form))))
+      (held_from offset (subst (IsHeld pieces segment) (omega arith) (h 0 (some_byte form))))
       (test_split (eqb (field_len form) 1) ((eqb (field_len form) 1 || is_held pieces segment (offset + 1)) ≡ true)
       (λ one. ap (λ b. b || is_held pieces segment (offset + 1)) one)
-      (λ two. ap (λ b. eqb (field_len form) 1 || b) (held_from (offset + 1) (h 1 (omega (arith, some_field form, eqb_no (field_len form) 1 two)))) ∙ or_right (eqb (field_len form) 1) true refl))
+      (λ two. ap (λ b. eqb (field_len form) 1 || b) (held_from (offset + 1) (h 1 (omega (arith, some_byte form, eqb_no (field_len form) 1 two)))) ∙ or_right (eqb (field_len form) 1) true refl))
 
 -- ---- validity
 
@@ -126,7 +122,7 @@ module _ (segments : List Segment) (externals : List External) (pieces : List Pi
   fixups_last content before f v =
       let valid = all_last (IsFixupValid segments externals pieces) before f v.each in
       let passes : Passes f (latest before) = follow_passes f (latest before) (last_follows FieldBefore f before (pairs_last FieldBefore before f v.order)) in
-      let first = valid.held 0 (some_field f.form) in
+      let first = valid.held 0 (some_byte f.form) in
       let piece : IsPieceValid segments first.piece = subst (IsPieceValid segments) first.is.2 (content first.is.0 first.piece first.is.1) in
       record {
         few = lt-ltb (length before) 65535 (omega (arith, length-append before (f ∷ []), v.few));

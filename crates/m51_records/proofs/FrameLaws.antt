@@ -2,12 +2,13 @@
 use Rattle.std.proofs.Common.{◌≡◌, ◌≢◌, ℕ, zero, suc, ◌+◌, ◌-◌, ◌*◌, ◌/◌, ◌%◌, ◌<◌, ◌≤◌, Bool, true, false, cond, eqb, ltb, List, [], ◌∷◌, ◌++◌, length, take, drop, Result, Ok, Err, refl, sym, ap, subst, ◌∙◌, append_assoc, arith, length-append}
 use Rattle.std.proofs.lemmas.Bool.{eqb-true, eq-eqb, le-ltb, ltb-false}
 use Rattle.std.proofs.lemmas.List.{take_at, drop_at, take-append-drop, length-take}
+use Rattle.std.proofs.Math.Nat.{mod-add-div}
 use Rattle.m51_module.specs.declared.object_error.ObjError.{ObjError}
 use Rattle.m51_module.specs.declared.object_error.ObjError.TheVariants.{O1, O2, O3, O4}
 use Rattle.m51_records.specs.Fields.{place, pair}
 use Rattle.m51_records.specs.Frame.{checksum_of, front_of, record_of, Framed, summed, closed, lengthed, record_at}
 use Rattle.m51_records.proofs.Tools.{ok_is}
-use Rattle.m51_records.proofs.FieldLaws.{IsBytes, pair_back, pair_again}
+use Rattle.m51_records.proofs.FieldLaws.{IsBytes, pair_back}
 
 -- a test that was passed
 pub cond_ok : {A : Type 0} (b : Bool) (r : Result A ObjError) (d : ObjError) (x : A) → cond b r (Err d) ≡ Ok x → (b ≡ true) × (r ≡ Ok x)
@@ -93,7 +94,7 @@ record_again type total number contents after =
     let front : List ℕ = front_of type contents in
     let regrouped : record_of type contents ++ after ≡ front ++ checksum_of front ∷ after = append_assoc front (checksum_of front ∷ []) after in
     let same_type : eqb type type ≡ true = eq-eqb type type refl in
-    let len : n % 256 + 256 * (n / 256) ≡ n = pair_again n in
+    let len : n % 256 + 256 * (n / 256) ≡ n = mod-add-div n 256 in
     let some : eqb n 0 ≡ false = eqb_false n 0 (λ e. omega (arith, e)) in
     let read : closed total number n (front ++ checksum_of front ∷ after) ≡ Ok (contents, after) = closed_again total number n front after (omega arith) in
     ap (record_at type total number) regrouped ∙ rw (same_type, len, some) read

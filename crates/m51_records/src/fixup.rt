@@ -13,11 +13,12 @@ ghost use Rattle.m51_records.specs.declared.types.TheConstants.{FIXUP};
 
 use crate::codes::{form_number, form_of};
 use crate::fields::{absent, broken, byte_at, pair_at, put_pair};
-use crate::numbered::{external_numbered, segment_numbered};
 use crate::record::{Reader, Record};
 use crate::types::FIXUP;
 use m51_cells::{Base, MOST_FIXUPS, NoMemory};
-use m51_module::{External, Fixup, Form, ObjError, Piece, Segment};
+use m51_module::{
+    External, Fixup, Form, ObjError, Piece, Segment, external_numbered, segment_numbered,
+};
 use std::alloc::Global;
 
 // Whether no field before is in a later segment.

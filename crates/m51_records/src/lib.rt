@@ -10,7 +10,6 @@ mod frame;
 mod header;
 mod laws;
 mod names;
-mod numbered;
 mod piece;
 mod public;
 mod reading;

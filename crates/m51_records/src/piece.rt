@@ -1,5 +1,5 @@
 //! The record of a piece of content.
-ghost use Rattle.std.specs.Prelude.{◌≡◌, ◌<◌, IfOk, length, ◌≤◌};
+ghost use Rattle.std.specs.Prelude.{◌≡◌, ◌<◌, length, ◌≤◌};
 ghost use Rattle.m51_module.specs.declared.content.Piece.{Piece};
 ghost use Rattle.m51_records.specs.Fields.{Reads};
 ghost use Rattle.m51_records.specs.Contents.{piece_contents, segment_follows, latest, code_segment_at, ends_before};
@@ -8,11 +8,10 @@ ghost use Rattle.m51_cells.specs.declared.limits.TheConstants.{MOST_PIECE_BYTES}
 ghost use Rattle.m51_records.specs.declared.types.TheConstants.{CONTENT};
 
 use crate::fields::{absent, broken, byte_at, pair_at, put_pair};
-use crate::numbered::segment_numbered;
 use crate::record::{Reader, Record};
 use crate::types::CONTENT;
-use m51_cells::{Bytes, MOST_PIECE_BYTES, NoMemory, is_code};
-use m51_module::{ObjError, Piece, Segment};
+use m51_cells::{MOST_PIECE_BYTES, NoMemory, copy_of, is_code};
+use m51_module::{ObjError, Piece, Segment, segment_numbered};
 use std::alloc::Global;
 
 // Whether no piece before is in a later segment.
@@ -115,13 +114,6 @@ fn content_at(size: u16, offset: u16, end: u32, bytes: &[u8]) -> Result<&[u8], O
     limited(MOST_PIECE_BYTES, end, bytes)
 }
 
-// A copy of the bytes.
-fn copied(alloc: Global, bytes: &[u8]) -> Result<Bytes, NoMemory>
-    ensures { IfOk result (λ copy. copy ≡ bytes.now) }
-{
-    Ok(Bytes::of(Vec::from_slice(alloc, bytes)?))
-}
-
 /// Reads the pieces of a module.
 ///
 /// Source: own choice ("Object records").
@@ -149,7 +141,7 @@ impl<'a> Reader for PieceReader<'a> {
         let (segment, size, rest) = code_segment_at(self.segments, before, end, contents)?;
         let (offset, rest) = piece_offset_at(before, segment, end, rest)?;
         let content = content_at(size, offset, end, rest)?;
-        let bytes = copied(alloc, content)?;
+        let bytes = copy_of(alloc, content)?;
         Ok(Piece {
             segment,
             offset,

@@ -9,12 +9,11 @@ ghost use Rattle.m51_records.specs.declared.types.TheConstants.{PUBLIC};
 use crate::codes::kind_number;
 use crate::external::kind_at;
 use crate::fields::{absent, broken, byte_at, pair_at, put_pair, put_text};
-use crate::numbered::segment_numbered;
 use crate::record::{Reader, Record};
 use crate::seen::{Seen, new_name_at};
 use crate::types::PUBLIC;
 use m51_cells::{Base, Kind, NoMemory, same_kind};
-use m51_module::{ObjError, Public, Segment};
+use m51_module::{ObjError, Public, Segment, segment_numbered};
 use std::alloc::Global;
 
 // What a public of the kind is counted from, by the number of its segment. O5 where there is none, O4 where it has

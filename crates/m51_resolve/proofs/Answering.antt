@@ -9,6 +9,7 @@ use Rattle.std.proofs.lemmas.Option.{slice_get-get_or}
 use Rattle.m51_cells.specs.declared.limits.TheConstants.{MOST_MODULES, MOST_SEGMENTS, MOST_UNITS}
 use Rattle.m51_cells.specs.Outcome.{Gives, RefusesWith}
 use Rattle.m51_cells.specs.Kinds.{is_code}
+use Rattle.m51_cells.proofs.ListsAndOptions.{map_none}
 use Rattle.m51_module.specs.declared.linked.Quantity.{Quantity}
 use Rattle.m51_module.specs.declared.linked.Quantity.TheVariants.{Modules, Segments, Units}
 use Rattle.m51_module.specs.declared.linked.Refusal.{Refusal}
@@ -27,7 +28,7 @@ use Rattle.m51_resolve.specs.Publics.{all_externals, definition_of}
 use Rattle.m51_resolve.specs.Rules.{AreResolved, but_memory, contrary_external, is_mixed, is_too_large, large_segment, mixed_segment, more_than, first_refusal, shared_public, undefined_external, units_of, unless_refused}
 use Rattle.m51_resolve.proofs.DefinedNames.{definitions_are}
 use Rattle.m51_resolve.proofs.JoinSteps.{none_at}
-use Rattle.m51_resolve.proofs.Within.{find_none, no_option}
+use Rattle.m51_resolve.proofs.Within.{find_none}
 
 -- a refusal is answered; want of memory says nothing
 pub refuses : (modules : List ModuleParts) (error : Refusal) (rule : Option Refusal) → rule ≡ Some error → RefusesWith (but_memory error) (unless_refused modules rule)
@@ -167,13 +168,13 @@ meets modules p e g =
     (option_map L5 (large_segment modules)) (sym (growing_is modules) ∙ g) in
     record {
       few_modules = few MOST_MODULES Modules (length modules) ps.0;
-      publics = no_option L1 (shared_public modules) ps.1;
-      externals = no_option L2 (undefined_external modules) es.0;
-      kinds = no_option L3 (contrary_external modules) es.1;
-      parts = no_option L4 (mixed_segment modules) gs.0;
+      publics = map_none L1 (shared_public modules) ps.1;
+      externals = map_none L2 (undefined_external modules) es.0;
+      kinds = map_none L3 (contrary_external modules) es.1;
+      parts = map_none L4 (mixed_segment modules) gs.0;
       few_segments = few MOST_SEGMENTS Segments (length (segments_of modules)) gs.1;
       few_units = few MOST_UNITS Units (length (units_of modules)) gs.2;
-      sizes = no_option L5 (large_segment modules) gs.3;
+      sizes = map_none L5 (large_segment modules) gs.3;
     }
 
 -- none of the joined segments is too large
@@ -183,7 +184,7 @@ none_large growing h = λ k d below.
     let large = option_map L5 (option_map (λ (g : Growing). title_of g.first) (find is_large growing)) in
     let none = (four_none mixed (more_than MOST_SEGMENTS Segments (length growing)) (more_than MOST_UNITS Units (length (filter is_unit growing))) large
     (sym (in_a_row mixed (more_than MOST_SEGMENTS Segments (length growing)) (more_than MOST_UNITS Units (length (filter is_unit growing))) large) ∙ h)).3 in
-    let unfound = no_option (λ (g : Growing). title_of g.first) (find is_large growing) (no_option L5 (option_map (λ (g : Growing). title_of g.first) (find is_large growing)) none) in
+    let unfound = map_none (λ (g : Growing). title_of g.first) (find is_large growing) (map_none L5 (option_map (λ (g : Growing). title_of g.first) (find is_large growing)) none) in
     none_at is_large growing k (get_or growing k d) (find_none is_large growing unfound) (slice_get-get_or growing k d below)
 
 joined_all : (all fs : List Segment) → map joined_as (map (growing_of all) fs) ≡ map (joined_of all) fs

@@ -2,8 +2,8 @@
 use Rattle.std.proofs.Common.{◌≡◌, ℕ, zero, suc, ◌≤◌, Bool, true, false, cond, List, [], ◌∷◌, ◌++◌, length, refl, sym, ap, ◌∙◌, subst, length-append, arith, Option, Some, None}
 use Rattle.std.specs.Prelude.{All, option_map}
 use Rattle.std.specs.Option.{option_map_or}
+use Rattle.m51_cells.proofs.ListsAndOptions.{map_none}
 use Rattle.m51_module.specs.declared.parts.ModuleParts.{ModuleParts}
-use Rattle.m51_resolve.proofs.Within.{no_option}
 use Rattle.m51_resolve.specs.Choice.{choice, Chooses, Ends, Takes, first_needed, is_needed, IsOneChoice}
 
 -- these are not needed
@@ -76,7 +76,7 @@ past_by : (b : Bool) (chosen : List ModuleParts) (x : ModuleParts) (left : List 
     → (first_needed chosen left ≡ None → NoneNeeded chosen left) → NoneNeeded chosen (x ∷ left)
 past_by true chosen x left needed h more = absurd (cc h)
 past_by false chosen x left unneeded h more =
-    none_more chosen x left unneeded (more (no_option (with_passed x) (first_needed chosen left) h))
+    none_more chosen x left unneeded (more (map_none (with_passed x) (first_needed chosen left) h))
 
 past : (chosen left : List ModuleParts) → first_needed chosen left ≡ None → NoneNeeded chosen left
 past chosen [] h = none_first chosen

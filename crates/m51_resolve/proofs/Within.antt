@@ -1,6 +1,6 @@
 -- Parts lie inside their joined segments.
 use Rattle.std.proofs.Common.{◌≡◌, ℕ, ◌+◌, ◌<◌, ◌≤◌, Bool, true, false, cond, ◌||◌, List, [], ◌∷◌, ◌++◌, length, map, refl, sym, ap, ◌∙◌, append_assoc, length-append, arith, lit≤, Option, Some, None}
-use Rattle.std.specs.Prelude.{find, option_map, position, slice_get, unwrap_or}
+use Rattle.std.specs.Prelude.{find, position, slice_get, unwrap_or}
 use Rattle.std.specs.List.{filter, list_any}
 use Rattle.std.proofs.lemmas.Bool.{ltb-false, or_right}
 use Rattle.std.proofs.lemmas.List.{append-nil}
@@ -13,6 +13,7 @@ use Rattle.m51_cells.specs.declared.kind.Kind.TheVariants.{Code, Xdata, Direct, 
 use Rattle.m51_cells.specs.declared.kind.Reloc.{Reloc}
 use Rattle.m51_cells.specs.declared.kind.Reloc.TheVariants.{Abs, Unit as UnitType, Bitaddressable, Inpage, Inblock, Page}
 use Rattle.m51_cells.specs.Kinds.{most_of}
+use Rattle.m51_cells.proofs.ListsAndOptions.{map_none}
 use Rattle.m51_module.specs.declared.parts.ModuleParts.{ModuleParts}
 use Rattle.m51_module.specs.declared.segment.Segment.{Segment}
 use Rattle.m51_resolve.specs.Joining.{all_segments, are_parts, end_after, firsts, firsts_after, is_relocatable, joined_of, part_after, parts_with, segments_of, start_after}
@@ -90,10 +91,6 @@ pub find_none : {X : Type 0} (p : X → Bool) (xs : List X) → find p xs ≡ No
 find_none p [] h = refl
 find_none p (x ∷ xs) h = find_by (p x) x (find p xs) (list_any p xs) h (find_none p xs)
 
-pub no_option : {X Y : Type 0} (f : X → Y) (o : Option X) → option_map f o ≡ None → o ≡ None
-no_option f None h = refl
-no_option f (Some x) h = cc
-
 pub any-map : {X Y : Type 0} (q : Y → Bool) (g : X → Y) (xs : List X) → list_any q (map g xs) ≡ list_any (λ x. q (g x)) xs
 any-map q g [] = refl
 any-map q g (x ∷ xs) = ap (λ b. q (g x) || b) (any-map q g xs)
@@ -119,7 +116,7 @@ end_fits modules s small seen =
     let at : slice_get fs k.0 ≡ Some f = slice_get-get_or fs k.0 f k.2 ∙ ap Some k.3 in
     let named = (parts_have s f k.4).second in
     let none : list_any (λ x. is_too_large (joined_of all x)) fs ≡ false =
-    sym (any-map is_too_large (joined_of all) fs) ∙ find_none is_too_large (segments_of modules) (no_option (λ j. j.title) (find is_too_large (segments_of modules)) small) in
+    sym (any-map is_too_large (joined_of all) fs) ∙ find_none is_too_large (segments_of modules) (map_none (λ j. j.title) (find is_too_large (segments_of modules)) small) in
     let fits = ltb-false (most_of f.kind f.reloc) (end_after 0 (parts_with all f)) (none_at (λ x. is_too_large (joined_of all x)) fs k.0 f none at) in
     let is : end_after 0 (parts_with all f) ≡ end_after 0 (filter (are_parts s) all) =
     ap (λ r. end_after 0 (cond r (filter (are_parts f) all) (f ∷ []))) named ∙ ap (end_after 0) (sym (filter_same s f k.4 all)) in

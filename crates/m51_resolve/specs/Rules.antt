@@ -115,7 +115,7 @@ answer_of chosen = unless_refused chosen (first_refusal chosen)
 abbrev pub resolved_of : List ModuleParts → List (List ModuleParts) → Result (List ModuleParts) Refusal
 resolved_of given libraries = answer_of (chosen_of given (members_of libraries))
 
--- an error as the refusal that it is, or none for want of memory
+-- an error as the refusal that it is, or none for out of memory
 abbrev pub but_memory : Refusal → Option Refusal
 but_memory Memory = None
 but_memory refusal = Some refusal

@@ -1,6 +1,7 @@
 -- A map that has the values of the stores.
 use Rattle.std.proofs.lemmas.Bool.{lt-ltb}
 use Rattle.std.proofs.Common.{◌≡◌, ℕ, Bool, true, false, not, ◌&&◌, Option, Some, None, refl, sym, ap, subst, ◌∙◌, ⊎_elim}
+use Rattle.std.proofs.lemmas.Option.{same_Some}
 use Rattle.std.specs.Prelude.{slice_get, if◌then◌else◌}
 use Rattle.m51_cells.specs.declared.cell.Cell.{Cell}
 use Rattle.m51_cells.specs.declared.cell.Space.{Space}
@@ -90,9 +91,6 @@ parts : (a b : Bool) → (not a && b) ≡ true → a ≡ false
 parts true b e = cc e
 parts false b e = refl
 
-some_is : (x v : ℕ) → Some x ≡ Some v → x ≡ v
-some_is x v e = cc e
-
 -- at the start
 pub start_agrees : (l : LayoutParts) (fill : ℕ) (m : CellMap) → IsSound l → HasFill l fill m → AgreesWith l (filled_stores l fill) m
 start_agrees l fill m sound has = record {
@@ -100,11 +98,11 @@ start_agrees l fill m sound has = record {
       let k = if_some (not (is_overlaid_at (slice_get l.placed t)) && has_cell l t c) (Some (fill_in fill c.space c.at)) v e in
       let plain : IsOverlaid l t → ⊥ = plain_is t (parts (is_overlaid_at (slice_get l.placed t)) (has_cell l t c) k.0) in
       has.each c is (λ u o over_u. sound.apart t u at.is over_u.is at.placed over_u.placed (λ same. plain (subst (IsOverlaid l) (sym same) o)) (FirstPlain plain) (c, at.covers, over_u.covers))
-      ∙ some_is (fill_in fill c.space c.at) v k.1;
+      ∙ same_Some (fill_in fill c.space c.at) v k.1;
   common = λ c v is e.
       let k = if_some (is_common l c) (Some (fill_in fill c.space c.at)) v e in
       ⊎_elim
-      (λ (f : (is_common l c ≡ true) × ((t : ℕ) → IsOver l t c → ⊥)). has.each c is (λ u o over_u. f.1 u over_u) ∙ some_is (fill_in fill c.space c.at) v k.1)
+      (λ (f : (is_common l c ≡ true) × ((t : ℕ) → IsOver l t c → ⊥)). has.each c is (λ u o over_u. f.1 u over_u) ∙ same_Some (fill_in fill c.space c.at) v k.1)
       (λ (f : (is_common l c ≡ false) × ((t : ℕ) × IsOver l t c)). cc (f.0, k.0))
       (common_or_over l c is);
 }

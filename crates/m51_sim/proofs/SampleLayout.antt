@@ -1,5 +1,6 @@
 -- The layout of one unit and one segment of data memory is sound, and has a root at 0000H.
 use Rattle.std.proofs.Common.{◌≡◌, ◌≢◌, ℕ, zero, suc, ◌<◌, Some, List, [], ◌∷◌, refl, sym, ap, subst, arith}
+use Rattle.std.proofs.lemmas.Option.{same_Some}
 use Rattle.std.specs.Prelude.{slice_get}
 use Rattle.std.specs.List.{Contains}
 use Rattle.m51_cells.specs.Extent.{Meet}
@@ -11,22 +12,19 @@ use Rattle.m51_module.specs.Plan.{ExtentsConflict, IsCodeSegment, IsOverlaid, Is
 use Rattle.m51_module.specs.Sound.{IsFit, IsSound}
 use Rattle.m51_sim.specs.Sample.{data_byte, one_unit, unit_at_reset}
 
-some_is : (p q : Placed) → Some p ≡ Some q → p ≡ q
-some_is p q h = cc h
-
 module _ (unit byte : List ℕ) (size : ℕ) (some : 0 < size) (small : size < 65536) where
   abbrev sample : LayoutParts
   sample = one_unit unit byte size
 
   fit : (s : ℕ) (p : Placed) → IsPlaced sample s p → IsFit p
-  fit zero p h = subst IsFit (some_is (unit_at_reset unit size) p h) (record { kind = λ e. cc e; inside = λ c h. omega (arith, h.below, small); absolute = λ e. some; code = λ e f. cc f })
-  fit (suc zero) p h = subst IsFit (some_is (data_byte byte) p h) (record { kind = λ e. cc e; inside = λ c h. omega (arith, h.below); absolute = λ e. cc e; code = λ e. cc e })
+  fit zero p h = subst IsFit (same_Some (unit_at_reset unit size) p h) (record { kind = λ e. cc e; inside = λ c h. omega (arith, h.below, small); absolute = λ e. some; code = λ e f. cc f })
+  fit (suc zero) p h = subst IsFit (same_Some (data_byte byte) p h) (record { kind = λ e. cc e; inside = λ c h. omega (arith, h.below); absolute = λ e. cc e; code = λ e. cc e })
   fit (suc (suc s)) p h = absurd (cc h)
 
   -- neither is overlaid
   not_overlaid : (s : ℕ) → IsOverlaid sample s → ⊥
-  not_overlaid zero (p, at, mark) = let k = ap (λ (q : Placed). q.mark) (some_is (unit_at_reset unit size) p at) in cc (k, mark)
-  not_overlaid (suc zero) (p, at, mark) = let k = ap (λ (q : Placed). q.mark) (some_is (data_byte byte) p at) in cc (k, mark)
+  not_overlaid zero (p, at, mark) = let k = ap (λ (q : Placed). q.mark) (same_Some (unit_at_reset unit size) p at) in cc (k, mark)
+  not_overlaid (suc zero) (p, at, mark) = let k = ap (λ (q : Placed). q.mark) (same_Some (data_byte byte) p at) in cc (k, mark)
   not_overlaid (suc (suc s)) (p, at, mark) = absurd (cc at)
 
   is_code : (u s : ℕ) → slice_get sample.units u ≡ Some s → (p : Placed) × IsPlaced sample s p × IsCodeSegment p
@@ -35,7 +33,7 @@ module _ (unit byte : List ℕ) (size : ℕ) (some : 0 < size) (small : size < 6
 
   is_unit : (s : ℕ) (p : Placed) → IsPlaced sample s p → IsCodeSegment p → Contains sample.units s
   is_unit zero p h code = (0, omega arith, refl)
-  is_unit (suc zero) p h code = let k = ap (λ (q : Placed). q.kind) (some_is (data_byte byte) p h) in let c = code.kind in cc (k, c)
+  is_unit (suc zero) p h code = let k = ap (λ (q : Placed). q.kind) (same_Some (data_byte byte) p h) in let c = code.kind in cc (k, c)
   is_unit (suc (suc s)) p h code = absurd (cc h)
 
   once : (u v s : ℕ) → slice_get sample.units u ≡ Some s → slice_get sample.units v ≡ Some s → u ≡ v
@@ -64,9 +62,9 @@ module _ (unit byte : List ℕ) (size : ℕ) (some : 0 < size) (small : size < 6
     cases : (s t : ℕ) → IsPlaced sample s p → IsPlaced sample t q → s ≢ t → Meet (extent_at p) (extent_at q) → ⊥
     cases zero zero h k ne m = ne refl
     cases zero (suc zero) h k ne m =
-        of_two (subst (λ p. Meet (extent_at p) (extent_at (data_byte byte))) (sym (some_is (unit_at_reset unit size) p h)) (subst (λ q. Meet (extent_at p) (extent_at q)) (sym (some_is (data_byte byte) q k)) m))
+        of_two (subst (λ p. Meet (extent_at p) (extent_at (data_byte byte))) (sym (same_Some (unit_at_reset unit size) p h)) (subst (λ q. Meet (extent_at p) (extent_at q)) (sym (same_Some (data_byte byte) q k)) m))
     cases (suc zero) zero h k ne m =
-        swapped (subst (λ p. Meet (extent_at p) (extent_at (unit_at_reset unit size))) (sym (some_is (data_byte byte) p h)) (subst (λ q. Meet (extent_at p) (extent_at q)) (sym (some_is (unit_at_reset unit size) q k)) m))
+        swapped (subst (λ p. Meet (extent_at p) (extent_at (unit_at_reset unit size))) (sym (same_Some (data_byte byte) p h)) (subst (λ q. Meet (extent_at p) (extent_at q)) (sym (same_Some (unit_at_reset unit size) q k)) m))
     cases (suc zero) (suc zero) h k ne m = ne refl
     cases zero (suc (suc t)) h k ne m = absurd (cc k)
     cases (suc zero) (suc (suc t)) h k ne m = absurd (cc k)

@@ -30,7 +30,8 @@ use Rattle.m51_sim.proofs.Keeping.{concluded_ok, inside_ok, performed_ok, vector
 use Rattle.m51_sim.proofs.Preparing.{done_fact}
 use Rattle.m51_sim.proofs.RowCycles.{row_few, row_some, row_takes}
 
-one_counts : (inputs : Inputs) (p : Passing) → (cycle_passed inputs p).cycle ≡ next_cycle p.cycle
+-- a machine cycle counts one
+pub one_counts : (inputs : Inputs) (p : Passing) → (cycle_passed inputs p).cycle ≡ next_cycle p.cycle
 unfolding cycle_passed
 one_counts inputs p = refl
 

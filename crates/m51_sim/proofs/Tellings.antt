@@ -6,10 +6,15 @@ use Rattle.std.proofs.lemmas.Grind.{flat_map-append}
 use Rattle.std.specs.Prelude.{OnErr, flat_map, option_to_list}
 use Rattle.std.specs.Io.KnownBytes.{Appends}
 use Rattle.std.proofs.KnownBytes.{Appends-trans}
+use Rattle.m51_cells.specs.Outside.{AppendsFront}
 use Rattle.m51_print.specs.Lines.{entry_line}
 use Rattle.m51_sim.specs.declared.runs.Entries.{Entries}
 use Rattle.m51_sim.specs.Runs.{entries_of}
 use Rattle.m51_sim.specs.Writing.{StopsWithin}
+
+-- bytes that lack their last one are a front
+pub front_of_stop : (a b : Option (List ℕ)) (xs : List ℕ) → StopsWithin a b xs → AppendsFront a b xs
+front_of_stop a b xs q = (q.0, omega (arith, q.1), q.2)
 
 two_lines : (told : Entries) → flat_map entry_line (entries_of told) ≡ flat_map entry_line (option_to_list told.port) ++ flat_map entry_line (option_to_list told.sent)
 two_lines told = flat_map-append entry_line (option_to_list told.port) (option_to_list told.sent)

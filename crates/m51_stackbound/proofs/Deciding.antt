@@ -5,6 +5,7 @@ use Rattle.std.specs.List.{Any, Contains, list_any}
 use Rattle.std.proofs.lemmas.Bool.{cases_lt}
 use Rattle.std.proofs.lemmas.Grind.{common_steps}
 use Rattle.std.proofs.lemmas.List.Folds.{Any-from_list_any, list_any_at}
+use Rattle.std.proofs.lemmas.List.{get_or_past}
 use Rattle.m51_module.specs.declared.parts.LayoutParts.{LayoutParts}
 use Rattle.m51_module.specs.declared.stack_bound.Proc.{Proc}
 use Rattle.m51_module.specs.declared.stack_bound.RootDepth.{RootDepth}
@@ -39,9 +40,6 @@ start_of : (k : ℕ) → (start : Start) × (rank start ≡ k)
 start_of zero = (Reset, refl)
 start_of (suc k) = (At k, omega arith)
 
-past_end : (depths : List ℕ) (k : ℕ) → length depths ≤ k → slice_index depths k ≡ 0
-past_end depths k h = grind (arith, common_steps, h)
-
 cap_above : (depth n : ℕ) → depth ≡ cap n → 255 < depth → 255 < n
 cap_above depth n e h = grind (arith, e, h)
 
@@ -53,7 +51,7 @@ all_low depths none start = elim (cases_lt (depth_in depths start) 256) as (λ _
     | inl below ↦
         let passes : nat_lt 255 (get_or depths (rank start) 0) ≡ true = grind (arith, common_steps, high) in
         absurd (cc (none, list_any_at (λ depth. nat_lt 255 depth) depths (rank start) 0 below passes))
-    | inr past ↦ absurd (omega (arith, high, past_end depths (rank start) past))
+    | inr past ↦ absurd (omega (arith, high, get_or_past depths (rank start) 0 past))
   ]
 ]
 
@@ -115,7 +113,7 @@ none_is l image points depths are s none Reset h = h
 none_is l image points depths are s none (At a) h = elim (cases_lt a 65536) as (λ _. ⊥) [
   | inl below ↦ none a below h
   | inr past ↦
-      let zero : depth_in depths (At a) ≡ 0 = past_end depths (rank (At a)) (omega (arith, past, s.are.len)) in
+      let zero : depth_in depths (At a) ≡ 0 = get_or_past depths (rank (At a)) 0 (omega (arith, past, s.are.len)) in
       low_not_cyclic l image points depths are s (At a) (omega (arith, zero)) h
 ]
 

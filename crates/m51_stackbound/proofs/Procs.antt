@@ -14,15 +14,13 @@ use Rattle.m51_module.specs.Rising.{Rises}
 use Rattle.m51_stackbound.specs.declared.point.Point.{Point}
 use Rattle.m51_stackbound.specs.Listing.{is_noted, with_start, HasStart, AreStarts, IsListed, AreListed}
 use Rattle.m51_stackbound.proofs.Leasts.{front_cases, front_kept, front_next}
+use Rattle.m51_stackbound.proofs.Rooted.{same_address}
 use Rattle.m51_cells.proofs.Small.{none_in_empty}
 
 blank_start : (n k : ℕ) → get_or (replicate n false) k false ≡ false
 blank_start zero k = refl
 blank_start (suc n) zero = refl
 blank_start (suc n) (suc k) = blank_start n k
-
-same_at : (a b : ℕ) → At a ≡ At b → a ≡ b
-same_at a b e = cc e
 
 pub starts_none : (count : ℕ) (starts : List Bool) → count ≡ 65536 → starts ≡ replicate count false → AreStarts [] starts
 starts_none count starts is e = subst (λ ss. AreStarts [] ss) (sym e) (record {
@@ -68,7 +66,7 @@ module _ (points : List Point) (i : ℕ) (d : Point) (below : i < length points)
           | inl e ↦ subst (λ n. get_or (set old a true) n false ≡ true) (sym e) (get_or-set_same old a true false inside)
           | inr ne ↦ elim (start_cases at k) as (λ _. get_or (set old a true) at false ≡ true) [
             | inl before ↦ get_or-set_other old a at true false ne ∙ h.all at before
-            | inr is ↦ absurd (ne (same_at at a (sym is ∙ s)))
+            | inr is ↦ absurd (ne (same_address at a (sym is ∙ s)))
           ]
         ];
       }

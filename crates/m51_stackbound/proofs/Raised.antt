@@ -1,12 +1,12 @@
 -- Depths that are raised until no point comes to more.
-use Rattle.std.proofs.Common.{◌≡◌, ◌<◌, ◌≤◌, ◌+◌, ◌*◌, ℕ, suc, Bool, true, false, ◌||◌, List, [], ◌∷◌, length, get_or, set, take, sum, replicate, refl, sym, ap, subst, ◌∙◌, arith, ◌⊎◌, inl, inr, Option, Some, None}
+use Rattle.std.proofs.Common.{◌≡◌, ◌<◌, ◌≤◌, ◌+◌, ℕ, Bool, true, false, ◌||◌, List, [], ◌∷◌, length, get_or, set, take, sum, replicate, refl, sym, ap, subst, ◌∙◌, arith, ◌⊎◌, inl, inr, Option, Some, None}
 use Rattle.std.specs.Prelude.{if◌then◌else◌}
 use Rattle.std.specs.List.{Contains}
 use Rattle.std.proofs.lemmas.Bool.{cases_lt}
 use Rattle.std.proofs.lemmas.Grind.{common_steps}
 use Rattle.std.proofs.lemmas.List.{length-replicate, get_or-set_same, get_or-set_other, length-set}
-use Rattle.std.proofs.lemmas.List.Sums.{sum_by-set, sum_by-cons}
-use Rattle.std.proofs.Math.Nat.{mul-suc}
+use Rattle.std.proofs.lemmas.List.Sums.{sum_by-set}
+use Rattle.m51_cells.proofs.ListsAndOptions.{sum_most}
 use Rattle.m51_isa.specs.declared.instr.Instr.{Instr}
 use Rattle.m51_isa.specs.declared.instr.Instr.TheVariants.{AcallAddr11, LcallAddr16}
 use Rattle.m51_module.specs.declared.parts.LayoutParts.{LayoutParts}
@@ -51,14 +51,6 @@ rank_same Reset Reset e = refl
 rank_same Reset (At b) e = absurd (omega (arith, e))
 rank_same (At a) Reset e = absurd (omega (arith, e))
 rank_same (At a) (At b) e = let same : a ≡ b = omega (arith, e) in ap At same
-
--- a sum of numbers that have a bound
-sum_most : (most : ℕ) (xs : List ℕ) → ((i : ℕ) → i < length xs → get_or xs i 0 ≤ most) → sum xs ≤ most * length xs
-sum_most most [] h = omega arith
-sum_most most (x ∷ xs) h =
-    let rest = sum_most most xs (λ i below. h (suc i) (omega arith)) in
-    let whole : sum (x ∷ xs) ≡ x + sum xs = sum_by-cons (λ (y : ℕ). y) x xs in
-    omega (arith, rest, whole, h 0 (omega arith), mul-suc most (length xs))
 
 cap_low : (n : ℕ) → n < 256 → cap n ≡ n
 cap_low n h = grind (arith, h)

@@ -34,7 +34,8 @@ entry_listed (w ∷ vs) v (suc k, below, is) = contains_after (entry_at w) (map 
 reset_point : Point
 reset_point = point_at Reset 0 7
 
-same_address : (a b : ℕ) → At a ≡ At b → a ≡ b
+-- starts at one address
+pub same_address : (a b : ℕ) → At a ≡ At b → a ≡ b
 same_address a b e = cc e
 
 not_reset : (a : ℕ) → Reset ≡ At a → ⊥

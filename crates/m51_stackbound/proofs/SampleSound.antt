@@ -3,6 +3,7 @@ use Rattle.std.proofs.Common.{◌≡◌, ◌≢◌, ℕ, zero, suc, ◌+◌, ◌
 use Rattle.std.specs.Prelude.{slice_get, nat_lt, if◌then◌else◌}
 use Rattle.std.specs.List.{Contains}
 use Rattle.std.proofs.lemmas.Bool.{le-ltb, lt-ltb}
+use Rattle.std.proofs.lemmas.Option.{same_Some}
 use Rattle.m51_cells.specs.declared.cell.Cell.{Cell}
 use Rattle.m51_cells.specs.Extent.{Covers, Meet}
 use Rattle.m51_module.specs.declared.parts.LayoutParts.{LayoutParts}
@@ -13,26 +14,23 @@ use Rattle.m51_module.specs.Plan.{ExtentsConflict, IsCodeSegment, IsOverlaid, Is
 use Rattle.m51_module.specs.Sound.{IsFit, IsSound}
 use Rattle.m51_stackbound.specs.Sample.{main_unit, root_from, two_handlers}
 
-some_is : (p q : Placed) → Some p ≡ Some q → p ≡ q
-some_is p q h = cc h
-
 fit_root : (base size : ℕ) → 0 < size → base + size < 65536 → IsFit (root_from base size)
 fit_root base size some small = record { kind = λ e. cc e; inside = λ c h. omega (arith, h.below, small); absolute = λ e. some; code = λ e f. cc f }
 
 fit : (s : ℕ) (p : Placed) → IsPlaced two_handlers s p → IsFit p
-fit zero p h = subst IsFit (some_is (root_from 0 3) p h) (fit_root 0 3 (omega arith) (omega arith))
-fit (suc zero) p h = subst IsFit (some_is (root_from 3 8) p h) (fit_root 3 8 (omega arith) (omega arith))
-fit (suc (suc zero)) p h = subst IsFit (some_is (root_from 11 8) p h) (fit_root 11 8 (omega arith) (omega arith))
+fit zero p h = subst IsFit (same_Some (root_from 0 3) p h) (fit_root 0 3 (omega arith) (omega arith))
+fit (suc zero) p h = subst IsFit (same_Some (root_from 3 8) p h) (fit_root 3 8 (omega arith) (omega arith))
+fit (suc (suc zero)) p h = subst IsFit (same_Some (root_from 11 8) p h) (fit_root 11 8 (omega arith) (omega arith))
 fit (suc (suc (suc zero))) p h =
-    subst IsFit (some_is main_unit p h) (record { kind = λ e. cc e; inside = λ c h. omega (arith, h.below); absolute = λ e. cc e; code = λ e f. cc f })
+    subst IsFit (same_Some main_unit p h) (record { kind = λ e. cc e; inside = λ c h. omega (arith, h.below); absolute = λ e. cc e; code = λ e f. cc f })
 fit (suc (suc (suc (suc s)))) p h = absurd (cc h)
 
 -- none is overlaid
 not_overlaid : (s : ℕ) → IsOverlaid two_handlers s → ⊥
-not_overlaid zero (p, at, mark) = let k = ap (λ (q : Placed). q.mark) (some_is (root_from 0 3) p at) in cc (k, mark)
-not_overlaid (suc zero) (p, at, mark) = let k = ap (λ (q : Placed). q.mark) (some_is (root_from 3 8) p at) in cc (k, mark)
-not_overlaid (suc (suc zero)) (p, at, mark) = let k = ap (λ (q : Placed). q.mark) (some_is (root_from 11 8) p at) in cc (k, mark)
-not_overlaid (suc (suc (suc zero))) (p, at, mark) = let k = ap (λ (q : Placed). q.mark) (some_is main_unit p at) in cc (k, mark)
+not_overlaid zero (p, at, mark) = let k = ap (λ (q : Placed). q.mark) (same_Some (root_from 0 3) p at) in cc (k, mark)
+not_overlaid (suc zero) (p, at, mark) = let k = ap (λ (q : Placed). q.mark) (same_Some (root_from 3 8) p at) in cc (k, mark)
+not_overlaid (suc (suc zero)) (p, at, mark) = let k = ap (λ (q : Placed). q.mark) (same_Some (root_from 11 8) p at) in cc (k, mark)
+not_overlaid (suc (suc (suc zero))) (p, at, mark) = let k = ap (λ (q : Placed). q.mark) (same_Some main_unit p at) in cc (k, mark)
 not_overlaid (suc (suc (suc (suc s)))) (p, at, mark) = absurd (cc at)
 
 -- the units are the extents, in order
@@ -84,15 +82,15 @@ abbrev part : ℕ → ℕ
 part at = if nat_lt at 3 then 0 else (if nat_lt at 11 then 1 else (if nat_lt at 48 then 2 else 3))
 
 covered : (s : ℕ) (p : Placed) → IsPlaced two_handlers s p → (c : Cell) → Covers (extent_at p) c → s ≡ part c.at
-covered zero p h c k = let m = subst (λ p. Covers (extent_at p) c) (sym (some_is (root_from 0 3) p h)) k in rw (lt-ltb c.at 3 m.below) refl
+covered zero p h c k = let m = subst (λ p. Covers (extent_at p) c) (sym (same_Some (root_from 0 3) p h)) k in rw (lt-ltb c.at 3 m.below) refl
 covered (suc zero) p h c k =
-    let m = subst (λ p. Covers (extent_at p) c) (sym (some_is (root_from 3 8) p h)) k in
+    let m = subst (λ p. Covers (extent_at p) c) (sym (same_Some (root_from 3 8) p h)) k in
     rw (le-ltb c.at 3 m.from, lt-ltb c.at 11 m.below) refl
 covered (suc (suc zero)) p h c k =
-    let m = subst (λ p. Covers (extent_at p) c) (sym (some_is (root_from 11 8) p h)) k in
+    let m = subst (λ p. Covers (extent_at p) c) (sym (same_Some (root_from 11 8) p h)) k in
     rw (le-ltb c.at 3 (omega (arith, m.from)), le-ltb c.at 11 m.from, lt-ltb c.at 48 (omega (arith, m.below))) refl
 covered (suc (suc (suc zero))) p h c k =
-    let m = subst (λ p. Covers (extent_at p) c) (sym (some_is main_unit p h)) k in
+    let m = subst (λ p. Covers (extent_at p) c) (sym (same_Some main_unit p h)) k in
     rw (le-ltb c.at 3 (omega (arith, m.from)), le-ltb c.at 11 (omega (arith, m.from)), le-ltb c.at 48 m.from) refl
 covered (suc (suc (suc (suc s)))) p h c k = absurd (cc h)
 

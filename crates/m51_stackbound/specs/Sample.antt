@@ -1,4 +1,4 @@
--- A sound layout of three roots and a unit that the first of them leads to, in program memory alone.
+-- A sound layout of three roots and a unit that the first of them leads to, in program memory only.
 use Rattle.std.specs.Prelude.{ℕ, List, [], ◌∷◌}
 use Rattle.m51_cells.specs.declared.kind.Kind.TheVariants.{Code}
 use Rattle.m51_cells.specs.declared.kind.Reloc.TheVariants.{Abs, Unit as UnitType}

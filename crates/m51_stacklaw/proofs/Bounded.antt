@@ -47,6 +47,7 @@ use Rattle.m51_monitor.specs.Judgement.{judge_of}
 use Rattle.m51_sim.specs.SeparateMachine.{Separate, concludes, memory_after, with_move}
 use Rattle.m51_sim.proofs.Keeping.{vectored_done}
 use Rattle.m51_sim.proofs.Preparing.{done_fact, ended_levels, same_levels}
+use Rattle.m51_sim.proofs.TakenTypes.{taken_by}
 use Rattle.m51_stackbound.specs.Bounds.{IsBound}
 use Rattle.m51_stackbound.specs.Instructions.{is_call, is_jump, is_return, target_of}
 use Rattle.m51_stackbound.specs.Points.{instruction}
@@ -139,10 +140,6 @@ pub plan_len : (cpu : Cpu) (instr : Instr) (image : List ℕ) (ext : Pins) → l
 plan_len cpu instr image ext len parity =
     let r = right_of cpu len parity in
     plan_right image ext (started cpu instr) (action_of instr) (record { len = r.len; parity = r.parity })
-
--- the type of a value that a function takes
-abbrev pub taken_by : {A B : Type 0} → (A → B) → Type 0
-taken_by {A} f = A
 
 -- an effect and a move that are allowed
 abbrev pub Held : LayoutParts → Separate → Type 0

@@ -1,6 +1,6 @@
 -- The same notions in the words of the machine and of the bound: units at addresses, instructions, bytes inside.
-use Rattle.std.proofs.Common.{◌≡◌, ◌≤◌, ◌+◌, ◌%◌, ◌-◌, ℕ, zero, suc, Bool, true, false, List, [], ◌∷◌, ◌++◌, refl, sym, ap, subst, ◌∙◌, arith, ◌⊎◌, inl, inr, Option, Some, None}
-use Rattle.std.specs.Prelude.{◌&&◌, ◌||◌, IfSome, if◌then◌else◌, cond, filter, is_some, nat_eq}
+use Rattle.std.proofs.Common.{◌≡◌, ◌≤◌, ◌+◌, ◌%◌, ◌-◌, ℕ, zero, suc, Bool, true, false, List, [], ◌++◌, refl, sym, ap, subst, ◌∙◌, arith, ◌⊎◌, inl, inr, Option, Some, None}
+use Rattle.std.specs.Prelude.{◌&&◌, ◌||◌, IfSome, if◌then◌else◌, is_some, nat_eq}
 use Rattle.std.specs.Option.{unwrap_or}
 use Rattle.std.specs.List.{Contains}
 use Rattle.std.proofs.lemmas.Bool.{and_parts, eq-eqb, eqb-true}
@@ -34,18 +34,8 @@ use Rattle.m51_stackbound.proofs.Finding.{root_found as root_there, root_is, uni
 use Rattle.m51_stackbound.proofs.Inside.{interrupt_is_vector}
 use Rattle.m51_stackbound.proofs.Raised.{call_goes}
 use Rattle.m51_cells.proofs.Small.{contains_after}
+use Rattle.m51_cells.proofs.ListsAndOptions.{filter_keeps}
 use Rattle.m51_stacklaw.proofs.Instructions.{instr_top}
-
--- an element that passes is one of the filtered list
-filter_by : (test : ℕ → Bool) (y : ℕ) (xs : List ℕ) (x : ℕ) (b : Bool) → test y ≡ b → test x ≡ true → Contains (y ∷ xs) x → (Contains xs x → Contains (filter test xs) x) → Contains (cond b (y ∷ filter test xs) (filter test xs)) x
-filter_by test y xs x true e h (zero, below, is) rest = (0, omega arith, is)
-filter_by test y xs x true e h (suc k, below, is) rest = let r = rest (k, omega (arith, below), is) in (suc r.0, omega (arith, r.1), r.2)
-filter_by test y xs x false e h (zero, below, is) rest = absurd (cc (e, h, is))
-filter_by test y xs x false e h (suc k, below, is) rest = rest (k, omega (arith, below), is)
-
-filter_has : (test : ℕ → Bool) (xs : List ℕ) (x : ℕ) → Contains xs x → test x ≡ true → Contains (filter test xs) x
-filter_has test [] x h e = absurd (omega (arith, h.1))
-filter_has test (y ∷ xs) x h e = filter_by test y xs x (test y) refl e h (λ k. filter_has test xs x k e)
 
 module _ (l : LayoutParts) (sound : IsSound l) where
   unit_at : (address u : ℕ) → IsUnitAt l address u → unit_of l address ≡ Some u
@@ -108,7 +98,7 @@ module _ (l : LayoutParts) (sound : IsSound l) where
   handler_is source unit h =
       let v = vector_of source in
       let is : Some unit ≡ root_of l v = root_is l sound v (Some unit) h.vector_is h (λ w k. ap Some (one_root l sound v unit w h k)) in
-      filter_has (λ vector. is_some (root_of l vector)) interrupts v (is_interrupt source) (ap is_some (sym is))
+      filter_keeps (λ vector. is_some (root_of l vector)) interrupts v (is_interrupt source) (ap is_some (sym is))
 
   -- the root that the machine finds
   pub root_at : (source : Source) (u : ℕ) → root_found l (Vector source) ≡ Some u → IsRootAt l (vector_of source) u

@@ -4,6 +4,7 @@ use Rattle.std.specs.Prelude.{Result, Ok, Err}
 use Rattle.std.specs.List.{Contains}
 use Rattle.std.specs.Int.{bit_at}
 use Rattle.std.proofs.lemmas.Bool.{cond_both}
+use Rattle.std.proofs.Math.Nat.{mod-add-div}
 use Rattle.m51_alu.specs.Arithmetic.{bit_of, parity_of}
 use Rattle.m51_cells.specs.declared.event.Event.{Event}
 use Rattle.m51_isa.specs.declared.instr.Instr.{Instr}
@@ -44,16 +45,17 @@ use Rattle.m51_sim.specs.SeparateMachine.{Separate, cells_of, concludes, instr_o
 use Rattle.m51_sim.proofs.Fitting.{KeepsControl}
 use Rattle.m51_sim.proofs.Keeping.{inside_ok}
 use Rattle.m51_sim.proofs.Preparing.{done_fact}
+use Rattle.m51_sim.proofs.TakenTypes.{taken_by}
 use Rattle.m51_stackbound.specs.Bounds.{IsBound}
 use Rattle.m51_stackbound.proofs.Covering.{root_covers}
 use Rattle.m51_stackbound.proofs.Rooted.{reset_first}
 use Rattle.m51_timers_uart.proofs.Kept.{the_rest_is_kept}
 use Rattle.m51_stacklaw.specs.Laws.{SpIsBounded}
-use Rattle.m51_stacklaw.proofs.Bounded.{Held, taken_by, InOrder, IsVectored, few_levels, instr_in_order, judged_of, plan_len, two_levels, vectored_is}
+use Rattle.m51_stacklaw.proofs.Bounded.{Held, InOrder, IsVectored, few_levels, instr_in_order, judged_of, plan_len, two_levels, vectored_is}
 use Rattle.m51_stacklaw.proofs.Frames.{AtReset}
 use Rattle.m51_stacklaw.proofs.Judged.{begins_at}
 use Rattle.m51_stacklaw.proofs.Meeting.{handler_is, instruction_is, root_at}
-use Rattle.m51_stacklaw.proofs.Steps.{InStep, address_is, in_room, interrupted as interrupted_at, put_byte}
+use Rattle.m51_stacklaw.proofs.Steps.{InStep, in_room, interrupted as interrupted_at, put_byte}
 
 module _ (l : LayoutParts) (image : List ℕ) (sound : IsSound l) (b : StackBound) (bounded : IsBound l image b) (few : b.total ≤ 255) where
   abbrev Order : Records → Cpu → Type 0
@@ -88,7 +90,7 @@ module _ (l : LayoutParts) (image : List ℕ) (sound : IsSound l) (b : StackBoun
       back_is = two (byte_put e.first) (byte_put e.second) (put_byte e.first ((latch cpu sp + 1) % 256) (cpu.pc % 256) k.by.low) (put_byte e.second ((latch cpu sp + 2) % 256) (cpu.pc / 256) k.by.high)
         where
           two : (x y : ℕ) → x ≡ cpu.pc % 256 → y ≡ cpu.pc / 256 → x + 256 * y ≡ cpu.pc
-          two x y p q = ap (λ x. x + 256 * y) p ∙ (ap (λ y. cpu.pc % 256 + 256 * y) q ∙ address_is cpu.pc)
+          two x y p q = ap (λ x. x + 256 * y) p ∙ (ap (λ y. cpu.pc % 256 + 256 * y) q ∙ mod-add-div cpu.pc 256)
 
       root_there : (source : Source) (u : ℕ) → root_found l (Vector source) ≡ Some u → IsRootAt l (vector_of source) u
       root_there source u e = root_at l sound source u e

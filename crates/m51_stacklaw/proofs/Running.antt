@@ -2,6 +2,7 @@
 use Rattle.std.proofs.Common.{◌≡◌, ◌≤◌, ◌+◌, ◌*◌, ◌/◌, ◌%◌, ℕ, Bool, true, false, drop, List, [], ◌∷◌, length, refl, sym, ap, subst, ◌∙◌, arith, inl, inr, Some}
 use Rattle.std.specs.Prelude.{Ok}
 use Rattle.std.proofs.lemmas.Bool.{eq-eqb}
+use Rattle.std.proofs.Math.Nat.{mod-add-div}
 use Rattle.m51_isa.specs.declared.instr.Instr.{Instr}
 use Rattle.m51_flat.specs.declared.state.Cpu.{Cpu}
 use Rattle.m51_flat.specs.declared.state.Effect.{Effect}
@@ -31,7 +32,7 @@ use Rattle.m51_stacklaw.proofs.Instructions.{Returns, instr_top}
 use Rattle.m51_stacklaw.proofs.Frames.{Stands}
 use Rattle.m51_stacklaw.proofs.Judged.{GoesBack, Way, goes_back, stays_in, way_of}
 use Rattle.m51_stacklaw.proofs.Meeting.{found_unit}
-use Rattle.m51_stacklaw.proofs.Steps.{InStep, call_made, in_room, jumped_stands, put_byte, address_is, returned, went_on, went_to}
+use Rattle.m51_stacklaw.proofs.Steps.{InStep, call_made, in_room, jumped_stands, put_byte, returned, went_on, went_to}
 
 call_count : (cause : Cause) (n : ℕ) → is_by true cause ≡ true → one_more cause n ≡ n
 call_count ByCall n e = refl
@@ -103,7 +104,7 @@ module _ (l : LayoutParts) (image : List ℕ) (sound : IsSound l) (b : StackBoun
       back_is = two (byte_put e.first) (byte_put e.second) (put_byte e.first ((latch cpu sp + 1) % 256) (next % 256) h.low) (put_byte e.second ((latch cpu sp + 2) % 256) (next / 256) h.high)
         where
           two : (x y : ℕ) → x ≡ next % 256 → y ≡ next / 256 → x + 256 * y ≡ next
-          two x y p q = ap (λ x. x + 256 * y) p ∙ (ap (λ y. next % 256 + 256 * y) q ∙ address_is next)
+          two x y p q = ap (λ x. x + 256 * y) p ∙ (ap (λ y. next % 256 + 256 * y) q ∙ mod-add-div next 256)
 
   -- a return
   back_to : (t : Transfer) (call : Bool) → e.transfer ≡ t → latch e.cpu sp ≡ (latch cpu sp + 254) % 256 → GoesBack a.reset a.returns call (latch cpu sp) e.cpu.pc (unit_found l e.cpu.pc) step → After

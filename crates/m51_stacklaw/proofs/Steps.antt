@@ -1,5 +1,5 @@
 -- Each step that is performed keeps the points that records and processor stand for.
-use Rattle.std.proofs.Common.{◌≡◌, ◌≤◌, ◌+◌, ◌*◌, ◌/◌, ◌%◌, ◌-◌, ℕ, Bool, true, false, not, List, [], ◌∷◌, refl, sym, ap, subst, ◌∙◌, arith, ◌⊎◌, Some, None}
+use Rattle.std.proofs.Common.{◌≡◌, ◌≤◌, ◌+◌, ◌%◌, ◌-◌, ℕ, Bool, true, false, not, List, [], ◌∷◌, refl, sym, ap, subst, ◌∙◌, arith, ◌⊎◌, Some, None}
 use Rattle.std.specs.Prelude.{◌==◌, ◌&&◌, ◌||◌, if◌then◌else◌, is_some}
 use Rattle.std.specs.Option.{unwrap_or}
 use Rattle.std.specs.List.{Contains}
@@ -32,10 +32,6 @@ use Rattle.m51_stackbound.proofs.Rooted.{handler_first}
 use Rattle.m51_stacklaw.proofs.Frames.{Stands, AtReset, AfterCall, AfterInterrupt, room, room_above}
 use Rattle.m51_stacklaw.proofs.Instructions.{instr_top}
 use Rattle.m51_stacklaw.proofs.Meeting.{branch_keeps, call_returns, in_one, next_there, sets_writes, target_counts, target_there, tops}
-
--- two parts of an address
-pub address_is : (n : ℕ) → n % 256 + 256 * (n / 256) ≡ n
-address_is n = omega arith
 
 pub put_byte : (p : Put) (a v : ℕ) → p ≡ Byte a v → byte_put p ≡ v
 put_byte p a v e = ap byte_put e

@@ -39,7 +39,8 @@ abbrev pub AreCut : List Word → Type 0
 AreCut [] = Unit {0}
 AreCut (w ∷ ws) = IsCut w × AreCut ws
 
-one_blank : (at : ℕ) (rest : List ℕ) → tokens_at 0 at (space ∷ rest) ≡ tokens_at 0 (at + 1) rest
+-- a blank is no token
+pub one_blank : (at : ℕ) (rest : List ℕ) → tokens_at 0 at (space ∷ rest) ≡ tokens_at 0 (at + 1) rest
 unfolding lexeme_of
 one_blank at rest = refl
 
@@ -64,8 +65,9 @@ AreWords line [] (w ∷ ws) = ⊥
 AreWords line (t ∷ ts) [] = ⊥
 AreWords line (t ∷ ts) (w ∷ ws) = (t.what ≡ w.what) × (slice_range line t.from t.to ≡ w.text) × AreWords line ts ws
 
-within : (before text rest : List ℕ) → slice_range (before ++ (text ++ rest)) (length before) (length before + length text) ≡ text
-within before text rest =
+-- the bytes at the place of a word are the word
+pub word_within : (before text rest : List ℕ) → slice_range (before ++ (text ++ rest)) (length before) (length before + length text) ≡ text
+word_within before text rest =
     ap (λ l. take (length before + length text - length before) l) (drop-append_seam before (text ++ rest))
     ∙ ap (λ n. take n (text ++ rest)) (omega arith)
     ∙ take-append_seam text rest
@@ -77,7 +79,7 @@ placed_are before (w ∷ ws) at is =
     let next : at + length w.text + 1 ≡ length (before ++ (w.text ++ space ∷ [])) = simp (length-append) (omega (arith, is)) in
     let line : (before ++ (w.text ++ space ∷ [])) ++ laid ws ≡ before ++ (w.text ++ space ∷ laid ws) = simp append_assoc in (
       refl,
-      ap (λ n. slice_range (before ++ (w.text ++ space ∷ laid ws)) n (n + length w.text)) is ∙ within before w.text (space ∷ laid ws),
+      ap (λ n. slice_range (before ++ (w.text ++ space ∷ laid ws)) n (n + length w.text)) is ∙ word_within before w.text (space ∷ laid ws),
       subst (λ l. AreWords l (placed (at + length w.text + 1) ws) ws) line (placed_are (before ++ (w.text ++ space ∷ [])) ws (at + length w.text + 1) next),
     )
 

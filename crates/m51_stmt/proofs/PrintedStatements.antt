@@ -83,7 +83,7 @@ no_percent : (c : ℕ) → cells.is_name_byte c ≡ true → (c == 0x25) ≡ fal
 no_percent c h = grind (arith, common_steps)
 
 -- a line that begins with a name is one of tokens
-name_line : (text rest : List ℕ) → is_name text ≡ true → any_line (text ++ rest) ≡ token_line (text ++ rest)
+pub name_line : (text rest : List ℕ) → is_name text ≡ true → any_line (text ++ rest) ≡ token_line (text ++ rest)
 unfolding any_line
 name_line [] rest h = absurd (cc h)
 name_line (c ∷ more) rest h =
@@ -107,7 +107,8 @@ tokens_line ws is s reads =
 abbrev bare : BodyTree → StmtTree
 bare b = record { label = None; body = b }
 
-abbrev labelled : List ℕ → BodyTree → StmtTree
+-- a statement after a label
+abbrev pub labelled : List ℕ → BodyTree → StmtTree
 labelled name b = record { label = Some name; body = b }
 
 -- without a label

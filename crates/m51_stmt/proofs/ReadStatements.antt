@@ -28,7 +28,7 @@ use Rattle.m51_stmt.specs.Operands.{register, pointer, sum}
 use Rattle.m51_stmt.specs.Definitions.{definition_of}
 use Rattle.m51_stmt.specs.Directives.{select_of, directive_of}
 use Rattle.m51_stmt.specs.Control as control
-use Rattle.m51_stmt.specs.Control.{opening, closing, is_inside, ends, behind_sign, if_ended, closed_at, parenthesized, alone, include, include_of, title, ignored_if, is_ignored_word, by_name}
+use Rattle.m51_stmt.specs.Control.{opening, closing, is_inside, ends, behind_sign, if_ended, closed_at, parenthesized, include, include_of, ignored_if, is_ignored_word, by_name}
 use Rattle.m51_stmt.specs.Lines.{symbols_of, any_line}
 use Rattle.m51_stmt.specs.Grammar as grammar
 use Rattle.m51_stmt.specs.Printing.{reloc_word, stmt_text}
@@ -290,8 +290,9 @@ each_byte : (xs : List ℕ) → AllByRecursion IsByte xs → Each IsByte xs
 each_byte [] h = tt
 each_byte (x ∷ xs) h = (h.0, each_byte xs h.1)
 
-long_enough : (n : ℕ) → n ≤ 255 → nat_lt 255 n ≡ false
-long_enough n h = grind (arith, common_steps)
+-- 255 bytes are not too many
+pub at_most_255 : (n : ℕ) → n ≤ 255 → nat_lt 255 n ≡ false
+at_most_255 n h = grind (arith, common_steps)
 
 -- a statement that a line of bytes writes can be read
 pub written_is_good : (line : List ℕ) (s : StmtTree) → WritesStatement line s → IsStatement s
@@ -302,5 +303,5 @@ printed_reads_back line s writes =
     let again = printed s (written_is_good line s writes) in
     record {
       printed = again;
-      short = λ few. ap (λ b. cond b (Err LONG_LINE) (any_line (stmt_text s))) (long_enough (length (stmt_text s)) few) ∙ again;
+      short = λ few. ap (λ b. cond b (Err LONG_LINE) (any_line (stmt_text s))) (at_most_255 (length (stmt_text s)) few) ∙ again;
     }

@@ -1,6 +1,6 @@
 -- Names, signs, numbers and texts stand as tokens of their own before a blank.
-use Rattle.std.proofs.Common.{◌≡◌, ℕ, ◌+◌, ◌-◌, ◌*◌, ◌/◌, ◌%◌, ◌<◌, ◌==◌, ◌||◌, ◌&&◌, cond, not, nat_lt, nat_le, Bool, true, false, List, [], ◌∷◌, ◌++◌, length, length-append, map, take, Some, None, refl, sym, ap, ◌∙◌, arith, option_map, append_assoc}
-use Rattle.std.specs.Char.{is_ascii_digit, is_ascii_alphanumeric, to_ascii_uppercase, digit_value}
+use Rattle.std.proofs.Common.{◌≡◌, ℕ, ◌+◌, ◌-◌, ◌*◌, ◌/◌, ◌%◌, ◌<◌, ◌==◌, ◌||◌, ◌&&◌, cond, not, nat_lt, nat_le, Bool, true, false, List, [], ◌∷◌, ◌++◌, length, length-append, take, Some, None, refl, sym, ap, ◌∙◌, arith, option_map, append_assoc}
+use Rattle.std.specs.Char.{is_ascii_digit, is_ascii_alphanumeric, digit_value}
 use Rattle.std.specs.Fmt.{digit_glyph}
 use Rattle.std.specs.List.{list_all, prefix_len}
 use Rattle.std.proofs.lemmas.Grind.{common_steps}
@@ -48,8 +48,9 @@ no_blank b h = grind (arith, common_steps)
 no_semicolon : (b : ℕ) → is_name_byte b ≡ true → (b == 59) ≡ false
 no_semicolon b h = grind (arith, common_steps)
 
-short : (n : ℕ) → nat_le n 31 ≡ true → nat_lt 31 n ≡ false
-short n h = grind (arith, common_steps, h)
+-- 31 bytes are not too many
+pub at_most_31 : (n : ℕ) → nat_le n 31 ≡ true → nat_lt 31 n ≡ false
+at_most_31 n h = grind (arith, common_steps, h)
 
 same_byte : (b : ℕ) → cells.is_name_byte b ≡ is_name_byte b
 same_byte b = grind (arith, common_steps)
@@ -58,17 +59,15 @@ all_same : (p q : ℕ → Bool) → ((b : ℕ) → p b ≡ q b) → (xs : List �
 all_same p q h [] = refl
 all_same p q h (x ∷ xs) = ap (λ b. b && list_all p xs) (h x) ∙ ap (λ b. q x && b) (all_same p q h xs)
 
--- a name stands as a token before a blank
-name_front : (c : ℕ) (more rest : List ℕ) → is_ascii_digit c ≡ false → list_all is_name_byte (c ∷ more) ≡ true → lexeme_of (c ∷ more ++ space ∷ rest) ≡ name_lexeme (c ∷ more ++ space ∷ rest)
+-- what begins with a byte of a name, and no digit, is a name
+pub name_first : (c : ℕ) (rest : List ℕ) → is_ascii_digit c ≡ false → is_name_byte c ≡ true → lexeme_of (c ∷ rest) ≡ name_lexeme (c ∷ rest)
 unfolding lexeme_of
-name_front c more rest digit all =
-    let is : is_name_byte c ≡ true = left (is_name_byte c) (list_all is_name_byte more) all in
-    fourth (c == 32 || c == 9) (c == 59) (is_ascii_digit c) (is_name_byte c) _ _ _ _ _ (no_blank c is) (no_semicolon c is) digit is
+name_first c rest digit is = fourth (c == 32 || c == 9) (c == 59) (is_ascii_digit c) (is_name_byte c) _ _ _ _ _ (no_blank c is) (no_semicolon c is) digit is
 
 name_ends : (at : ℕ) (text rest : List ℕ) (go : ℕ → Cut) → list_all is_name_byte text ≡ true → nat_le (length text) 31 ≡ true → after_lexeme at (name_lexeme (text ++ space ∷ rest)) go ≡ put_front (token_at at (record { what = what.Name; text = text }) ∷ []) (go (length text - 1))
 name_ends at text rest go all few =
     let run : prefix_len is_name_byte (text ++ space ∷ rest) ≡ length text = run_stops is_name_byte text space rest all refl in
-    let low : nat_lt 31 (length text) ≡ false = short (length text) few in
+    let low : nat_lt 31 (length text) ≡ false = at_most_31 (length text) few in
     rw run (rw low refl)
 
 abbrev pub name_word : List ℕ → Word
@@ -83,7 +82,9 @@ named (c ∷ more) h =
     let all : list_all is_name_byte (c ∷ more) ≡ true = sym (all_same cells.is_name_byte is_name_byte same_byte (c ∷ more)) ∙ right (not (is_ascii_digit c) && nat_le (length (c ∷ more)) 31) (list_all cells.is_name_byte (c ∷ more)) h in
     record {
       some = omega arith;
-      front = λ at rest go. ap (λ l. after_lexeme at l go) (name_front c more rest digit all) ∙ name_ends at (c ∷ more) rest go all few;
+      front = λ at rest go.
+          ap (λ l. after_lexeme at l go) (name_first c (more ++ space ∷ rest) digit (left (is_name_byte c) (list_all is_name_byte more) all))
+          ∙ name_ends at (c ∷ more) rest go all few;
     }
 
 -- a written name is cut
@@ -94,16 +95,19 @@ name_cut text h = named text (named_is_name text text h)
 glyph_value : (d : ℕ) → d < 16 → digit_value (digit_glyph true d) ≡ d
 glyph_value d h = grind (arith, common_steps)
 
-glyph_run : (d : ℕ) → d < 16 → is_ascii_alphanumeric (digit_glyph true d) ≡ true
+-- a digit goes on with the run of a number
+pub glyph_run : (d : ℕ) → d < 16 → is_ascii_alphanumeric (digit_glyph true d) ≡ true
 glyph_run d h = grind (arith, common_steps)
 
 abbrev pub number_word : ℕ → Word
 number_word n = record { what = what.Number n; text = number_text n }
 
-one_digit : (v c d : ℕ) (cs : List ℕ) → digit_value c ≡ d → d < 16 → value_in 16 v (c ∷ cs) ≡ value_in 16 (v * 16 + d) cs
-one_digit v c d cs is low =
-    ap (λ x. cond (nat_lt x 16) (value_in 16 (v * 16 + x) cs) None) is
-    ∙ (let t : nat_lt d 16 ≡ true = grind (arith, common_steps) in ap (λ b. cond b (value_in 16 (v * 16 + d) cs) None) t)
+-- one more digit of a number
+pub digit_step : (v d : ℕ) (cs : List ℕ) → d < 16 → value_in 16 v (digit_glyph true d ∷ cs) ≡ value_in 16 (v * 16 + d) cs
+digit_step v d cs low =
+    let t : nat_lt d 16 ≡ true = grind (arith, common_steps) in
+    ap (λ x. cond (nat_lt x 16) (value_in 16 (v * 16 + x) cs) None) (glyph_value d low)
+    ∙ ap (λ b. cond b (value_in 16 (v * 16 + d) cs) None) t
 
 four_digits : (n : ℕ) → n < 65536 → value_in 16 0 (0x30 ∷ hex4 n) ≡ Some n
 four_digits n h =
@@ -113,23 +117,23 @@ four_digits n h =
     let lb : a % 16 < 16 = omega arith in
     let lc : b / 16 < 16 = omega arith in
     let ld : b % 16 < 16 = omega arith in
-    let p = digit_glyph true (a / 16) in
     let q = digit_glyph true (a % 16) in
     let r = digit_glyph true (b / 16) in
     let t = digit_glyph true (b % 16) in
     let v = (0 * 16 + a / 16) * 16 + a % 16 in
-    one_digit 0 p (a / 16) (q ∷ r ∷ t ∷ []) (glyph_value (a / 16) la) la
-    ∙ one_digit (0 * 16 + a / 16) q (a % 16) (r ∷ t ∷ []) (glyph_value (a % 16) lb) lb
-    ∙ one_digit v r (b / 16) (t ∷ []) (glyph_value (b / 16) lc) lc
-    ∙ one_digit (v * 16 + b / 16) t (b % 16) [] (glyph_value (b % 16) ld) ld
+    digit_step 0 (a / 16) (q ∷ r ∷ t ∷ []) la
+    ∙ digit_step (0 * 16 + a / 16) (a % 16) (r ∷ t ∷ []) lb
+    ∙ digit_step v (b / 16) (t ∷ []) lc
+    ∙ digit_step (v * 16 + b / 16) (b % 16) [] ld
     ∙ (let same : (((0 * 16 + a / 16) * 16 + a % 16) * 16 + b / 16) * 16 + b % 16 ≡ n = omega arith in ap Some same)
 
-small : (n : ℕ) → n < 65536 → of_16_bits (Some n) ≡ Some n
-small n h = let t : nat_le n 65535 ≡ true = grind (arith, common_steps) in ap (λ b. cond b (Some n) None) t
+-- a number below 65,536 has 16 bits
+pub in_16_bits : (n : ℕ) → n < 65536 → of_16_bits (Some n) ≡ Some n
+in_16_bits n h = let t : nat_le n 65535 ≡ true = grind (arith, common_steps) in ap (λ b. cond b (Some n) None) t
 
 printed_number : (n : ℕ) → n < 65536 → number_of (number_text n) ≡ Some n
 unfolding number_of
-printed_number n h = ap of_16_bits (four_digits n h) ∙ small n h
+printed_number n h = ap of_16_bits (four_digits n h) ∙ in_16_bits n h
 
 number_run : (n : ℕ) → n < 65536 → list_all is_ascii_alphanumeric (number_text n) ≡ true
 number_run n h =

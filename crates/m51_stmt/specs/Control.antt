@@ -33,7 +33,7 @@ abbrev pub is_comment : List ℕ → Bool
 is_comment [] = true
 is_comment (c ∷ rest) = c == semicolon
 
--- blanks and a comment alone
+-- only blanks and a comment
 abbrev pub ends : List ℕ → Bool
 ends rest = is_comment (behind_blanks rest)
 
@@ -51,12 +51,12 @@ abbrev pub closed_at : List ℕ → ℕ → Option (List ℕ)
 closed_at inner len =
     if len == 0 then None else option_and_then (if_ended (take len inner)) (behind_sign closing (drop len inner))
 
--- one or more bytes between parentheses, after which blanks and a comment alone stand
+-- one or more bytes between parentheses, after which only blanks and a comment stand
 abbrev pub parenthesized : List ℕ → Option (List ℕ)
 parenthesized rest =
     option_and_then (λ inner. closed_at inner (prefix_len is_inside inner)) (behind_sign opening (behind_blanks rest))
 
--- a control that stands alone
+-- a control without an operand
 abbrev pub alone : List ℕ → BodyTree → Result BodyTree ℕ
 alone rest body = if ends rest then Ok body else Err BAD_FORM
 
@@ -74,11 +74,11 @@ abbrev pub ignored_if : Option (List ℕ) → Result BodyTree ℕ
 ignored_if (Some text) = Ok Ignored
 ignored_if None = Err BAD_FORM
 
--- a title stands alone, or with a text
+-- a title stands by itself, or with a text
 abbrev pub title : List ℕ → Result BodyTree ℕ
 title rest = if ends rest then Ok Ignored else ignored_if (parenthesized rest)
 
--- a control that changes nothing and stands alone
+-- a control that changes nothing and has no operand
 unfoldable pub is_ignored_word : List ℕ → Bool
 is_ignored_word word =
     is_among word (codes "LIST" ∷ codes "NOLIST" ∷ codes "DEBUG" ∷ codes "NODEBUG" ∷ codes "EJECT" ∷ [])

@@ -15,7 +15,7 @@ use Rattle.m51_stmt.specs.Lack.{lacks, is_unclosed}
 use Rattle.m51_stmt.specs.Lists.{list_of, item, value, expression, name_alone}
 use Rattle.m51_stmt.specs.Externs.{externs, outside, defines_reserved}
 
--- CSEG and its kin
+-- CSEG, DSEG, XSEG, BSEG and ISEG
 unfoldable pub select_of : List ℕ → Option Directive
 select_of w =
     if bytes_eq w (codes "CSEG") then Some (word.Select kind.Code)
@@ -46,12 +46,12 @@ abbrev pub is_at : Symbol → Bool
 is_at (symbol.Word w) = bytes_eq w (codes "AT")
 is_at s = false
 
--- CSEG and its kin stand alone, or with AT and an expression
+-- CSEG, DSEG, XSEG, BSEG and ISEG stand without operands, or with AT and an expression
 abbrev pub select : Kind → List Symbol → Option BodyTree
 select k [] = Some (Select k None)
 select k (s ∷ rest) = if is_at s then option_map (λ e. Select k (Some e)) (expression rest) else None
 
--- END stands alone
+-- END has no operand
 abbrev pub end_form : List Symbol → Option BodyTree
 end_form [] = Some End
 end_form more = None
@@ -71,7 +71,7 @@ directive_form word.Public symbols = option_map Public (list_of name_alone symbo
 directive_form word.Extrn symbols = option_map Extrn (externs symbols)
 directive_form word.End symbols = end_form symbols
 
--- after CSEG and its kin an expression is wanted where AT stands
+-- after CSEG, DSEG, XSEG, BSEG or ISEG an expression is wanted where AT stands
 abbrev pub select_lacks : List Symbol → Bool
 select_lacks [] = false
 select_lacks (s ∷ rest) = if is_at s then lacks want.Expression want.Nothing rest else is_unclosed (s ∷ rest)

@@ -64,7 +64,7 @@ pub data IsName : List Symbol → List ℕ → Type 0 where
 pub data IsValue : List Symbol → ItemTree → Type 0 where
   Data : {symbols : List Symbol} {e : Tree} → IsExpr symbols e → IsValue symbols (body.Value e)
 
--- a text alone, which is no value in DB
+-- only a text, which is no value in DB
 abbrev pub is_text_alone : List Symbol → Bool
 is_text_alone (symbol.Text characters ∷ []) = true
 is_text_alone symbols = false

@@ -40,7 +40,7 @@ later_parts (s ∷ rest) = all_parts rest
 abbrev pub after : {A : Type 0} → List A → Option (List A) → Option (List A)
 after done more = option_map (λ others. done ++ others) more
 
--- a name alone
+-- only a name
 abbrev pub name_alone : List Symbol → Option (List ℕ)
 name_alone (symbol.Name name ∷ []) = Some name
 name_alone other = None
@@ -58,7 +58,7 @@ expression symbols = all_read (length symbols) (expression_in symbols)
 abbrev pub value : List Symbol → Option ItemTree
 value symbols = option_map Value (expression symbols)
 
--- an item of DB: a text alone, or a value
+-- an item of DB: only a text, or a value
 abbrev pub item : List Symbol → Option ItemTree
 item (symbol.Text characters ∷ []) = Some (Text characters)
 item symbols = value symbols

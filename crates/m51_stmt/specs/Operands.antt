@@ -12,7 +12,7 @@ use Rattle.m51_stmt.specs.Words.{register_number}
 use Rattle.m51_stmt.specs.Lists.{list_of, expression}
 use Rattle.m51_expr.specs.Looks.{has_form}
 
--- the operand that a register is alone
+-- the operand that a register is by itself
 unfoldable pub register : List ℕ → Option OperandTree
 register word =
     if bytes_eq word (codes "A") then Some A
@@ -43,7 +43,7 @@ indirect (symbol.Word word ∷ symbol.Plus ∷ symbol.Word last ∷ []) =
     if bytes_eq word (codes "A") then sum last else None
 indirect other = None
 
--- a word that is an operand alone
+-- a word that is an operand by itself
 abbrev pub alone : List ℕ → List Symbol → Option OperandTree
 alone word [] = register word
 alone word more = None

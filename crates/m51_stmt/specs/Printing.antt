@@ -187,7 +187,7 @@ abbrev pub at_text : Option Tree → List ℕ
 at_text (Some e) = directive_text (codes "AT") e
 at_text None = []
 
--- CSEG and its kin
+-- CSEG, DSEG, XSEG, BSEG and ISEG
 abbrev pub select_text : Kind → Option Tree → List ℕ
 select_text k at = word_text (select_word k) ++ at_text at
 

@@ -67,7 +67,7 @@ register_number word =
     else if bytes_eq word (codes "R7") then Some 7
     else None
 
--- a register that is an operand alone
+-- a register that is an operand by itself
 unfoldable pub is_register : List ℕ → Bool
 is_register word =
     is_among word (codes "A" ∷ codes "AB" ∷ codes "C" ∷ codes "DPTR" ∷ codes "R0" ∷ codes "R1" ∷ codes "R2" ∷

@@ -56,7 +56,7 @@ fn value(alloc: Global, symbols: &[Symbol]) -> Result<Option<Item>, NoMemory>
     Ok(expression(alloc, symbols)?.map(Item::Value))
 }
 
-// An item of DB: a text alone, or a value.
+// An item of DB: only a text, or a value.
 fn item(alloc: Global, symbols: &[Symbol]) -> Result<Option<Item>, NoMemory>
     ensures { IfOk result (λ found. option_map item_tree found ≡ item symbols.now) }
 {

@@ -12,7 +12,7 @@ use m51_cells::{ListOf, Name, NoMemory};
 use m51_expr::{Binary, Operand, Operands, Symbol, has_form};
 use std::alloc::Global;
 
-// The operand that a register is alone.
+// The operand that a register is by itself.
 #[tactic(auto, unfolding(crate::specs::Operands::register))]
 fn register(word: &[u8]) -> Option<Operand>
     ensures { option_map operand_tree result ≡ register word.now }

@@ -128,7 +128,7 @@ const REGISTERS: [&[u8]; 12] = [
     b"A", b"AB", b"C", b"DPTR", b"R0", b"R1", b"R2", b"R3", b"R4", b"R5", b"R6", b"R7",
 ];
 
-// Whether the word is a register that is an operand alone.
+// Whether the word is a register that is an operand by itself.
 #[tactic(auto, unfolding(crate::specs::Words::is_register))]
 fn is_register(word: &[u8]) -> bool
     ensures { result ≡ is_register word.now }

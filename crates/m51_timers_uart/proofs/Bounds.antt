@@ -3,6 +3,7 @@ use Rattle.std.proofs.Common.{◌≡◌, ℕ, zero, suc, ◌+◌, ◌-◌, ◌�
 use Rattle.std.specs.Prelude.{◌==◌, nat_le, not}
 use Rattle.std.proofs.lemmas.Bool.{cond_both}
 use Rattle.std.proofs.lemmas.Grind.{common_steps}
+use Rattle.std.proofs.Math.Nat.{le_trans}
 use Rattle.m51_alu.specs.Arithmetic.{bit_of}
 use Rattle.m51_flat.specs.declared.state.Cpu.{Cpu}
 use Rattle.m51_flat.specs.declared.state.Pins.{Pins}
@@ -51,13 +52,10 @@ times_most levels cpu =
     (either_most 6 (flag cpu t2con ct2) (bit_of (falls levels T2)) _ (one_most _ 6 (bit_most (falls levels T2)) (lit≤ tt))
     (either_most 6 (gives_rate cpu) 6 1 (lit≤ tt) (lit≤ tt)))
 
-at_most : (n m most : ℕ) → n ≤ m → m ≤ most → n ≤ most
-at_most n m most h k = omega (arith, h, k)
-
 growth_most : (cpu : Cpu) (mode : ℕ) (one : Bool) (two : ℕ) → two ≤ 6 → growth cpu mode one two ≤ 12
 unfolding growth
 growth_most cpu mode one two h =
-    either_most 12 _ 12 _ (lit≤ tt) (either_most 12 _ two _ (at_most two 6 12 h (lit≤ tt)) (one_most _ 12 (bit_most one) (lit≤ tt)))
+    either_most 12 _ 12 _ (lit≤ tt) (either_most 12 _ two _ (le_trans h (lit≤ tt)) (one_most _ 12 (bit_most one) (lit≤ tt)))
 
 time_most : (cpu : Cpu) (mode : ℕ) → bit_time cpu mode ≤ 64
 unfolding bit_time
@@ -120,7 +118,7 @@ unfolding begun
 begin_bounds cpu byte p = record { left = bits_most (serial_mode cpu); mode = mode_most cpu; count = lit< tt }
 
 six : (levels : Levels) (cpu : Cpu) → (counted_times (times2 levels cpu) cpu).overflows ≤ 6
-six levels cpu = at_most _ _ 6 (counts_most (times2 levels cpu) cpu) (times_most levels cpu)
+six levels cpu = le_trans (counts_most (times2 levels cpu) cpu) (times_most levels cpu)
 
 tick_bounds : (cpu : Cpu) (ext : Pins) (fs : List Frame) (p : Periph) → IsBounded p → IsBounded (ticked cpu ext fs p).periph
 unfolding ticked

@@ -87,7 +87,8 @@ AreTen k p = IsSome p.ninth → p.left ≢ 0 → 10 ≤ p.left + k
 ten : (m : ℕ) → has_ninth m ≡ true → bit_times m ≡ 10
 ten m h = grind (arith, common_steps, h)
 
-ninth_ten : (m : ℕ) (b : Bool) → IsSome (cond (has_ninth m) (Some b) None) → bit_times m ≡ 10
+-- a byte with a ninth bit takes ten bit times
+pub ninth_ten : (m : ℕ) (b : Bool) → IsSome (cond (has_ninth m) (Some b) None) → bit_times m ≡ 10
 ninth_ten m b =
     cond_both (has_ninth m) (Some b) None (λ o. IsSome o → bit_times m ≡ 10) (λ e i. ten m e) (λ e i. absurd (cc i))
 

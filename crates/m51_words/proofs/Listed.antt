@@ -1,11 +1,7 @@
 -- Names read one after the other.
 use Rattle.std.proofs.Common.{◌≡◌, ℕ, List, [], ◌∷◌, ◌++◌, Option, Some, None, refl, append_assoc}
+use Rattle.m51_cells.proofs.ListsAndOptions.{names_before}
 use Rattle.m51_words.specs.Operations.{name_before}
-
--- the names with these in front
-abbrev pub names_before : List (List ℕ) → Option (List (List ℕ)) → Option (List (List ℕ))
-names_before names None = None
-names_before names (Some more) = Some (names ++ more)
 
 pub name_behind : (names : List (List ℕ)) (found : Option (List ℕ)) (name : List ℕ) (more : Option (List (List ℕ))) → found ≡ Some name
     → names_before (names ++ name ∷ []) more ≡ names_before names (name_before found more)

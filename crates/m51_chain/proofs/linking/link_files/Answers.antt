@@ -2,7 +2,7 @@ use Rattle.std.proofs.Common.{Err}
 use Rattle.m51_inputs.specs.Inputs.{inputs_tree}
 use Rattle.m51_chain.specs.Linking.{IsLinkedOr, program_in}
 use Rattle.m51_chain.specs.ProgramFiles.{named}
-use Rattle.m51_chain.proofs.Following.{came, link_refused}
+use Rattle.m51_chain.proofs.Following.{came, inputs_refused, link_refused}
 use Rattle.m51_chain.proofs.linking.link_files.Goals as goal
 
 pub returns-in_err-linked-clause-answer : goal.returns-in_err-linked-clause-answer
@@ -12,3 +12,8 @@ returns-in_err-linked-clause-answer c =
     rw (came c.from_residual-in_err-linked.result _ c.from_residual-in_err-linked.ensures.1)
     (link_refused (named c.args.files.now c.args.control.now c.args.script.now) c.args.contents.now (inputs_tree c.in_ok-modules.field-0) _
     c.in_ok-modules.ensures unlinked)
+
+pub returns-in_err-modules-clause-answer : goal.returns-in_err-modules-clause-answer
+returns-in_err-modules-clause-answer c =
+    rw (came c.from_residual.result _ c.from_residual.ensures.1)
+    (inputs_refused (named c.args.files.now c.args.control.now c.args.script.now) c.args.contents.now _ c.in_err-modules.ensures)

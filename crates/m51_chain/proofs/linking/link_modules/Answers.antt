@@ -1,6 +1,7 @@
 use Rattle.std.proofs.Common.{refl}
 use Rattle.m51_linker.specs.Link.{program_of}
-use Rattle.m51_chain.specs.Linking.{IsProgramOutcome, Nothing, Unlinked}
+use Rattle.m51_chain.specs.Linking.{IsProgramOutcome, Unlinked}
+use Rattle.m51_chain.specs.ProgramFiles.{Nothing}
 use Rattle.m51_chain.proofs.Following.{told_of}
 use Rattle.m51_chain.proofs.Ready.{unlinked}
 use Rattle.m51_chain.proofs.linking.link_modules.Goals as goal

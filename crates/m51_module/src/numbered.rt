@@ -2,12 +2,13 @@
 ghost use Rattle.std.specs.Prelude.{◌≡◌};
 ghost use Rattle.m51_module.specs.Validity.{numbered};
 
-use m51_module::{External, Segment};
+use crate::segment::Segment;
+use crate::symbol::External;
 
 /// The segment of that number, if it is there.
 ///
 /// Source: own choice ("Object records").
-pub(crate) fn segment_numbered(segments: &[Segment], number: u8) -> Option<Segment>
+pub fn segment_numbered(segments: &[Segment], number: u8) -> Option<Segment>
     ensures { result ≡ numbered segments.now number }
 {
     if number == 0 {
@@ -19,7 +20,7 @@ pub(crate) fn segment_numbered(segments: &[Segment], number: u8) -> Option<Segme
 /// The external of that number, if it is there.
 ///
 /// Source: own choice ("Object records").
-pub(crate) fn external_numbered(externals: &[External], number: u8) -> Option<External>
+pub fn external_numbered(externals: &[External], number: u8) -> Option<External>
     ensures { result ≡ numbered externals.now number }
 {
     if number == 0 {

@@ -1,0 +1,91 @@
+//! The top call for `party`: it is built and run with ample memory, with texts that were worked out by hand.
+use m51_cells::{Bytes, NoMemory};
+use m51_chain::{MemSink, Status, SureShelf, chain};
+use std::alloc::Global;
+use std::test::Fail;
+
+// The words of a text, with blanks between them.
+fn words_in(alloc: Global, text: &str) -> Result<Vec<String>, Fail> {
+    let mut words = Vec::new(alloc);
+    for word in text.split(' ') {
+        words.push(String::from_str(alloc, word)?)?;
+    }
+    Ok(words)
+}
+
+fn bytes_of(alloc: Global, text: &str) -> Result<Bytes, NoMemory> {
+    Ok(Bytes::of(text.as_bytes().to_vec(alloc)?))
+}
+
+// A shelf with two sources.
+fn shelf(alloc: Global, first: &str, second: &str) -> Result<SureShelf, NoMemory> {
+    let mut files = Vec::new(alloc);
+    files.push((bytes_of(alloc, "a.a51")?, bytes_of(alloc, first)?))?;
+    files.push((bytes_of(alloc, "b.a51")?, bytes_of(alloc, second)?))?;
+    Ok(SureShelf::make(files))
+}
+
+// What a party of two sources writes to this sink, and its status.
+fn party(alloc: Global, first: &str, second: &str, out: &mut MemSink) -> Result<Status, Fail> {
+    let words = words_in(alloc, "party --steps 40 a.a51 b.a51")?;
+    let mut files = shelf(alloc, first, second)?;
+    Ok(chain(alloc, &words, &mut files, out))
+}
+
+// Sends 41H with a ninth bit.
+const SENDS: &str = "CSEG AT 0\nMOV SCON,#88H\nMOV SBUF,#41H\nSJMP $\nEND\n";
+
+// Writes to P1 what it receives.
+const RECEIVES: &str = "CSEG AT 0\nMOV SCON,#0B0H\nW: JNB RI,W\nMOV P1,SBUF\nSJMP $\nEND\n";
+
+// Has the reserved opcode at 0000H.
+const STOPS: &str = "CSEG AT 0\nDB 0A5H\nEND\n";
+
+// Has nothing at 0000H.
+const NO_RESET: &str = "END\n";
+
+#[test]
+fn one_board_receives_what_the_other_sends(rt: HostRuntime) -> Result<(), Fail> {
+    let alloc = rt.alloc();
+    let mut out = MemSink::make(alloc, Vec::new(alloc), 1_000)?;
+    let status = party(alloc, SENDS, RECEIVES, &mut out)?;
+    assert_eq!(rt; status, Status::Ran);
+    assert_eq!(rt;
+        out.text(),
+        b"PARTY 2\n1: 56 TX 41 1\n2: 62 P1 41\n1: END 40 STEPS 80 CYCLES\n2: END 40 STEPS 80 CYCLES\n".as_slice()
+    );
+    Ok(())
+}
+
+#[test]
+fn the_second_board_has_an_event(rt: HostRuntime) -> Result<(), Fail> {
+    let alloc = rt.alloc();
+    let mut out = MemSink::make(alloc, Vec::new(alloc), 1_000)?;
+    let status = party(alloc, SENDS, STOPS, &mut out)?;
+    assert_eq!(rt; status, Status::Event);
+    assert_eq!(rt;
+        out.text(),
+        b"PARTY 2\n1: 56 TX 41 1\n1: END 40 STEPS 80 CYCLES\n2: EVENT V4 AT 0000 AFTER 0 STEPS 0 CYCLES\n".as_slice()
+    );
+    Ok(())
+}
+
+#[test]
+fn the_second_program_is_not_linked(rt: HostRuntime) -> Result<(), Fail> {
+    let alloc = rt.alloc();
+    let mut out = MemSink::make(alloc, Vec::new(alloc), 1_000)?;
+    let status = party(alloc, SENDS, NO_RESET, &mut out)?;
+    assert_eq!(rt; status, Status::Link);
+    assert_eq!(rt; out.text(), b"LINK L8\n".as_slice());
+    Ok(())
+}
+
+#[test]
+fn the_sink_has_no_room_for_the_second_line(rt: HostRuntime) -> Result<(), Fail> {
+    let alloc = rt.alloc();
+    let mut out = MemSink::make(alloc, Vec::new(alloc), 10)?;
+    let status = party(alloc, SENDS, RECEIVES, &mut out)?;
+    assert_eq!(rt; status, Status::WriteFault);
+    assert!(rt; b"PARTY 2\n1: 56 TX 41 1\n".starts_with(out.text()));
+    Ok(())
+}

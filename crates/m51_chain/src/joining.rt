@@ -1,0 +1,109 @@
+//! The verb `party`.
+ghost use Rattle.std.specs.Prelude.{◌≡◌, ◌≤◌, All, IfOk, Ok, length, true};
+ghost use Rattle.std.specs.Option.{option_copied};
+ghost use Rattle.std.specs.Result.{IsOk};
+ghost use Rattle.m51_cells.specs.declared.limits.TheConstants.{MOST_FILES, MOST_FILE_BYTES};
+ghost use Rattle.m51_party.specs.Family.{IsFresh};
+ghost use Rattle.m51_party.specs.Rounds.{family_of};
+ghost use Rattle.m51_script.specs.declared.script.Script.{Script as ScriptState};
+ghost use Rattle.m51_words.specs.declared.job.Job.TheVariants.{Party};
+ghost use Rattle.m51_words.specs.Endings.{are_boards};
+ghost use Rattle.m51_words.specs.Files.{names_read};
+ghost use Rattle.m51_chain.specs.FlatRuns.{script_in};
+ghost use Rattle.m51_chain.specs.Outcome.{Comes, outcome_of};
+ghost use Rattle.m51_chain.specs.Parties.{AreBoardsOr, IsBoardOr, IsPartyOutcome, party_report};
+
+use crate::flat::script_in;
+use crate::linking::{inputs_in, link_alone};
+use crate::optional::content_if;
+use crate::unrun::UnrunParty;
+use crate::work::{Ending, Finished, Stop};
+use m51_cells::{Bytes, NoMemory};
+use m51_inputs::Inputs;
+use m51_module::Module;
+use m51_script::{Script, ScriptError};
+use m51_sim::Board;
+use m51_words::{PartyJob, Steps};
+use std::alloc::Global;
+use std::collections::VecDeque;
+
+// The script of a file that was accepted before: each board has its own.
+fn script_again(alloc: Global, file: Option<&Bytes>) -> Result<Script, NoMemory>
+    requires { IsOk (script_in (option_copied file)) }
+    ensures { IfOk result (λ script. script_in (option_copied file.entry) ≡ Ok script) }
+{
+    match script_in(alloc, file) {
+        Ok(script) => Ok(script),
+        Err(error) => match error {
+            ScriptError::Memory => Err(NoMemory),
+            _ => unreachable!(),
+        },
+    }
+}
+
+// The board of a module that is linked alone, with the script of this file.
+fn board_alone(alloc: Global, parts: Module, file: Option<&Bytes>) -> Result<Board, Stop>
+    requires { IsOk (script_in (option_copied file)) }
+    ensures { (script : ScriptState) → script_in (option_copied file.entry) ≡ Ok script
+        → IsBoardOr script parts result }
+{
+    let linked = link_alone(alloc, parts)?;
+    let script = script_again(alloc, file)?;
+    Ok(Board::make(alloc, linked.layout, linked.image, script)?)
+}
+
+// The boards of modules, each linked alone, in order.
+fn boards_alone(
+    alloc: Global,
+    modules: Vec<Module>,
+    file: Option<&Bytes>,
+) -> Result<Vec<Board>, Stop>
+    requires { IsOk (script_in (option_copied file)) }
+    ensures { (script : ScriptState) → script_in (option_copied file.entry) ≡ Ok script
+        → AreBoardsOr script modules.items result }
+{
+    let mut left = VecDeque::from(modules);
+    let mut boards = Vec::new(alloc);
+    while let Some(parts) = left.pop_front() {
+        let board = board_alone(alloc, parts, file)?;
+        boards.push(board)?;
+    }
+    Ok(boards)
+}
+
+// The run of boards on one line.
+fn together(alloc: Global, boards: Vec<Board>, steps: Steps) -> Result<Finished, NoMemory>
+    requires least { 2 ≤ length boards.items }
+    requires most { length boards.items ≤ 8 }
+    requires fresh { All IsFresh boards.items }
+    ensures { IfOk result (λ work. outcome_of work
+        ≡ party_report boards.items steps (family_of boards.items steps)) }
+{
+    Ok(Finished {
+        keeps: None,
+        text: Bytes::new(alloc),
+        ending: Ending::Party {
+            party: UnrunParty::make(alloc, boards)?,
+            steps,
+        },
+    })
+}
+
+// Builds each program alone, and joins their boards on one line. The party is the last that takes memory.
+pub(crate) fn join_files(
+    alloc: Global,
+    job: &PartyJob,
+    contents: &[Bytes],
+) -> Result<Finished, Stop>
+    requires fit { are_boards job.now.files ≡ true }
+    requires few { length job.now.files ≤ MOST_FILES }
+    requires count { length contents.now ≡ length (names_read (Party job.now)) }
+    requires within { All (λ bytes. length bytes ≤ MOST_FILE_BYTES) contents.now }
+    ensures { Comes (IsPartyOutcome job.now contents.now) result }
+{
+    let files = job.files.as_slice();
+    let Inputs { modules, .. } = inputs_in(alloc, files, &None, &job.script, contents)?;
+    let script = content_if(&job.script, &contents[files.len()..]);
+    let boards = boards_alone(alloc, modules, script)?;
+    Ok(together(alloc, boards, job.steps)?)
+}

@@ -1,0 +1,11 @@
+-- How many bytes the field of a reference has.
+use Rattle.std.proofs.Common.{ℕ, ◌<◌, arith}
+use Rattle.m51_module.specs.declared.content.Form.{Form}
+use Rattle.m51_module.specs.declared.content.Form.TheVariants.{Word, Inblock}
+use Rattle.m51_module.specs.Validity.{field_len}
+
+-- a field has a byte
+pub some_byte : (form : Form) → 0 < field_len form
+some_byte Word = omega arith
+some_byte Inblock = omega arith
+some_byte form = omega arith

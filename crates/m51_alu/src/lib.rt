@@ -4,8 +4,6 @@
 mod decimal;
 mod product;
 mod sum;
-#[cfg(test)]
-mod tests;
 
 pub use decimal::{da, decimal_sum};
 pub use product::{div, mul, parity};

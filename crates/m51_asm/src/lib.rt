@@ -15,8 +15,6 @@ mod giving;
 mod labelled;
 mod laws;
 mod line_values;
-#[cfg(test)]
-mod name_tests;
 mod names;
 mod naming;
 mod naming_lines;
@@ -25,8 +23,6 @@ mod object_names;
 mod operand_faults;
 mod outcome;
 mod passing;
-#[cfg(test)]
-mod passing_tests;
 mod placing;
 mod predefining;
 mod publics;
@@ -36,10 +32,6 @@ mod segments;
 mod sizes;
 mod stepping;
 mod tables;
-#[cfg(test)]
-mod test_lines;
-#[cfg(test)]
-mod tests;
 mod told;
 mod valid_laws;
 mod valuation;

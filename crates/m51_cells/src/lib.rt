@@ -38,6 +38,3 @@ pub use limits::{
 pub use list::{Bytes, ListOf, Names, copy_of};
 pub use memory::NoMemory;
 pub use name::{LONGEST, Name, is_name_byte};
-
-#[cfg(test)]
-mod tests;

@@ -3,7 +3,7 @@ use std::alloc::{AllocError, AllocFailed};
 
 /// Out of memory: the one answer that no clause ties to its cause.
 ///
-/// Source: own choice ("Want of memory").
+/// Source: own choice ("Out of memory").
 #[derive(Clone, Copy, Debug, PartialEq, Eq)]
 pub struct NoMemory;
 

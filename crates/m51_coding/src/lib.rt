@@ -6,8 +6,6 @@ mod bases;
 mod choosing;
 mod coding;
 mod field_laws;
-#[cfg(test)]
-mod field_tests;
 mod field_values;
 mod filling;
 mod item;
@@ -15,8 +13,6 @@ mod laws;
 mod outcome;
 mod reference;
 mod taking;
-#[cfg(test)]
-mod tests;
 
 pub use choosing::jump_form;
 pub use coding::{Coded, Coding, code, length_of};

@@ -12,8 +12,6 @@ mod line;
 mod pieces;
 mod publics;
 mod rows;
-#[cfg(test)]
-mod tests;
 
 pub use content::{Content, LineContent, ReferenceAt, References};
 pub use gathering::{ModuleContent, SegmentContent, gather};

@@ -9,8 +9,6 @@ mod naming;
 mod parts;
 mod reading;
 mod reserving;
-#[cfg(test)]
-mod tests;
 
 pub use control::{Class, Control, class_of, same_class};
 pub use controls::Controls;

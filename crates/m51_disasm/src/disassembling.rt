@@ -29,9 +29,9 @@ fn text_within(alloc: Global, image: &[u8], parts: &[Part]) -> Result<Vec<u8>, D
     Ok(text_of(alloc, image, parts)?)
 }
 
-/// The text of parts, or the limit that it passes.
+// The text of parts, or the limit that it passes.
 #[tactic(auto, unfolding(crate::specs::Answer::text_by))]
-pub(crate) fn text_by(alloc: Global, image: &[u8], parts: &[Part]) -> Result<Vec<u8>, DisError>
+fn text_by(alloc: Global, image: &[u8], parts: &[Part]) -> Result<Vec<u8>, DisError>
     requires whole { length image.now ≡ 65536 }
     requires inside { All IsInside parts.now }
     ensures { Gives (λ text. text.items) refusal_of result (text_by image.now parts.now) }

@@ -19,10 +19,3 @@ pub use error::DisError;
 pub use line::{Line, StatementLine, Target};
 pub use part::Part;
 pub use statement::{Content, Statement};
-
-#[cfg(test)]
-mod limit_tests;
-#[cfg(test)]
-mod row_tests;
-#[cfg(test)]
-mod tests;

@@ -12,8 +12,6 @@ mod operators;
 mod ranks;
 mod reading;
 mod symbol;
-#[cfg(test)]
-mod tests;
 mod tree;
 mod value;
 mod words;

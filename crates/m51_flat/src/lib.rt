@@ -19,8 +19,6 @@ mod registers;
 mod sfr;
 mod state;
 mod store;
-#[cfg(test)]
-mod tests;
 mod writing;
 
 pub use calls::{call, stack_pc};

@@ -9,6 +9,3 @@ mod unit;
 mod unit_lines;
 
 pub use generating::generate;
-
-#[cfg(test)]
-mod tests;

@@ -13,6 +13,3 @@ pub use error::HexError;
 pub use laws::{each_line_is_a_record, what_is_written_is_read};
 pub use reading::read_hex;
 pub use writing::write_hex;
-
-#[cfg(test)]
-mod tests;

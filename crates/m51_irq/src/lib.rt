@@ -4,8 +4,6 @@
 mod choosing;
 mod laws;
 mod sources;
-#[cfg(test)]
-mod tests;
 mod vectoring;
 
 pub use choosing::choose;

@@ -19,8 +19,6 @@ mod operand;
 mod searching;
 mod slot;
 mod spelling;
-#[cfg(test)]
-mod tests;
 
 pub use columns::{cycles, kind_of, length};
 pub use decoding::decode;

@@ -5,8 +5,6 @@ mod cutting;
 mod fault;
 mod lexeme;
 mod number;
-#[cfg(test)]
-mod tests;
 mod token;
 
 pub use cutting::tokens;

@@ -8,6 +8,3 @@ mod writing;
 pub use m51_module::{LibError, Library, build};
 pub use reading::read_library;
 pub use writing::write_library;
-
-#[cfg(test)]
-mod tests;

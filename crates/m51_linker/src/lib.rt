@@ -16,6 +16,3 @@ pub use checking::Spot;
 pub use fields::Field;
 pub use linked::Linked;
 pub use linking::link;
-
-#[cfg(test)]
-mod tests;

@@ -47,6 +47,3 @@ pub use stack_bound::{Proc, Procs, RootDepth, RootDepths, StackBound, StackError
 pub use start::{Start, Starts};
 pub use symbol::{External, ExternalList, Public, Publics};
 pub use tally::Tally;
-
-#[cfg(test)]
-mod tests;

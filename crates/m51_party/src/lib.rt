@@ -11,6 +11,3 @@ mod seat;
 
 pub use laws::{exactly_one_family, steps_make_records};
 pub use party::{Party, PartyEnd};
-
-#[cfg(test)]
-mod tests;

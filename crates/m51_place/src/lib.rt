@@ -14,8 +14,6 @@ mod placing;
 mod ranked;
 mod searching;
 mod sharing;
-#[cfg(test)]
-mod tests;
 
 pub use chaining::heaviest;
 pub use laws::{

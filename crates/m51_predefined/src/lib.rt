@@ -5,8 +5,6 @@ mod bank;
 mod laws;
 mod names;
 mod tables;
-#[cfg(test)]
-mod tests;
 
 pub use bank::{absolute_register, register_value};
 pub use laws::{

@@ -1,5 +1,4 @@
 pub mod Columns
-pub mod GivenRows
 pub mod PlacedTitles
 pub mod Ranges
 pub mod Steps

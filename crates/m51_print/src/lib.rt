@@ -20,6 +20,3 @@ pub use refusals::refusal_text;
 pub use sources::listing;
 pub use stack::{stack_refusal_text, stack_text};
 pub use summary::summary_text;
-
-#[cfg(test)]
-mod tests;

@@ -26,6 +26,3 @@ pub use m51_module::ObjError;
 pub use reading::{module_at, read_module};
 pub use types::LIBRARY_HEADER;
 pub use writing::write_module;
-
-#[cfg(test)]
-mod tests;

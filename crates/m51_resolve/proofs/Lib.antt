@@ -7,7 +7,6 @@ pub mod JoinLoop
 pub mod JoinSteps
 pub mod Lookups
 pub mod NamedModules
-pub mod OneOfEach
 pub mod Outcomes
 pub mod Positions
 pub mod Sharing

@@ -11,14 +11,9 @@ mod laws;
 mod publics;
 mod resolving;
 mod rules;
-#[cfg(test)]
-mod sample;
 mod segment;
 
 pub use joined::Joined;
 pub use laws::choices_are_one;
 pub use resolving::resolve;
 pub use segment::JoinedSegment;
-
-#[cfg(test)]
-mod tests;

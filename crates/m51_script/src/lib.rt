@@ -10,8 +10,6 @@ mod parts;
 mod pin_lines;
 mod reading;
 mod script;
-#[cfg(test)]
-mod tests;
 mod timing;
 
 pub use error::ScriptError;

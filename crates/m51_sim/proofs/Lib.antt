@@ -1,7 +1,6 @@
 pub mod Values
 pub mod Sums
 pub mod Going
-pub mod SampleLayout
 pub mod Tellings
 pub mod StoresRead
 pub mod Preparing

@@ -10,4 +10,3 @@ pub mod Report
 pub mod Ready
 pub mod Laws
 pub mod StepLaws
-pub mod Sample

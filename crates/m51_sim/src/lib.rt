@@ -24,6 +24,3 @@ pub use runs::{RunEnd, Step, Told};
 pub use sink::{Failed, Sink, write_whole};
 pub use stdout::{MOST_TRIES, StdSink};
 pub use sure::SureSink;
-
-#[cfg(test)]
-mod tests;

@@ -21,4 +21,3 @@ pub mod SumLaw
 pub mod Unique
 pub mod Deciding
 pub mod Keeping
-pub mod SampleSound

@@ -13,4 +13,3 @@ pub mod Search
 pub mod Totals
 pub mod Twice
 pub mod Units
-pub mod Sample

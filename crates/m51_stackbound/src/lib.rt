@@ -14,8 +14,6 @@ mod paths;
 mod point;
 mod points;
 mod searching;
-#[cfg(test)]
-mod tests;
 mod totals;
 mod units;
 

@@ -16,8 +16,6 @@ mod printing;
 mod reading;
 mod statement;
 mod statement_printing;
-#[cfg(test)]
-mod tests;
 mod words;
 
 pub use fault::StmtError;

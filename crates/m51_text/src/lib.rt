@@ -15,8 +15,3 @@ mod text;
 pub use answering::read_text;
 pub use laws::{lines_are_of_files, statements_have_rows};
 pub use text::{Line, Lines, Text};
-
-#[cfg(test)]
-mod coding_tests;
-#[cfg(test)]
-mod tests;

@@ -8,8 +8,6 @@ mod levels;
 mod periph;
 mod receiving;
 mod sending;
-#[cfg(test)]
-mod tests;
 mod timer2;
 mod timers;
 

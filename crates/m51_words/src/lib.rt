@@ -20,6 +20,3 @@ pub use job::{AsmJob, BuildJob, FlatJob, GenJob, Job, LibraryJob, LinkJob, Opera
 pub use names::{file_count, name_kept, names_read};
 pub use numbers::{MOST_GENERATED_UNITS, Steps};
 pub use verbs::job_of;
-
-#[cfg(test)]
-mod tests;

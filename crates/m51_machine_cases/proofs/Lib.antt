@@ -1,0 +1,3 @@
+mod CodeUnitsSound
+mod OneUnitSound
+mod TwoHandlersSound

@@ -1,0 +1,3 @@
+pub mod CodeUnits
+pub mod OneUnit
+pub mod TwoHandlers

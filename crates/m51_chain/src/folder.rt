@@ -1,5 +1,6 @@
 //! The files of the system.
 ghost use Rattle.std.specs.Prelude.{◌≡◌, ◌≤◌, [], None, false, IfOk, IsTrue, OnErr, OnOk, is_ok, length, string_bytes};
+ghost use Rattle.std.specs.Io.KnownBytes.{Appends, ReadConsumes};
 ghost use Rattle.m51_cells.specs.Outside.{HasCause, one_more};
 ghost use Rattle.m51_chain.specs.Shelf.{handed, missed_after};
 ghost use Rattle.m51_chain.specs.Stored.{SameReading, SameStore};
@@ -63,7 +64,8 @@ impl<R: Files> DirShelf<R> {
 // Reads until the slice is full, the file ends or a read fails. Bytes that came before a failure are answered, and the
 // next call meets it. A read that a signal interrupts is made again, `MOST_TRIES` times at most in a call.
 fn fill<R: Read>(file: &mut R, into: &mut [u8]) -> Result<usize, Failed>
-    ensures { IfOk result (λ count. count ≤ length into.new) }
+    ensures bound { IfOk result (λ count. count ≤ length into.new) }
+    ensures bytes { ReadConsumes (R.remaining file.old) (R.remaining file.new) result into.new }
 {
     let mut done = 0;
     let mut interrupted = 0;
@@ -83,7 +85,9 @@ fn fill<R: Read>(file: &mut R, into: &mut [u8]) -> Result<usize, Failed>
 
 // Writes all bytes. A write that takes none of them is a failure. One that a signal interrupts is made again,
 // `MOST_TRIES` times at most in a call.
-fn write_all<W: Write>(file: &mut W, bytes: &[u8]) -> Result<(), Failed> {
+fn write_all<W: Write>(file: &mut W, bytes: &[u8]) -> Result<(), Failed>
+    ensures { OnOk result (Appends (W.contents file.old) (W.contents file.new) bytes.now) }
+{
     let mut done = 0;
     let mut interrupted = 0;
     while done < bytes.len() {

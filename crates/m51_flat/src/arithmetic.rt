@@ -1,5 +1,5 @@
 //! Moves, arithmetic and logic.
-ghost use Rattle.std.specs.Prelude.{◌≡◌, length, IfErr};
+ghost use Rattle.std.specs.Prelude.{◌≡◌, ◌+◌, ◌*◌, ◌/◌, ◌%◌, length, IfErr};
 ghost use Rattle.m51_flat.specs.Causes.{IsMissing};
 ghost use Rattle.m51_flat.specs.Arithmetic.{assigned, summed, combined, changed, with_turn, exchanged};
 ghost use Rattle.m51_flat.specs.Arithmetic.{digits_exchanged, sum_by, logic_of, stepped, turned};
@@ -161,6 +161,13 @@ pub(crate) fn exchange<M: CellStore>(
     Ok(write_location(write_sfr(effect, ACC, value), location, a))
 }
 
+/// The high digit of one byte before the low digit of another.
+fn digits(high: u8, low: u8) -> u8
+    ensures { result ≡ high / 16 * 16 + low % 16 }
+{
+    high / 16 * 16 + low % 16
+}
+
 /// XCHD: the low digits of A and an operand are exchanged.
 #[tactic(auto, using(crate::proofs::Readings::answer_then), unfolding(crate::specs::Arithmetic::digits_exchanged))]
 pub(crate) fn exchange_digit<M: CellStore>(
@@ -175,6 +182,6 @@ pub(crate) fn exchange_digit<M: CellStore>(
     let location = locate(store, &effect.cpu, place)?;
     let value = find_at(store, &effect.cpu, ext, location)?;
     let a = effect.cpu.latch(ACC);
-    let effect = write_sfr(effect, ACC, a / 16 * 16 + value % 16);
-    Ok(write_location(effect, location, value / 16 * 16 + a % 16))
+    let effect = write_sfr(effect, ACC, digits(a, value));
+    Ok(write_location(effect, location, digits(value, a)))
 }

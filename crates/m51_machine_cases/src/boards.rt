@@ -15,8 +15,8 @@ pub(crate) fn image(alloc: Global, bytes: &[u8]) -> Result<Image, NoMemory>
     requires { length bytes.now ≤ 100 }
 {
     let mut image = Image::blank(alloc)?;
-    for place in 0..bytes.len() {
-        image.set(place as u16, bytes[place]);
+    for index in 0..bytes.len() {
+        image.set(index as u16, bytes[index]);
     }
     Ok(image)
 }

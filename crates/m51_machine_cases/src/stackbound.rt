@@ -100,8 +100,8 @@ fn two_handlers(alloc: Global) -> Result<LayoutParts, NoMemory>
 fn put(image: &mut Image, at: u16, bytes: &[u8])
     requires { at + length bytes.now ≤ 65536 }
 {
-    for place in 0..bytes.len() {
-        image.set(at + place as u16, bytes[place]);
+    for index in 0..bytes.len() {
+        image.set(at + index as u16, bytes[index]);
     }
 }
 

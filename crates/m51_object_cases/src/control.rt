@@ -2,7 +2,6 @@
 use m51_cells::{Name, Names};
 use m51_control::{Control, ControlError, Controls, read_controls};
 use std::alloc::{AllocError, Global};
-use std::test::Fail;
 
 fn put_name(text: &mut String, name: &Name) -> Result<(), AllocError> {
     text.push(' ')?;
@@ -54,6 +53,30 @@ fn told(alloc: Global, bytes: &[u8]) -> Result<String, ControlError> {
     Ok(text)
 }
 
+// Whether a file says this.
+fn says(alloc: Global, bytes: &[u8], want: &str) -> bool {
+    match told(alloc, bytes) {
+        Ok(text) => text.as_str() == want,
+        Err(_) => false,
+    }
+}
+
+// Whether the line of a row says what the row wants.
+fn row_holds(alloc: Global, row: &str) -> bool {
+    match row.split_once('=') {
+        Some((line, want)) => says(alloc, line.as_bytes(), want),
+        None => false,
+    }
+}
+
+// The line at which a file leaves the grammar.
+fn refused_line(alloc: Global, bytes: &[u8]) -> Option<u32> {
+    match read_controls(alloc, bytes) {
+        Err(ControlError::C1 { line }) => Some(line),
+        _ => None,
+    }
+}
+
 // A line a row: a control line, and what it says.
 const CONTROLS: &str = "\
 OVERLAY(@0000 > @0100)=1 Add @0000 @0100;\n\
@@ -66,7 +89,6 @@ nooverlay( @fFe0 )=1 NoOverlay @FFE0;\n\
 RESERVE(DATA(20H-2FH))=1 Ram 32 47;\n\
 RESERVE(DATA(0-0FFH))=1 Ram 0 255;\n\
 RESERVE(DATA(8-8))=1 Ram 8 8;\n\
-Reserve ( Xdata ( 1000h - 1b ) )=C1\n\
 Reserve ( Xdata ( 1b - 1000h ) )=1 Xram 1 4096;\n\
 RESERVE(XDATA(0-65534))=1 Xram 0 65534;\n\
 RESERVE(XDATA(0FFFFH-0FFFFH))=1 Xram 65535 65535;\n\
@@ -114,6 +136,7 @@ RESERVE(DATA(1-2),DATA(4-5))\n\
 RESERVE(XDATA(0-65535))\n\
 RESERVE(XDATA(0-65536))\n\
 RESERVE(XDATA(10000H-10001H))\n\
+Reserve ( Xdata ( 1000h - 1b ) )\n\
 ORDER(IDATA)\n\
 ORDER(IDATA,)\n\
 ORDER(IDATA,@0000)\n\
@@ -124,28 +147,24 @@ A\n\
 ";
 
 #[test]
-fn a_control_line_says_what_its_form_says(rt: HostRuntime) -> Result<(), Fail> {
+fn a_control_line_says_what_its_form_says(rt: HostRuntime) {
     for row in CONTROLS.lines() {
-        let (line, want) = row.split_once('=').ok_or("a row")?;
-        match told(rt.alloc(), line.as_bytes()) {
-            Ok(text) => assert_eq!(rt; text.as_str(), want, "at {line}"),
-            Err(ControlError::C1 { line: 1 }) => assert_eq!(rt; want, "C1", "at {line}"),
-            Err(error) => assert_eq!(rt; error, ControlError::Limit, "at {line}"),
-        }
+        assert!(rt; row_holds(rt.alloc(), row), "at {row}");
     }
-    Ok(())
 }
 
 #[test]
 fn a_line_out_of_the_grammar_is_refused(rt: HostRuntime) {
     for line in REFUSED.lines() {
-        let error = read_controls(rt.alloc(), line.as_bytes()).err();
-        assert_eq!(rt; error, Some(ControlError::C1 { line: 1 }), "at {line}");
+        assert!(rt;
+            refused_line(rt.alloc(), line.as_bytes()) == Some(1),
+            "at {line}"
+        );
     }
 }
 
 #[test]
-fn skipped_lines_count(rt: HostRuntime) -> Result<(), Fail> {
+fn skipped_lines_count(rt: HostRuntime) {
     for (bytes, want) in [
         (b"".as_slice(), ""),
         (b"\n\n", ""),
@@ -156,8 +175,12 @@ fn skipped_lines_count(rt: HostRuntime) -> Result<(), Fail> {
             "2 NoOverlay A;4 NoOverlay B;",
         ),
     ] {
-        assert_eq!(rt; told(rt.alloc(), bytes)?.as_str(), want);
+        assert!(rt; says(rt.alloc(), bytes, want), "at {bytes:?}");
     }
+}
+
+#[test]
+fn a_refusal_names_its_line(rt: HostRuntime) {
     for (bytes, line) in [
         (b"\n;\n \nA\n".as_slice(), 4),
         (b"NOOVERLAY(A)\nB\nC\n", 2),
@@ -170,48 +193,65 @@ fn skipped_lines_count(rt: HostRuntime) -> Result<(), Fail> {
         (b"NOOVERLAY(\xC4)", 1),
         (b"NOOVERLAY(\x0BA)", 1),
     ] {
-        let error = read_controls(rt.alloc(), bytes).err();
-        assert_eq!(rt; error, Some(ControlError::C1 { line }));
+        assert!(rt;
+            refused_line(rt.alloc(), bytes) == Some(line),
+            "at {bytes:?}"
+        );
     }
-    Ok(())
+}
+
+// How many lines no controls have.
+fn lines_of_none(alloc: Global) -> (usize, usize) {
+    let none = Controls::none(alloc).lines().len();
+    (none, Controls::of(Vec::new(alloc)).lines().len())
 }
 
 #[test]
 fn no_controls_have_no_line(rt: HostRuntime) {
-    assert_eq!(rt; Controls::none(rt.alloc()).lines().len(), 0);
-    assert_eq!(rt; Controls::of(Vec::new(rt.alloc())).lines().len(), 0);
+    assert!(rt; lines_of_none(rt.alloc()) == (0, 0));
 }
 
-#[test]
-fn a_line_has_at_most_255_bytes(rt: HostRuntime) -> Result<(), Fail> {
-    let mut line = String::new(rt.alloc());
+// Whether a line with so many blanks before its name says what it says without them.
+fn says_with_blanks(alloc: Global, blanks: usize) -> Result<bool, ControlError> {
+    let mut line = String::new(alloc);
     line.push_str("NOOVERLAY(")?;
-    for _ in 0..243 {
+    for _ in 0..blanks {
         line.push(' ')?;
     }
-    let mut short = line.clone()?;
-    short.push_str("A)")?;
-    assert_eq!(rt;
-        told(rt.alloc(), short.as_str().as_bytes())?.as_str(),
-        "1 NoOverlay A;"
-    );
-    line.push_str(" A)")?;
-    let error = read_controls(rt.alloc(), line.as_str().as_bytes()).err();
-    assert_eq!(rt; error, Some(ControlError::C1 { line: 1 }));
-    Ok(())
+    line.push_str("A)")?;
+    Ok(told(alloc, line.as_str().as_bytes())?.as_str() == "1 NoOverlay A;")
 }
 
 #[test]
-fn over_1000_lines_are_refused_before_a_wrong_line(rt: HostRuntime) -> Result<(), Fail> {
-    let mut text = String::new(rt.alloc());
+fn a_line_has_at_most_255_bytes(rt: HostRuntime) {
+    for (blanks, want) in [(243, Ok(true)), (244, Err(ControlError::C1 { line: 1 }))] {
+        assert!(rt;
+            says_with_blanks(rt.alloc(), blanks) == want,
+            "with {blanks} blanks"
+        );
+    }
+}
+
+// The refusal of 999 empty lines and this text.
+fn refusal_after_999_lines(alloc: Global, end: &str) -> Result<(), ControlError> {
+    let mut text = String::new(alloc);
     for _ in 0..999 {
         text.push('\n')?;
     }
-    text.push_str("A\n")?;
-    let error = read_controls(rt.alloc(), text.as_str().as_bytes()).err();
-    assert_eq!(rt; error, Some(ControlError::C1 { line: 1000 }));
-    text.push(';')?;
-    let error = read_controls(rt.alloc(), text.as_str().as_bytes()).err();
-    assert_eq!(rt; error, Some(ControlError::Limit));
+    text.push_str(end)?;
+    read_controls(alloc, text.as_str().as_bytes())?;
     Ok(())
+}
+
+#[test]
+fn over_1000_lines_are_refused_before_a_wrong_line(rt: HostRuntime) {
+    for (end, want) in [
+        ("A\n", ControlError::C1 { line: 1000 }),
+        ("A\n;", ControlError::Limit),
+    ] {
+        assert!(rt;
+            refusal_after_999_lines(rt.alloc(), end) == Err(want),
+            "at {end}"
+        );
+    }
 }

@@ -8,10 +8,9 @@ ghost use Rattle.m51_resolve.specs.Joining.{is_relocatable};
 use crate::resolve_sample::{external, local, module, segment};
 use m51_cells::{Kind, Name, NoMemory, Reloc};
 use m51_module::sample::name;
-use m51_module::{Library, Module, Refusal, Segment, build};
+use m51_module::{LibError, Library, Module, Refusal, Segment, build};
 use m51_resolve::{Joined, resolve};
-use std::alloc::{AllocError, Global};
-use std::test::Fail;
+use std::alloc::Global;
 
 // A module that defines one name and wants another.
 fn link(alloc: Global, own: Name, public: Name, wanted: Name) -> Result<Module, NoMemory>
@@ -46,42 +45,35 @@ fn asking(alloc: Global, kind: Kind) -> Result<Module, NoMemory> {
 }
 
 // One module, and two.
-fn alone(alloc: Global, one: Module) -> Result<Vec<Module>, AllocError> {
+fn alone(alloc: Global, one: Module) -> Result<Vec<Module>, NoMemory> {
     Ok(vec![in alloc; one]?)
 }
 
-fn both(alloc: Global, one: Module, two: Module) -> Result<Vec<Module>, AllocError> {
+fn both(alloc: Global, one: Module, two: Module) -> Result<Vec<Module>, NoMemory> {
     Ok(vec![in alloc; one, two]?)
 }
 
-// The number of a refusal, and the name that it gives; 0 where there is none.
-fn told(answer: &Result<Joined, Refusal>) -> (u8, Name) {
-    match answer {
-        Err(Refusal::L1 { name }) => (1, *name),
-        Err(Refusal::L2 { name }) => (2, *name),
-        Err(Refusal::L3 { name }) => (3, *name),
-        Err(Refusal::L4 { name }) => (4, *name),
-        Err(Refusal::L5 { name }) => (5, *name),
+// The size of the first joined segment, or the number of the refusal and the name that it gives.
+type Answer = Result<u16, (u8, Name)>;
+
+// The number of a refusal, and its name; 0 for another refusal.
+fn told(refusal: &Refusal) -> (u8, Name) {
+    match refusal {
+        Refusal::L1 { name } => (1, *name),
+        Refusal::L2 { name } => (2, *name),
+        Refusal::L3 { name } => (3, *name),
+        Refusal::L4 { name } => (4, *name),
+        Refusal::L5 { name } => (5, *name),
         _ => (0, Name::none()),
     }
 }
 
-// What is known of these modules without libraries.
-fn refused(alloc: Global, modules: Vec<Module>) -> (u8, Name) {
-    told(&resolve(alloc, modules, &[]))
-}
-
-// The size of the first joined segment; 0 where there is none.
-fn size_of(answer: &Result<Joined, Refusal>) -> u16 {
-    match answer {
-        Ok(joined) => joined.segments().first().map_or(0, |first| first.size),
-        Err(_) => 0,
+// The answer for these modules without libraries.
+fn answer(alloc: Global, modules: Vec<Module>) -> Answer {
+    match resolve(alloc, modules, &[]) {
+        Ok(joined) => Ok(joined.segments().first().map_or(0, |first| first.size)),
+        Err(refusal) => Err(told(&refusal)),
     }
-}
-
-// The size of the first joined segment of these modules.
-fn first_size(alloc: Global, modules: Vec<Module>) -> u16 {
-    size_of(&resolve(alloc, modules, &[]))
 }
 
 // The marks OVERLAYABLE and ARGUMENT of the first joined segment; false where there is none.
@@ -105,7 +97,7 @@ fn marks(alloc: Global, part: Segment) -> Result<(bool, bool), NoMemory>
 }
 
 // The names of the chosen modules, one after another.
-fn names(alloc: Global, answer: &Result<Joined, Refusal>) -> Result<Vec<u8>, AllocError> {
+fn names(alloc: Global, answer: &Result<Joined, Refusal>) -> Result<Vec<u8>, NoMemory> {
     let mut names = Vec::new(alloc);
     if let Ok(joined) = answer {
         for chosen in joined.modules() {
@@ -116,115 +108,113 @@ fn names(alloc: Global, answer: &Result<Joined, Refusal>) -> Result<Vec<u8>, All
 }
 
 // M1 defines P and wants Q, and M4 defines R.
-fn first_library(alloc: Global) -> Result<Library, Fail> {
+fn first_library(alloc: Global) -> Result<Library, LibError> {
     let one = link(alloc, name(b"M1"), name(b"P"), name(b"Q"))?;
     let two = link(alloc, name(b"M4"), name(b"R"), name(b"R"))?;
-    Ok(build(alloc, both(alloc, one, two)?)?)
+    build(alloc, both(alloc, one, two)?)
 }
 
 // M2 defines P, and M3 defines Q and wants R.
-fn second_library(alloc: Global) -> Result<Library, Fail> {
+fn second_library(alloc: Global) -> Result<Library, LibError> {
     let one = link(alloc, name(b"M2"), name(b"P"), name(b"P"))?;
     let two = link(alloc, name(b"M3"), name(b"Q"), name(b"R"))?;
-    Ok(build(alloc, both(alloc, one, two)?)?)
+    build(alloc, both(alloc, one, two)?)
 }
 
 // Both libraries.
-fn libraries(alloc: Global) -> Result<Vec<Library>, Fail> {
+fn libraries(alloc: Global) -> Result<Vec<Library>, LibError> {
     let first = first_library(alloc)?;
     let second = second_library(alloc)?;
     Ok(vec![in alloc; first, second]?)
 }
 
-// The names of what is chosen for a module that wants P.
-fn chosen(alloc: Global) -> Result<Vec<u8>, Fail> {
-    let main = alone(
-        alloc,
-        link(alloc, name(b"MAIN"), name(b"MAIN"), name(b"P"))?,
-    )?;
+// Whether these modules are chosen for one that wants P.
+fn chooses(alloc: Global, want: &[u8]) -> Result<bool, LibError> {
     let libraries = libraries(alloc)?;
-    Ok(names(alloc, &resolve(alloc, main, &libraries))?)
+    let main = link(alloc, name(b"MAIN"), name(b"MAIN"), name(b"P"))?;
+    let answer = resolve(alloc, alone(alloc, main)?, &libraries);
+    Ok(names(alloc, &answer)?.as_slice() == want)
 }
 
 #[test]
-fn the_first_library_is_asked_first(rt: HostRuntime) -> Result<(), Fail> {
-    let names = chosen(rt.alloc())?;
-    assert_eq!(rt; names.as_slice(), b"MAINM1M3M4".as_slice());
-    Ok(())
+fn the_first_library_is_asked_first(rt: HostRuntime) {
+    assert!(rt; chooses(rt.alloc(), b"MAINM1M3M4") == Ok(true));
+}
+
+// The answer for a buffer of type INPAGE.
+fn buffer_in_page(alloc: Global, size: u16) -> Result<Answer, NoMemory> {
+    let one = buffer(alloc, name(b"A"), Reloc::Inpage, size)?;
+    Ok(answer(alloc, alone(alloc, one)?))
 }
 
 #[test]
-fn a_buffer_in_a_page_has_at_most_256_bytes(rt: HostRuntime) -> Result<(), Fail> {
-    let whole = buffer(rt.alloc(), name(b"A"), Reloc::Inpage, 256)?;
-    assert_eq!(rt; first_size(rt.alloc(), alone(rt.alloc(), whole)?), 256);
-    let larger = buffer(rt.alloc(), name(b"A"), Reloc::Inpage, 257)?;
-    assert_eq!(rt;
-        refused(rt.alloc(), alone(rt.alloc(), larger)?),
-        (5, name(b"BUF"))
-    );
-    Ok(())
+fn a_buffer_in_a_page_has_at_most_256_bytes(rt: HostRuntime) {
+    assert!(rt; buffer_in_page(rt.alloc(), 256) == Ok(Ok(256)));
+    assert!(rt; buffer_in_page(rt.alloc(), 257) == Ok(Err((5, name(b"BUF")))));
+}
+
+// The answer for a part of a type, and a part of type PAGE.
+fn two_parts(alloc: Global, reloc: Reloc, size: u16, page_size: u16) -> Result<Answer, NoMemory>
+    requires relocatable { is_relocatable reloc ≡ true }
+    requires allowed { allows Kind.Xdata reloc ≡ true }
+{
+    let one = buffer(alloc, name(b"A"), reloc, size)?;
+    let two = buffer(alloc, name(b"B"), Reloc::Page, page_size)?;
+    Ok(answer(alloc, both(alloc, one, two)?))
 }
 
 #[test]
-fn a_part_of_type_page_begins_at_a_multiple_of_256(rt: HostRuntime) -> Result<(), Fail> {
-    let one = buffer(rt.alloc(), name(b"A"), Reloc::Page, 10)?;
-    let two = buffer(rt.alloc(), name(b"B"), Reloc::Page, 0)?;
-    assert_eq!(rt; first_size(rt.alloc(), both(rt.alloc(), one, two)?), 256);
-    Ok(())
+fn a_part_of_type_page_begins_at_a_multiple_of_256(rt: HostRuntime) {
+    assert!(rt; two_parts(rt.alloc(), Reloc::Page, 10, 0) == Ok(Ok(256)));
 }
 
 #[test]
-fn a_public_of_two_modules_is_refused(rt: HostRuntime) -> Result<(), Fail> {
-    let one = link(rt.alloc(), name(b"A"), name(b"P"), name(b"Q"))?;
-    let two = link(rt.alloc(), name(b"B"), name(b"P"), name(b"P"))?;
-    assert_eq!(rt;
-        refused(rt.alloc(), both(rt.alloc(), one, two)?),
-        (1, name(b"P"))
-    );
-    Ok(())
+fn parts_of_two_types_are_refused(rt: HostRuntime) {
+    assert!(rt; two_parts(rt.alloc(), Reloc::Inpage, 1, 1) == Ok(Err((4, name(b"BUF")))));
+}
+
+// The answer for two modules that define P.
+fn one_public_twice(alloc: Global) -> Result<Answer, NoMemory> {
+    let one = link(alloc, name(b"A"), name(b"P"), name(b"Q"))?;
+    let two = link(alloc, name(b"B"), name(b"P"), name(b"P"))?;
+    Ok(answer(alloc, both(alloc, one, two)?))
 }
 
 #[test]
-fn an_external_of_no_module_comes_before_kinds(rt: HostRuntime) -> Result<(), Fail> {
-    let one = asking(rt.alloc(), Kind::Xdata)?;
-    let two = link(rt.alloc(), name(b"B"), name(b"R"), name(b"Q"))?;
-    assert_eq!(rt;
-        refused(rt.alloc(), both(rt.alloc(), one, two)?),
-        (2, name(b"Q"))
-    );
-    Ok(())
+fn a_public_of_two_modules_is_refused(rt: HostRuntime) {
+    assert!(rt; one_public_twice(rt.alloc()) == Ok(Err((1, name(b"P")))));
+}
+
+// The answer for two modules of which one wants P as of another kind, and one wants Q, which none defines.
+fn kind_and_external(alloc: Global) -> Result<Answer, NoMemory> {
+    let one = asking(alloc, Kind::Xdata)?;
+    let two = link(alloc, name(b"B"), name(b"R"), name(b"Q"))?;
+    Ok(answer(alloc, both(alloc, one, two)?))
 }
 
 #[test]
-fn kinds_agree_where_one_is_number(rt: HostRuntime) -> Result<(), Fail> {
-    let against = asking(rt.alloc(), Kind::Xdata)?;
-    assert_eq!(rt;
-        refused(rt.alloc(), alone(rt.alloc(), against)?),
-        (3, name(b"P"))
-    );
-    let number = asking(rt.alloc(), Kind::Number)?;
-    assert_eq!(rt; first_size(rt.alloc(), alone(rt.alloc(), number)?), 1);
-    Ok(())
+fn an_external_of_no_module_comes_before_kinds(rt: HostRuntime) {
+    assert!(rt; kind_and_external(rt.alloc()) == Ok(Err((2, name(b"Q")))));
+}
+
+// The answer for a module that wants its public of kind CODE as one of this kind.
+fn wanted_as(alloc: Global, kind: Kind) -> Result<Answer, NoMemory> {
+    let one = asking(alloc, kind)?;
+    Ok(answer(alloc, alone(alloc, one)?))
 }
 
 #[test]
-fn parts_of_two_types_are_refused(rt: HostRuntime) -> Result<(), Fail> {
-    let one = buffer(rt.alloc(), name(b"A"), Reloc::Inpage, 1)?;
-    let two = buffer(rt.alloc(), name(b"B"), Reloc::Page, 1)?;
-    assert_eq!(rt;
-        refused(rt.alloc(), both(rt.alloc(), one, two)?),
-        (4, name(b"BUF"))
-    );
-    Ok(())
+fn kinds_agree_where_one_is_number(rt: HostRuntime) {
+    assert!(rt; wanted_as(rt.alloc(), Kind::Xdata) == Ok(Err((3, name(b"P")))));
+    assert!(rt; wanted_as(rt.alloc(), Kind::Number) == Ok(Ok(1)));
 }
 
 #[test]
-fn the_marks_of_a_joined_segment_are_those_of_its_parts(rt: HostRuntime) -> Result<(), Fail> {
-    let plain = marks(rt.alloc(), segment(name(b"A"), Reloc::Unit, 1))?;
-    assert_eq!(rt; plain, (false, false));
-    let overlaid = marks(rt.alloc(), local(name(b"?DT?A"), false))?;
-    assert_eq!(rt; overlaid, (true, false));
-    let argument = marks(rt.alloc(), local(name(b"?AG?A"), true))?;
-    assert_eq!(rt; argument, (true, true));
-    Ok(())
+fn the_marks_of_a_joined_segment_are_those_of_its_parts(rt: HostRuntime) {
+    let plain = segment(name(b"A"), Reloc::Unit, 1);
+    assert!(rt; marks(rt.alloc(), plain) == Ok((false, false)));
+    let overlaid = local(name(b"?DT?A"), false);
+    assert!(rt; marks(rt.alloc(), overlaid) == Ok((true, false)));
+    let argument = local(name(b"?AG?A"), true);
+    assert!(rt; marks(rt.alloc(), argument) == Ok((true, true)));
 }

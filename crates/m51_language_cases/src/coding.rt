@@ -4,38 +4,54 @@ use m51_cells::{NO_INSTRUCTION, Name};
 use m51_coding::{code, length_of};
 use m51_expr::{Expr, Operand};
 use m51_isa::Jump;
-use std::test::Fail;
 
 const STATEMENT: At = At { segment: 1 };
 
-#[test]
-fn what_no_row_has_is_e11_and_has_no_length(rt: HostRuntime) -> Result<(), Fail> {
-    let mov = Name::of(b"MOV").ok_or("no name")?;
-    let wrong = [Operand::A, Operand::Ab];
-    assert_eq!(rt; length_of(&mov, &wrong, Jump::Long), None);
-    assert_eq!(rt;
-        code(&STATEMENT, &mov, &wrong, Jump::Long)
-            .coded
-            .map_err(|e| e.number),
-        Err(NO_INSTRUCTION)
-    );
-    assert_eq!(rt;
-        length_of(&mov, &[Operand::A, Operand::R(8)], Jump::Long),
-        None
-    );
-    Ok(())
+// How many bytes MOV has with these operands, if a row has them.
+fn length_of_mov(operands: &[Operand]) -> Option<u8> {
+    length_of(&Name::of(b"MOV")?, operands, Jump::Long)
+}
+
+// The bytes of MOV with these operands and their number, or the number of its fault, which is 0 for no name.
+fn bytes_of_mov(operands: &[Operand]) -> Result<([u8; 3], u8), u8> {
+    let mov = Name::of(b"MOV").ok_or(0u8)?;
+    match code(&STATEMENT, &mov, operands, Jump::Long).coded {
+        Ok(coded) => Ok((coded.code.bytes, coded.code.len)),
+        Err(error) => Err(error.number),
+    }
+}
+
+// The lengths of MOV A,AB and of MOV A,R8.
+fn lengths_without_row() -> [Option<u8>; 2] {
+    [
+        length_of_mov(&[Operand::A, Operand::Ab]),
+        length_of_mov(&[Operand::A, Operand::R(8)]),
+    ]
+}
+
+// The fault of MOV A,AB.
+fn fault_without_row() -> Option<u8> {
+    bytes_of_mov(&[Operand::A, Operand::Ab]).err()
 }
 
 #[test]
-fn a_row_has_its_bytes_and_their_length(rt: HostRuntime) -> Result<(), Fail> {
-    let mov = Name::of(b"MOV").ok_or("no name")?;
-    let operands = [Operand::R(7), Operand::Imm(Expr::Number(0x12))];
-    let coded = code(&STATEMENT, &mov, &operands, Jump::Long)
-        .coded
-        .ok()
-        .ok_or("a fault")?;
-    assert_eq!(rt; coded.code.bytes, [0x7F, 0x12, 0]);
-    assert_eq!(rt; coded.code.len, 2);
-    assert_eq!(rt; length_of(&mov, &operands, Jump::Long), Some(2));
-    Ok(())
+fn what_no_row_has_is_e11_and_has_no_length(rt: HostRuntime) {
+    assert!(rt; lengths_without_row() == [None, None]);
+    assert!(rt; fault_without_row() == Some(NO_INSTRUCTION));
+}
+
+// The bytes of MOV R7,#12H and their number.
+fn bytes_of_row() -> Result<([u8; 3], u8), u8> {
+    bytes_of_mov(&[Operand::R(7), Operand::Imm(Expr::Number(0x12))])
+}
+
+// Its length.
+fn length_of_row() -> Option<u8> {
+    length_of_mov(&[Operand::R(7), Operand::Imm(Expr::Number(0x12))])
+}
+
+#[test]
+fn a_row_has_its_bytes_and_their_length(rt: HostRuntime) {
+    assert!(rt; bytes_of_row() == Ok(([0x7F, 0x12, 0], 2)));
+    assert!(rt; length_of_row() == Some(2));
 }

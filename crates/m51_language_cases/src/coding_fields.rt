@@ -43,13 +43,20 @@ impl Lookup for At {
     }
 }
 
-// A code address of a segment.
-fn code(segment: u8, number: u16) -> Value {
-    whole(number, Kind::Code, Base::Segment(segment))
+// What a field is to hold: nothing, a number, or a reference of a form.
+#[derive(Clone, Copy, Debug)]
+enum Want {
+    Nothing,
+    Number(u16),
+    Linked(Form),
 }
 
-fn number(number: u16) -> Value {
-    whole(number, Kind::Number, Base::None)
+// A code address that counts from a segment, or a plain number where there is no base.
+fn value_of(base: Base, number: u16) -> Value {
+    match base {
+        Base::None => whole(number, Kind::Number, base),
+        _ => whole(number, Kind::Code, base),
+    }
 }
 
 // What a value gives two bytes after 1000H of a segment.
@@ -57,25 +64,24 @@ fn given(segment: u8, field: Field, value: Value) -> Option<FieldValue> {
     field_value(&At { segment }, field, 0x1002, value)
 }
 
-fn a(number: u16) -> Option<FieldValue> {
-    Some(FieldValue::Number(number))
-}
-
-// The form of the reference that it gives there.
-fn form(segment: u8, field: Field, value: Value) -> Option<Form> {
-    match given(segment, field, value) {
-        Some(FieldValue::Linked(reference)) => Some(reference.form),
-        _ => None,
+// Whether a value gives there what the field is to hold.
+fn holds(segment: u8, field: Field, value: Value, want: Want) -> bool {
+    match (given(segment, field, value), want) {
+        (None, Want::Nothing) => true,
+        (Some(FieldValue::Number(number)), Want::Number(wanted)) => number == wanted,
+        (Some(FieldValue::Linked(reference)), Want::Linked(form)) => reference.form == form,
+        _ => false,
     }
 }
 
-// What an external under an operator gives.
-fn of_external(field: Field, part: Part) -> Option<FieldValue> {
-    let external = whole(7, Kind::Number, Base::External(5));
-    given(1, field, Value { part, ..external })
+// Whether a code address, or a plain number where there is no base, gives it.
+fn address_holds(segment: u8, field: Field, base: Base, number: u16, want: Want) -> bool {
+    holds(segment, field, value_of(base, number), want)
 }
 
-fn linked(form: Form, bit: u8) -> Option<FieldValue> {
+// A reference to the external 5 of this form and bit, or nothing.
+fn linked(want: Option<(Form, u8)>) -> Option<FieldValue> {
+    let (form, bit) = want?;
     Some(FieldValue::Linked(Reference {
         form,
         bit,
@@ -84,158 +90,176 @@ fn linked(form: Form, bit: u8) -> Option<FieldValue> {
     }))
 }
 
+// Whether the external 5, whole or under an operator, gives that.
+fn external_holds(field: Field, part: Part, want: Option<(Form, u8)>) -> bool {
+    let external = whole(7, Kind::Number, Base::External(5));
+    given(1, field, Value { part, ..external }) == linked(want)
+}
+
+// Whether the last address before 1800H gives nothing where the next instruction stands at 1800H, in another block.
+fn no_address_of_the_block_before() -> bool {
+    let end = value_of(Base::Segment(1), 0x17FF);
+    field_value(&At { segment: 1 }, Field::Addr11, 0x1800, end).is_none()
+}
+
+// The form of a generic jump or call in a segment to a code address, or to a plain number.
+fn form_to(segment: u8, verb: Verb, base: Base, number: u16) -> Jump {
+    jump_form(&At { segment }, verb, Ok(value_of(base, number)))
+}
+
+// The form of a generic jump in the segment 1 whose target has a fault.
+fn form_to_fault() -> Jump {
+    jump_form(&At { segment: 1 }, Verb::Jmp, Err(ExprError { number: 7 }))
+}
+
 #[test]
 fn a_reference_has_the_form_of_its_field(rt: HostRuntime) {
-    assert_eq!(rt;
-        of_external(Field::Data, Part::Whole),
-        linked(Form::Byte, 0)
-    );
-    assert_eq!(rt;
-        of_external(Field::Direct, Part::Whole),
-        linked(Form::Byte, 0)
-    );
-    assert_eq!(rt; of_external(Field::Bit, Part::Whole), linked(Form::Bit, 0));
-    assert_eq!(rt;
-        of_external(Field::Data16, Part::Whole),
-        linked(Form::Word, 0)
-    );
-    assert_eq!(rt;
-        of_external(Field::Addr16, Part::Whole),
-        linked(Form::Word, 0)
-    );
-    assert_eq!(rt;
-        of_external(Field::Addr11, Part::Whole),
-        linked(Form::Inblock, 0)
-    );
-    assert_eq!(rt;
-        of_external(Field::Rel, Part::Whole),
-        linked(Form::Relative, 0)
-    );
+    for (field, form) in [
+        (Field::Data, Form::Byte),
+        (Field::Direct, Form::Byte),
+        (Field::Bit, Form::Bit),
+        (Field::Data16, Form::Word),
+        (Field::Addr16, Form::Word),
+        (Field::Addr11, Form::Inblock),
+        (Field::Rel, Form::Relative),
+    ] {
+        assert!(rt;
+            external_holds(field, Part::Whole, Some((form, 0))),
+            "at {field:?}"
+        );
+    }
 }
 
 #[test]
 fn an_operator_over_a_base_stands_in_8_bits(rt: HostRuntime) {
-    assert_eq!(rt; of_external(Field::Data, Part::High), linked(Form::High, 0));
-    assert_eq!(rt; of_external(Field::Direct, Part::Low), linked(Form::Low, 0));
-    assert_eq!(rt;
-        of_external(Field::Data, Part::Bit(3)),
-        linked(Form::Conv, 3)
-    );
-    assert_eq!(rt;
-        of_external(Field::Bit, Part::Bit(6)),
-        linked(Form::Conv, 6)
-    );
-    assert_eq!(rt; of_external(Field::Bit, Part::High), None);
-    assert_eq!(rt; of_external(Field::Data16, Part::Low), None);
-    assert_eq!(rt; of_external(Field::Addr16, Part::Bit(1)), None);
+    for (field, part, want) in [
+        (Field::Data, Part::High, Some((Form::High, 0))),
+        (Field::Direct, Part::Low, Some((Form::Low, 0))),
+        (Field::Data, Part::Bit(3), Some((Form::Conv, 3))),
+        (Field::Bit, Part::Bit(6), Some((Form::Conv, 6))),
+        (Field::Bit, Part::High, None),
+        (Field::Data16, Part::Low, None),
+        (Field::Addr16, Part::Bit(1), None),
+    ] {
+        assert!(rt; external_holds(field, part, want), "{part:?} in {field:?}");
+    }
 }
 
 #[test]
 fn a_number_is_in_the_range_of_its_field(rt: HostRuntime) {
-    assert_eq!(rt; given(1, Field::Data, number(0xFF)), a(0xFF));
-    assert_eq!(rt; given(1, Field::Data, number(0x100)), None);
-    assert_eq!(rt; given(1, Field::Data, number(0xFEFF)), None);
-    assert_eq!(rt; given(1, Field::Data, number(0xFF01)), a(1));
-    assert_eq!(rt; given(1, Field::Direct, number(0x100)), None);
-    assert_eq!(rt; given(1, Field::Bit, number(0xFF)), a(0xFF));
-    assert_eq!(rt; given(1, Field::Data16, number(0xFFFF)), a(0xFFFF));
+    for (field, number, want) in [
+        (Field::Data, 0xFF, Want::Number(0xFF)),
+        (Field::Data, 0x100, Want::Nothing),
+        (Field::Data, 0xFEFF, Want::Nothing),
+        (Field::Data, 0xFF01, Want::Number(1)),
+        (Field::Direct, 0x100, Want::Nothing),
+        (Field::Bit, 0xFF, Want::Number(0xFF)),
+        (Field::Data16, 0xFFFF, Want::Number(0xFFFF)),
+    ] {
+        assert!(rt;
+            address_holds(1, field, Base::None, number, want),
+            "{number:X}H in {field:?}"
+        );
+    }
 }
 
 #[test]
 fn a_value_is_of_the_class_of_its_field(rt: HostRuntime) {
+    let code = value_of(Base::Segment(1), 0x20);
     let direct = whole(0x20, Kind::Direct, Base::None);
     let outside = whole(9, Kind::Xdata, Base::External(5));
-    assert_eq!(rt; given(1, Field::Direct, code(1, 0x20)), None);
-    assert_eq!(rt; given(1, Field::Bit, direct), None);
-    assert_eq!(rt; given(1, Field::Direct, direct), a(0x20));
-    assert_eq!(rt; given(1, Field::Addr16, outside), None);
-    assert_eq!(rt; form(1, Field::Data16, outside), Some(Form::Word));
+    for (field, value, want) in [
+        (Field::Direct, code, Want::Nothing),
+        (Field::Bit, direct, Want::Nothing),
+        (Field::Direct, direct, Want::Number(0x20)),
+        (Field::Addr16, outside, Want::Nothing),
+        (Field::Data16, outside, Want::Linked(Form::Word)),
+    ] {
+        assert!(rt; holds(1, field, value, want), "{want:?} in {field:?}");
+    }
 }
 
 #[test]
 fn a_value_of_another_segment_is_linked(rt: HostRuntime) {
-    assert_eq!(rt; given(1, Field::Data, code(1, 0x12)), a(0x12));
-    assert_eq!(rt; form(1, Field::Data, code(2, 0x12)), Some(Form::Byte));
-    assert_eq!(rt; given(1, Field::Data, code(2, 0x123)), None);
-    assert_eq!(rt; form(1, Field::Data, code(3, 0x123)), Some(Form::Byte));
-    assert_eq!(rt; form(3, Field::Addr16, code(3, 0x123)), Some(Form::Word));
-    assert_eq!(rt; given(3, Field::Addr16, code(0, 0x123)), a(0x123));
+    for (segment, field, other, number, want) in [
+        (1, Field::Data, 1, 0x12, Want::Number(0x12)),
+        (1, Field::Data, 2, 0x12, Want::Linked(Form::Byte)),
+        (1, Field::Data, 2, 0x123, Want::Nothing),
+        (1, Field::Data, 3, 0x123, Want::Linked(Form::Byte)),
+        (3, Field::Addr16, 3, 0x123, Want::Linked(Form::Word)),
+        (3, Field::Addr16, 0, 0x123, Want::Number(0x123)),
+    ] {
+        assert!(rt;
+            address_holds(segment, field, Base::Segment(other), number, want),
+            "{number:X}H of segment {other} in {field:?} of segment {segment}"
+        );
+    }
 }
 
 #[test]
 fn a_relative_target_lies_from_minus_128_to_127(rt: HostRuntime) {
-    assert_eq!(rt; given(1, Field::Rel, code(1, 0x1081)), a(0x7F));
-    assert_eq!(rt; given(1, Field::Rel, code(1, 0x1082)), None);
-    assert_eq!(rt; given(3, Field::Rel, code(3, 0x0F82)), a(0x80));
-    assert_eq!(rt; given(3, Field::Rel, code(3, 0x0F81)), None);
-    assert_eq!(rt; form(1, Field::Rel, code(2, 0x9000)), Some(Form::Relative));
-    assert_eq!(rt; given(1, Field::Rel, number(0x1000)), a(0xFE));
-    assert_eq!(rt; given(3, Field::Rel, number(0x1000)), None);
-    assert_eq!(rt; given(3, Field::Rel, code(0, 0x1000)), None);
+    for (segment, base, number, want) in [
+        (1, Base::Segment(1), 0x1081, Want::Number(0x7F)),
+        (1, Base::Segment(1), 0x1082, Want::Nothing),
+        (3, Base::Segment(3), 0x0F82, Want::Number(0x80)),
+        (3, Base::Segment(3), 0x0F81, Want::Nothing),
+        (1, Base::Segment(2), 0x9000, Want::Linked(Form::Relative)),
+        (1, Base::None, 0x1000, Want::Number(0xFE)),
+        (3, Base::None, 0x1000, Want::Nothing),
+        (3, Base::Segment(0), 0x1000, Want::Nothing),
+    ] {
+        assert!(rt;
+            address_holds(segment, Field::Rel, base, number, want),
+            "{number:X}H of {base:?} in segment {segment}"
+        );
+    }
 }
 
 #[test]
 fn a_block_has_2048_bytes(rt: HostRuntime) {
-    assert_eq!(rt; given(1, Field::Addr11, code(1, 0x17FF)), a(0x7FF));
-    assert_eq!(rt; given(1, Field::Addr11, code(1, 0x1800)), None);
-    assert_eq!(rt;
-        field_value(&At { segment: 1 }, Field::Addr11, 0x1800, code(1, 0x17FF)),
-        None
-    );
-    assert_eq!(rt;
-        form(3, Field::Addr11, code(3, 0x1000)),
-        Some(Form::Inblock)
-    );
-    assert_eq!(rt; given(1, Field::Addr11, number(0x1001)), a(1));
-    assert_eq!(rt; given(3, Field::Addr11, number(0x1001)), None);
+    for (segment, base, number, want) in [
+        (1, Base::Segment(1), 0x17FF, Want::Number(0x7FF)),
+        (1, Base::Segment(1), 0x1800, Want::Nothing),
+        (3, Base::Segment(3), 0x1000, Want::Linked(Form::Inblock)),
+        (1, Base::None, 0x1001, Want::Number(1)),
+        (3, Base::None, 0x1001, Want::Nothing),
+    ] {
+        assert!(rt;
+            address_holds(segment, Field::Addr11, base, number, want),
+            "{number:X}H of {base:?} in segment {segment}"
+        );
+    }
+    assert!(rt; no_address_of_the_block_before(), "at 1800H");
 }
 
 #[test]
 fn a_generic_jump_takes_the_first_form_that_serves(rt: HostRuntime) {
-    let absolute = At { segment: 1 };
-    assert_eq!(rt;
-        jump_form(&absolute, Verb::Jmp, Ok(code(1, 0x1081))),
-        Jump::Short
-    );
-    assert_eq!(rt;
-        jump_form(&absolute, Verb::Jmp, Ok(code(1, 0x1082))),
-        Jump::Block
-    );
-    assert_eq!(rt;
-        jump_form(&absolute, Verb::Jmp, Ok(code(1, 0x1800))),
-        Jump::Long
-    );
-    assert_eq!(rt;
-        jump_form(&absolute, Verb::Call, Ok(number(0x1000))),
-        Jump::Block
-    );
-    assert_eq!(rt;
-        jump_form(&absolute, Verb::Jmp, Ok(code(2, 0x1000))),
-        Jump::Long
-    );
-    assert_eq!(rt;
-        jump_form(&absolute, Verb::Jmp, Err(ExprError { number: 7 })),
-        Jump::Long
-    );
+    for (verb, base, number, want) in [
+        (Verb::Jmp, Base::Segment(1), 0x1081, Jump::Short),
+        (Verb::Jmp, Base::Segment(1), 0x1082, Jump::Block),
+        (Verb::Jmp, Base::Segment(1), 0x1800, Jump::Long),
+        (Verb::Call, Base::None, 0x1000, Jump::Block),
+        (Verb::Jmp, Base::Segment(2), 0x1000, Jump::Long),
+    ] {
+        assert!(rt;
+            form_to(1, verb, base, number) == want,
+            "{verb:?} to {number:X}H of {base:?}"
+        );
+    }
+    assert!(rt; form_to_fault() == Jump::Long, "at a fault");
 }
 
 #[test]
 fn a_generic_jump_in_a_relocatable_segment_takes_no_block(rt: HostRuntime) {
-    let relocatable = At { segment: 3 };
-    assert_eq!(rt;
-        jump_form(&relocatable, Verb::Jmp, Ok(code(3, 0x0F82))),
-        Jump::Short
-    );
-    assert_eq!(rt;
-        jump_form(&relocatable, Verb::Jmp, Ok(code(3, 0x1082))),
-        Jump::Long
-    );
-    assert_eq!(rt;
-        jump_form(&relocatable, Verb::Call, Ok(code(3, 0x1082))),
-        Jump::Long
-    );
-    assert_eq!(rt;
-        jump_form(&relocatable, Verb::Jmp, Ok(number(0x1000))),
-        Jump::Long
-    );
+    for (verb, base, number, want) in [
+        (Verb::Jmp, Base::Segment(3), 0x0F82, Jump::Short),
+        (Verb::Jmp, Base::Segment(3), 0x1082, Jump::Long),
+        (Verb::Call, Base::Segment(3), 0x1082, Jump::Long),
+        (Verb::Jmp, Base::None, 0x1000, Jump::Long),
+    ] {
+        assert!(rt;
+            form_to(3, verb, base, number) == want,
+            "{verb:?} to {number:X}H of {base:?}"
+        );
+    }
 }

@@ -4,13 +4,13 @@ ghost use Rattle.std.specs.Prelude.{◌+◌, ◌≤◌};
 
 use m51_cells::{Base, Bytes, Kind, Name, NoMemory};
 use m51_content::{
-    Content, Definer, LineContent, References, SegmentContent, gather, line_content, public_of,
+    Content, Definer, LineContent, ModuleContent, References, SegmentContent, gather, line_content,
+    public_of,
 };
 use m51_expr::{Lookup, Value, whole};
 use m51_isa::Jump;
-use m51_stmt::read_line;
+use m51_stmt::{StmtError, read_line};
 use std::alloc::{AllocError, Global};
-use std::test::Fail;
 
 struct Known;
 
@@ -70,81 +70,67 @@ fn shown(alloc: Global, line: &LineContent) -> Result<String, AllocError> {
     Ok(shown)
 }
 
-fn given(alloc: Global, text: &str, made: usize) -> Result<String, Fail> {
+// What a line gives that comes after so many fixups.
+fn given(alloc: Global, text: &str, made: usize) -> Result<String, StmtError> {
     let stmt = read_line(alloc, text)?;
     let line = line_content(alloc, &Known, Jump::Long, &stmt.body, made)?;
     Ok(shown(alloc, &line)?)
 }
 
-// How many lines give something else than what is in the line after them.
-fn wrong(alloc: Global, rows: &str, made: usize) -> Result<usize, Fail> {
-    let mut wrong = 0usize;
-    let mut text: Option<&str> = None;
-    for row in rows.lines() {
-        match text {
-            Some(line) => {
-                if given(alloc, line, made)?.as_str() != row {
-                    wrong = wrong.saturating_add(1);
-                }
-                text = None;
-            }
-            None => text = Some(row),
+// Whether a line gives that.
+fn says(alloc: Global, text: &str, made: usize, want: &str) -> bool {
+    match given(alloc, text, made) {
+        Ok(shown) => shown.as_str() == want,
+        Err(_) => false,
+    }
+}
+
+// Whether the line of a row gives what the row wants.
+fn row_holds(alloc: Global, row: &str, made: usize) -> bool {
+    match row.split_once('=') {
+        Some((line, want)) => says(alloc, line, made, want),
+        None => false,
+    }
+}
+
+// A line a row: a line, and what it gives.
+const FIRST_LINES: &str = " DB 1,'AB',EXT,0FFFFH=01 41 42 00 FF 3:Byte 1
+ DW EXT,1234H,FAR=00 00 12 34 00 00 0:Word 4:Word 2
+ MOV DPTR,#EXT+1=90 00 00 1:Word 1
+ MOV 30H,#HIGH FAR=75 30 00 2:High 1
+ CJNE A,#EXT,FAR=B4 00 00 1:Byte 2:Relative 2
+ ACALL FAR=11 00 0:Inblock 1
+ MOV A,UNKNOWN=E7 0
+ DB UNKNOWN,300,1=01 E7 0
+ DB 300,EXT,1/0=00 0:Byte E14 1
+ DS 5=0
+ PUBLIC FAR=0
+";
+
+const LAST_LINES: &str = " DB EXT,EXT=00 00 0:Byte 1:Byte E19 65535
+ MOV 30H,#EXT=75 30 00 2:Byte 65535
+";
+
+const LATER_LINES: &str = " CJNE A,EXT,UNKNOWN=E19 65535
+ CJNE A,UNKNOWN,EXT=E7 65535
+ DB EXT,UNKNOWN=00 0:Byte E19 65535
+ DB 1=01 65535
+";
+
+#[test]
+fn lines_give_bytes_references_and_the_leftmost_fault(rt: HostRuntime) {
+    for row in FIRST_LINES.lines() {
+        assert!(rt; row_holds(rt.alloc(), row, 0), "at {row}");
+    }
+}
+
+#[test]
+fn fixup_65536_is_not_made(rt: HostRuntime) {
+    for (made, rows) in [(65534, LAST_LINES), (65535, LATER_LINES)] {
+        for row in rows.lines() {
+            assert!(rt; row_holds(rt.alloc(), row, made), "at {row} after {made}");
         }
     }
-    Ok(wrong)
-}
-
-const FIRST_LINES: &str = " DB 1,'AB',EXT,0FFFFH
-01 41 42 00 FF 3:Byte 1
- DW EXT,1234H,FAR
-00 00 12 34 00 00 0:Word 4:Word 2
- MOV DPTR,#EXT+1
-90 00 00 1:Word 1
- MOV 30H,#HIGH FAR
-75 30 00 2:High 1
- CJNE A,#EXT,FAR
-B4 00 00 1:Byte 2:Relative 2
- ACALL FAR
-11 00 0:Inblock 1
- MOV A,UNKNOWN
-E7 0
- DB UNKNOWN,300,1
-01 E7 0
- DB 300,EXT,1/0
-00 0:Byte E14 1
- DS 5
-0
- PUBLIC FAR
-0
-";
-
-const LAST_LINES: &str = " DB EXT,EXT
-00 00 0:Byte 1:Byte E19 65535
- MOV 30H,#EXT
-75 30 00 2:Byte 65535
-";
-
-const LATER_LINES: &str = " CJNE A,EXT,UNKNOWN
-E19 65535
- CJNE A,UNKNOWN,EXT
-E7 65535
- DB EXT,UNKNOWN
-00 0:Byte E19 65535
- DB 1
-01 65535
-";
-
-#[test]
-fn lines_give_bytes_references_and_the_leftmost_fault(rt: HostRuntime) -> Result<(), Fail> {
-    assert_eq!(rt; wrong(rt.alloc(), FIRST_LINES, 0)?, 0);
-    Ok(())
-}
-
-#[test]
-fn fixup_65536_is_not_made(rt: HostRuntime) -> Result<(), Fail> {
-    assert_eq!(rt; wrong(rt.alloc(), LAST_LINES, 65534)?, 0);
-    assert_eq!(rt; wrong(rt.alloc(), LATER_LINES, 65535)?, 0);
-    Ok(())
 }
 
 // So many zeros at a place of a segment.
@@ -158,30 +144,50 @@ fn add(alloc: Global, segment: &mut SegmentContent, at: usize, len: usize) -> Re
     segment.add(alloc, &[], at, &content)
 }
 
-#[test]
-fn lines_that_touch_are_cut_at_1024_bytes(rt: HostRuntime) -> Result<(), Fail> {
-    let alloc = rt.alloc();
+// The content of a segment with two lines that touch, and one that lies apart.
+fn three_lines(alloc: Global) -> Result<SegmentContent, NoMemory> {
     let mut segment = SegmentContent::new(alloc, 2);
     add(alloc, &mut segment, 0, 1000)?;
     add(alloc, &mut segment, 1000, 25)?;
     add(alloc, &mut segment, 1026, 1)?;
-    let content = gather(alloc, &[segment])?;
+    Ok(segment)
+}
+
+// Each piece as its segment, its place and its length.
+fn shown_pieces(alloc: Global, content: &ModuleContent) -> Result<String, NoMemory> {
     let mut shown = String::new(alloc);
     for piece in content.pieces.as_slice() {
         let (number, offset, len) = (piece.segment, piece.offset, piece.bytes.len());
         write!(shown, "{number}:{offset}+{len} ")?;
     }
-    assert!(rt; shown.as_str() == "2:0+1024 2:1024+1 2:1026+1 ");
-    assert!(rt; content.fixups.is_empty());
-    Ok(())
+    Ok(shown)
+}
+
+// Whether those lines are gathered into these pieces, and make no fixup.
+fn gathered(alloc: Global, want: &str) -> Result<[bool; 2], NoMemory> {
+    let content = gather(alloc, &[three_lines(alloc)?])?;
+    let shown = shown_pieces(alloc, &content)?;
+    Ok([shown.as_str() == want, content.fixups.is_empty()])
 }
 
 #[test]
-fn a_public_counts_from_the_base_of_its_segment(rt: HostRuntime) -> Result<(), Fail> {
-    let name = Name::of(b"FAR").ok_or("no name")?;
+fn lines_that_touch_are_cut_at_1024_bytes(rt: HostRuntime) {
+    let want = "2:0+1024 2:1024+1 2:1026+1 ";
+    assert!(rt; gathered(rt.alloc(), want) == Ok([true; 2]));
+}
+
+// The number of FAR as a public that is defined so, or its fault; nothing where FAR is no name.
+fn public_number(definer: Definer) -> Option<Result<u16, u8>> {
+    let name = Name::of(b"FAR")?;
     let far = whole(0x1234, Kind::Code, Base::Segment(2));
-    let public = |definer| public_of(name, definer, Kind::Code, 0x1000, Some(far));
-    assert_eq!(rt; public(Definer::Other).map(|p| p.number), Ok(0x234));
-    assert_eq!(rt; public(Definer::Set).map(|p| p.number), Err(8));
-    Ok(())
+    match public_of(name, definer, Kind::Code, 0x1000, Some(far)) {
+        Ok(public) => Some(Ok(public.number)),
+        Err(fault) => Some(Err(fault)),
+    }
+}
+
+#[test]
+fn a_public_counts_from_the_base_of_its_segment(rt: HostRuntime) {
+    assert!(rt; public_number(Definer::Other) == Some(Ok(0x234)));
+    assert!(rt; public_number(Definer::Set) == Some(Err(8)));
 }

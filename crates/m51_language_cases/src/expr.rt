@@ -87,6 +87,21 @@ fn answer(alloc: Global, line: &str) -> Result<Value, u8> {
     }
 }
 
+// The number of the value of a line, or of its fault.
+fn number_of(alloc: Global, line: &str) -> Result<u16, u8> {
+    Ok(answer(alloc, line)?.number)
+}
+
+// The number of the fault of a line, if it has one.
+fn fault(alloc: Global, line: &str) -> Option<u8> {
+    answer(alloc, line).err()
+}
+
+// Whether a line has that value.
+fn gives(alloc: Global, line: &str, want: Value) -> bool {
+    answer(alloc, line) == Ok(want)
+}
+
 #[test]
 fn operators_bind_by_their_ranks_and_from_left_to_right(rt: HostRuntime) {
     for (line, number) in [
@@ -109,8 +124,7 @@ fn operators_bind_by_their_ranks_and_from_left_to_right(rt: HostRuntime) {
         ("0FFFFH SHR 4", 0x0FFF),
         ("0FFFFH LT 1", 0),
     ] {
-        let found = answer(rt.alloc(), line).map(|value| value.number);
-        assert_eq!(rt; found, Ok(number), "at {line}");
+        assert!(rt; number_of(rt.alloc(), line) == Ok(number), "at {line}");
     }
 }
 
@@ -139,7 +153,7 @@ fn the_first_fault_of_an_expression_is_its_answer(rt: HostRuntime) {
         ("30H.0", 10),
         ("81H.0", 10),
     ] {
-        assert_eq!(rt; answer(rt.alloc(), line).err(), Some(number), "at {line}");
+        assert!(rt; fault(rt.alloc(), line) == Some(number), "at {line}");
     }
 }
 
@@ -170,7 +184,7 @@ fn sums_and_parts_keep_one_base(rt: HostRuntime) {
             base,
             part,
         };
-        assert_eq!(rt; answer(rt.alloc(), line), Ok(want), "at {line}");
+        assert!(rt; gives(rt.alloc(), line, want), "at {line}");
     }
 }
 
@@ -191,6 +205,6 @@ fn a_base_that_the_link_places_stands_under_no_other_operator(rt: HostRuntime) {
         ("B.8", 10),
         ("(X+D).0", 10),
     ] {
-        assert_eq!(rt; answer(rt.alloc(), line).err(), Some(number), "at {line}");
+        assert!(rt; fault(rt.alloc(), line) == Some(number), "at {line}");
     }
 }

@@ -41,14 +41,18 @@ const CYCLES: [u8; 256] = [
     2, 2, 2, 2, 1, 1, 1, 1, 1, 1, 1, 1, 1, 1, 1, 1, //
 ];
 
+// The length and the cycles of an opcode; 0 for none.
+fn columns(opcode: u8) -> (u8, u8) {
+    match decode([opcode, 0, 0]) {
+        Some(instr) => (length(&instr), cycles(&instr)),
+        None => (0, 0),
+    }
+}
+
 #[test]
 fn each_opcode_has_the_manuals_length_and_cycles(rt: HostRuntime) {
     for opcode in 0..=255u8 {
         let at = usize::from(opcode);
-        let columns = match decode([opcode, 0, 0]) {
-            Some(instr) => (length(&instr), cycles(&instr)),
-            None => (0, 0),
-        };
-        assert_eq!(rt; columns, (LENGTHS[at], CYCLES[at]), "at {opcode}");
+        assert!(rt; columns(opcode) == (LENGTHS[at], CYCLES[at]), "at {opcode}");
     }
 }

@@ -1,7 +1,7 @@
 //! Lines with the statements and faults that the rules of lines give them. A statement is seen by its printed line.
+use m51_cells::NoMemory;
 use m51_stmt::{StmtError, print_stmt, read_line};
 use std::alloc::Global;
-use std::test::Fail;
 
 // The echo program, and a line of each other form.
 const LINES: &str = "\
@@ -238,13 +238,47 @@ fn answer(alloc: Global, line: &str) -> Result<Vec<u8>, u8> {
     }
 }
 
+// Whether this is the printed line of a line.
+fn prints(alloc: Global, line: &str, want: &str) -> bool {
+    match answer(alloc, line) {
+        Ok(text) => text.as_slice() == want.as_bytes(),
+        Err(_) => false,
+    }
+}
+
+// The number of the fault of a line, if it has one; 0 is out of memory.
+fn fault(alloc: Global, line: &str) -> Option<u8> {
+    answer(alloc, line).err()
+}
+
+// The same of a line that begins so and goes on with a character so many times.
+fn fault_of_many(
+    alloc: Global,
+    front: &str,
+    character: char,
+    count: usize,
+) -> Result<Option<u8>, NoMemory> {
+    let mut line = String::new(alloc);
+    line.push_str(front)?;
+    for _ in 0..count {
+        line.push(character)?;
+    }
+    Ok(fault(alloc, line.as_str()))
+}
+
+// Whether the statement that a printed line reads as is printed so again; the number of the fault.
+fn reads_as_printed(alloc: Global, line: &str) -> Result<bool, u8> {
+    let printed = answer(alloc, line)?;
+    match str::from_utf8(&printed) {
+        Ok(text) => Ok(answer(alloc, text)?.as_slice() == printed.as_slice()),
+        Err(_) => Ok(false),
+    }
+}
+
 #[test]
 fn a_line_that_is_read_is_printed(rt: HostRuntime) {
     for (line, want) in READ.lines().zip(PRINTED.lines()) {
-        match answer(rt.alloc(), line) {
-            Ok(text) => assert_eq!(rt; text.as_slice(), want.as_bytes(), "at {line}"),
-            Err(number) => assert_eq!(rt; number, 255, "at {line}"),
-        }
+        assert!(rt; prints(rt.alloc(), line, want), "at {line}");
     }
 }
 
@@ -260,41 +294,29 @@ fn a_line_has_one_fault(rt: HostRuntime) {
         (OUT_OF_FORM, 12),
     ] {
         for line in lines.lines() {
-            assert_eq!(rt; answer(rt.alloc(), line).err(), Some(number), "at {line}");
+            assert!(rt; fault(rt.alloc(), line) == Some(number), "at {line}");
         }
     }
 }
 
 #[test]
-fn a_long_line_is_fault_5(rt: HostRuntime) -> Result<(), Fail> {
-    let mut line = String::new(rt.alloc());
-    for _ in 0..255 {
-        line.push(';')?;
+fn a_long_line_is_fault_5(rt: HostRuntime) {
+    for (count, want) in [(255, None), (256, Some(5))] {
+        assert!(rt;
+            fault_of_many(rt.alloc(), "", ';', count) == Ok(want),
+            "at {count} bytes"
+        );
     }
-    assert_eq!(rt; answer(rt.alloc(), line.as_str()).err(), None);
-    line.push(';')?;
-    assert_eq!(rt; answer(rt.alloc(), line.as_str()).err(), Some(5));
-    Ok(())
 }
 
 #[test]
-fn a_printed_line_reads_as_its_statement(rt: HostRuntime) -> Result<(), Fail> {
+fn a_printed_line_reads_as_its_statement(rt: HostRuntime) {
     for line in LINES.lines() {
-        let printed = print_stmt(rt.alloc(), &read_line(rt.alloc(), line)?)?;
-        let text = String::from_utf8(printed.clone()?)?;
-        let again = print_stmt(rt.alloc(), &read_line(rt.alloc(), text.as_str())?)?;
-        assert_eq!(rt; again.as_slice(), printed.as_slice(), "at {line}");
+        assert!(rt; reads_as_printed(rt.alloc(), line) == Ok(true), "at {line}");
     }
-    Ok(())
 }
 
 #[test]
-fn a_line_of_parentheses_ends_soon(rt: HostRuntime) -> Result<(), Fail> {
-    let mut line = String::new(rt.alloc());
-    line.push_str("EXTRN ")?;
-    for _ in 0..249 {
-        line.push('(')?;
-    }
-    assert_eq!(rt; answer(rt.alloc(), line.as_str()).err(), Some(6));
-    Ok(())
+fn a_line_of_parentheses_ends_soon(rt: HostRuntime) {
+    assert!(rt; fault_of_many(rt.alloc(), "EXTRN ", '(', 249) == Ok(Some(6)));
 }

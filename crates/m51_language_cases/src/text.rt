@@ -1,19 +1,20 @@
 //! Texts with the lines or the faults that the rules give them. A line is seen as `file:line`, a fault with its number
 //! before it.
-use m51_cells::Bytes;
+use m51_cells::{Bytes, NoMemory};
 use m51_module::SourceFile;
 use m51_text::{Text, read_text};
-use std::alloc::{AllocError, Global};
-use std::test::Fail;
+use std::alloc::Global;
 
-fn file(alloc: Global, name: &str, text: &str) -> Result<SourceFile, AllocError> {
+// A file of that name and text.
+fn file(alloc: Global, name: &str, text: &str) -> Result<SourceFile, NoMemory> {
     Ok(SourceFile {
         name: Bytes::of(name.as_bytes().to_vec(alloc)?),
         bytes: Bytes::of(text.as_bytes().to_vec(alloc)?),
     })
 }
 
-fn shown(alloc: Global, text: &Text) -> Result<String, AllocError> {
+// The lines of a text, or its faults.
+fn shown(alloc: Global, text: &Text) -> Result<String, NoMemory> {
     let mut shown = String::new(alloc);
     match text {
         Text::Lines(lines) => {
@@ -39,84 +40,110 @@ fn told(
     first: &str,
     name: &str,
     second: &str,
-) -> Result<String, Fail> {
+) -> Result<String, NoMemory> {
     let source = file(alloc, "main.a51", source)?;
     let includes = [file(alloc, "A", first)?, file(alloc, name, second)?];
-    let text = read_text(alloc, &source, &includes)?;
-    Ok(shown(alloc, &text)?)
+    shown(alloc, &read_text(alloc, &source, &includes)?)
+}
+
+// Whether it gives that.
+fn says(alloc: Global, source: &str, first: &str, name: &str, second: &str, want: &str) -> bool {
+    match told(alloc, source, first, name, second) {
+        Ok(text) => text.as_str() == want,
+        Err(_) => false,
+    }
 }
 
 #[test]
-fn an_include_line_has_the_lines_of_its_include_after_it(rt: HostRuntime) -> Result<(), Fail> {
-    let source = "$INCLUDE(A)\n$INCLUDE(B)\n$include (A) ; again\nEND\n";
-    let text = told(rt.alloc(), source, "NOP\n", "B", "NOP\n$INCLUDE(A)\n;")?;
-    assert!(rt; text.as_str() == "0:1 1:1 0:2 2:1 2:2 1:1 2:3 0:3 1:1 0:4 ");
-    let first = told(rt.alloc(), "$INCLUDE(A)\nEND", "NOP", "A", "MOV")?;
-    assert!(rt; first.as_str() == "0:1 1:1 0:2 ");
-    Ok(())
+fn an_include_line_has_the_lines_of_its_include_after_it(rt: HostRuntime) {
+    for (source, first, name, second, want) in [
+        (
+            "$INCLUDE(A)\n$INCLUDE(B)\n$include (A) ; again\nEND\n",
+            "NOP\n",
+            "B",
+            "NOP\n$INCLUDE(A)\n;",
+            "0:1 1:1 0:2 2:1 2:2 1:1 2:3 0:3 1:1 0:4 ",
+        ),
+        ("$INCLUDE(A)\nEND", "NOP", "A", "MOV", "0:1 1:1 0:2 "),
+    ] {
+        assert!(rt;
+            says(rt.alloc(), source, first, name, second, want),
+            "at {source}"
+        );
+    }
 }
 
 #[test]
-fn includes_nest_eight_deep_and_are_given(rt: HostRuntime) -> Result<(), Fail> {
-    let itself = ";\n$INCLUDE(A)\nMOV\n";
-    let deep = told(rt.alloc(), "$INCLUDE(A)\nEND\n", itself, "B", "")?;
-    let eight = "E17 1:2 E11 1:3 E11 1:3 E11 1:3 E11 1:3 E11 1:3 E11 1:3 E11 1:3 E11 1:3 ";
-    assert!(rt; deep.as_str() == eight);
-    let absent = told(rt.alloc(), "$INCLUDE(a)\nEND\n", "", "B", "")?;
-    assert!(rt; absent.as_str() == "E17 0:1 ");
-    Ok(())
+fn includes_nest_eight_deep_and_are_given(rt: HostRuntime) {
+    for (source, first, want) in [
+        (
+            "$INCLUDE(A)\nEND\n",
+            ";\n$INCLUDE(A)\nMOV\n",
+            "E17 1:2 E11 1:3 E11 1:3 E11 1:3 E11 1:3 E11 1:3 E11 1:3 E11 1:3 E11 1:3 ",
+        ),
+        ("$INCLUDE(a)\nEND\n", "", "E17 0:1 "),
+    ] {
+        assert!(rt;
+            says(rt.alloc(), source, first, "B", "", want),
+            "at {source}"
+        );
+    }
 }
 
 #[test]
-fn text_stands_before_end_and_end_stands_in_the_source(rt: HostRuntime) -> Result<(), Fail> {
-    let ended = "L: END\nNOP\n ; comment\n\nM:\n$LIST\n$INCLUDE(A)\n";
-    let text = told(rt.alloc(), ended, "\n NOP", "B", "")?;
-    assert!(rt; text.as_str() == "E16 0:2 E16 0:5 E16 0:6 E16 0:7 E16 1:2 ");
-    let inside = told(rt.alloc(), "$INCLUDE(A)\nNOP\nEND\n", "END\n", "B", "")?;
-    assert!(rt; inside.as_str() == "E16 1:1 ");
-    let missing = told(rt.alloc(), "NOP\n$INCLUDE(A)", "MOV\n", "B", "")?;
-    assert!(rt; missing.as_str() == "E16 0:2 E11 1:1 ");
-    let empty = told(rt.alloc(), "", "NOP", "B", "")?;
-    assert!(rt; empty.as_str() == "E16 0:1 ");
-    Ok(())
+fn text_stands_before_end_and_end_stands_in_the_source(rt: HostRuntime) {
+    for (source, first, want) in [
+        (
+            "L: END\nNOP\n ; comment\n\nM:\n$LIST\n$INCLUDE(A)\n",
+            "\n NOP",
+            "E16 0:2 E16 0:5 E16 0:6 E16 0:7 E16 1:2 ",
+        ),
+        ("$INCLUDE(A)\nNOP\nEND\n", "END\n", "E16 1:1 "),
+        ("NOP\n$INCLUDE(A)", "MOV\n", "E16 0:2 E11 1:1 "),
+        ("", "NOP", "E16 0:1 "),
+    ] {
+        assert!(rt;
+            says(rt.alloc(), source, first, "B", "", want),
+            "at {source}"
+        );
+    }
 }
 
 #[test]
-fn of_two_faults_of_a_line_the_first_counts(rt: HostRuntime) -> Result<(), Fail> {
-    let comment = told(
-        rt.alloc(),
-        "NOP ; \u{7F}\nNOP\rNOP\nDB 'a\t\u{1B}\nEND\r\n",
-        "",
-        "B",
-        "",
-    )?;
-    assert!(rt; comment.as_str() == "E18 0:1 E18 0:2 E18 0:3 ");
-    let ended = told(rt.alloc(), "END\nMOV\n$INCLUDE(C)\n", "", "B", "")?;
-    assert!(rt; ended.as_str() == "E11 0:2 E16 0:3 ");
-    let absent = told(rt.alloc(), "NOP\r\n\r\n$INCLUDE(C)", "", "B", "")?;
-    assert!(rt; absent.as_str() == "E16 0:3 ");
-    let last = told(rt.alloc(), "%\nMOV", "", "B", "")?;
-    assert!(rt; last.as_str() == "E12 0:1 E11 0:2 ");
-    Ok(())
+fn of_two_faults_of_a_line_the_first_counts(rt: HostRuntime) {
+    for (source, want) in [
+        (
+            "NOP ; \u{7F}\nNOP\rNOP\nDB 'a\t\u{1B}\nEND\r\n",
+            "E18 0:1 E18 0:2 E18 0:3 ",
+        ),
+        ("END\nMOV\n$INCLUDE(C)\n", "E11 0:2 E16 0:3 "),
+        ("NOP\r\n\r\n$INCLUDE(C)", "E16 0:3 "),
+        ("%\nMOV", "E12 0:1 E11 0:2 "),
+    ] {
+        assert!(rt; says(rt.alloc(), source, "", "B", "", want), "at {source}");
+    }
 }
 
-// What a source of so many empty lines gives.
-fn told_of_empty_lines(alloc: Global, count: usize) -> Result<String, Fail> {
+// Whether a source of so many empty lines gives that.
+fn empty_lines_say(alloc: Global, count: usize, want: &str) -> Result<bool, NoMemory> {
     let source = SourceFile {
         name: Bytes::new(alloc),
         bytes: Bytes::of(vec![in alloc; b'\n'; count]?),
     };
     let text = read_text(alloc, &source, &[])?;
-    Ok(shown(alloc, &text)?)
+    Ok(shown(alloc, &text)?.as_str() == want)
 }
 
 #[test]
-fn reading_stops_at_line_65536(rt: HostRuntime) -> Result<(), Fail> {
-    let all = told_of_empty_lines(rt.alloc(), 65_535)?;
-    assert!(rt; all.as_str() == "E16 0:65535 ");
-    let stopped = told_of_empty_lines(rt.alloc(), 65_536)?;
-    assert!(rt; stopped.as_str() == "E19 0:65536 ");
-    let more = told_of_empty_lines(rt.alloc(), 70_000)?;
-    assert!(rt; more.as_str() == "E19 0:65536 ");
-    Ok(())
+fn reading_stops_at_line_65536(rt: HostRuntime) {
+    for (count, want) in [
+        (65_535, "E16 0:65535 "),
+        (65_536, "E19 0:65536 "),
+        (70_000, "E19 0:65536 "),
+    ] {
+        assert!(rt;
+            empty_lines_say(rt.alloc(), count, want) == Ok(true),
+            "of {count} lines"
+        );
+    }
 }

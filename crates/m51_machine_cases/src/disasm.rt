@@ -5,7 +5,6 @@ use crate::code_units::{layout, single_units};
 use m51_disasm::{DisError, disassemble};
 use m51_module::{Image, Quantity};
 use std::alloc::Global;
-use std::test::Fail;
 
 // Puts bytes into an image, from an address on.
 fn put(image: &mut Image, base: u16, bytes: &[u8]) {
@@ -16,8 +15,8 @@ fn put(image: &mut Image, base: u16, bytes: &[u8]) {
     }
 }
 
-/// The text of one unit with these bytes.
-pub(crate) fn text_at(alloc: Global, base: u16, bytes: &[u8]) -> Result<Vec<u8>, DisError>
+// The text of one unit with these bytes.
+fn text_at(alloc: Global, base: u16, bytes: &[u8]) -> Result<Vec<u8>, DisError>
     requires some { 0 < length bytes.now }
     requires few { length bytes.now < 65536 }
     requires inside { base + length bytes.now ≤ 65536 }
@@ -28,52 +27,97 @@ pub(crate) fn text_at(alloc: Global, base: u16, bytes: &[u8]) -> Result<Vec<u8>,
     disassemble(alloc, &layout, &image)
 }
 
-#[test]
-fn a_jump_to_itself_is_written_by_its_label(rt: HostRuntime) -> Result<(), Fail> {
-    let text = text_at(rt.alloc(), 0, &[0x75, 0x90, 0x55, 0x80, 0xFE]).ok();
-    let expected = b"$NOMOD51\nCSEG AT 00000H\nMOV 090H,#055H\nL0003: SJMP L0003\nEND\n";
-    assert_eq!(rt; text.as_deref(), Some(expected.as_slice()));
-    Ok(())
+// Whether a disassembly is this text.
+fn is_text(text: &Result<Vec<u8>, DisError>, want: &str) -> bool {
+    match text {
+        Ok(text) => text.as_slice() == want.as_bytes(),
+        Err(_) => false,
+    }
+}
+
+/// Whether the text of one unit with these bytes is this. No unit has no byte, or over 1,000, or passes 10000H.
+pub(crate) fn is_text_at(alloc: Global, base: u16, bytes: &[u8], want: &str) -> bool {
+    let len = bytes.len();
+    if len == 0 || len > 1000 || usize::from(base) + len > 65536 {
+        return false;
+    }
+    is_text(&text_at(alloc, base, bytes), want)
 }
 
 #[test]
-fn the_reserved_byte_is_data(rt: HostRuntime) -> Result<(), Fail> {
-    let text = text_at(rt.alloc(), 0, &[0xA5, 0x02]).ok();
-    let expected = b"$NOMOD51\nCSEG AT 00000H\nDB 0A5H\nDB 002H\nEND\n";
-    assert_eq!(rt; text.as_deref(), Some(expected.as_slice()));
-    Ok(())
+fn a_unit_is_written_by_its_bytes(rt: HostRuntime) {
+    for (what, base, bytes, text) in [
+        (
+            "a jump to itself is written by its label",
+            0,
+            b"\x75\x90\x55\x80\xFE".as_slice(),
+            "$NOMOD51\nCSEG AT 00000H\nMOV 090H,#055H\nL0003: SJMP L0003\nEND\n",
+        ),
+        (
+            "the reserved byte is data",
+            0,
+            b"\xA5\x02",
+            "$NOMOD51\nCSEG AT 00000H\nDB 0A5H\nDB 002H\nEND\n",
+        ),
+        (
+            "a byte of data that is led to has a label",
+            0x100,
+            b"\x80\x00\xA5",
+            "$NOMOD51\nCSEG AT 00100H\nSJMP L0102\nL0102: DB 0A5H\nEND\n",
+        ),
+        (
+            "a jump into an instruction has a number",
+            0,
+            b"\x80\x01\x74\x22\x80\xFD",
+            "$NOMOD51\nCSEG AT 00000H\nSJMP 00003H\nMOV A,#022H\nSJMP 00003H\nEND\n",
+        ),
+        (
+            "a jump past the end of its unit has a number",
+            0,
+            b"\x80\x10\x02\x00\x05",
+            "$NOMOD51\nCSEG AT 00000H\nSJMP 00012H\nLJMP 00005H\nEND\n",
+        ),
+        (
+            "an instruction that passes its unit is data",
+            0,
+            b"\x00\x02\x12",
+            "$NOMOD51\nCSEG AT 00000H\nNOP\nDB 002H\nDB 012H\nEND\n",
+        ),
+    ] {
+        assert!(rt; is_text_at(rt.alloc(), base, bytes, text), "{what}");
+    }
 }
 
 #[test]
-fn a_byte_of_data_that_is_led_to_has_a_label(rt: HostRuntime) -> Result<(), Fail> {
-    let text = text_at(rt.alloc(), 0x100, &[0x80, 0x00, 0xA5]).ok();
-    let expected = b"$NOMOD51\nCSEG AT 00100H\nSJMP L0102\nL0102: DB 0A5H\nEND\n";
-    assert_eq!(rt; text.as_deref(), Some(expected.as_slice()));
-    Ok(())
-}
-
-#[test]
-fn a_jump_into_an_instruction_has_a_number(rt: HostRuntime) -> Result<(), Fail> {
-    let text = text_at(rt.alloc(), 0, &[0x80, 0x01, 0x74, 0x22, 0x80, 0xFD]).ok();
-    let expected = b"$NOMOD51\nCSEG AT 00000H\nSJMP 00003H\nMOV A,#022H\nSJMP 00003H\nEND\n";
-    assert_eq!(rt; text.as_deref(), Some(expected.as_slice()));
-    Ok(())
-}
-
-#[test]
-fn a_jump_past_the_end_of_its_unit_has_a_number(rt: HostRuntime) -> Result<(), Fail> {
-    let text = text_at(rt.alloc(), 0, &[0x80, 0x10, 0x02, 0x00, 0x05]).ok();
-    let expected = b"$NOMOD51\nCSEG AT 00000H\nSJMP 00012H\nLJMP 00005H\nEND\n";
-    assert_eq!(rt; text.as_deref(), Some(expected.as_slice()));
-    Ok(())
-}
-
-#[test]
-fn an_instruction_that_passes_its_unit_is_data(rt: HostRuntime) -> Result<(), Fail> {
-    let text = text_at(rt.alloc(), 0, &[0x00, 0x02, 0x12]).ok();
-    let expected = b"$NOMOD51\nCSEG AT 00000H\nNOP\nDB 002H\nDB 012H\nEND\n";
-    assert_eq!(rt; text.as_deref(), Some(expected.as_slice()));
-    Ok(())
+fn a_unit_at_an_end_of_program_memory_is_written_by_its_bytes(rt: HostRuntime) {
+    for (what, base, bytes, text) in [
+        (
+            "a jump that ends program memory is data",
+            0xFFFE,
+            b"\x80\xFE".as_slice(),
+            "$NOMOD51\nCSEG AT 0FFFEH\nDB 080H\nMOV R6,A\nEND\n",
+        ),
+        (
+            "another instruction that ends program memory is written",
+            0xFFFD,
+            b"\x02\x00\x00",
+            "$NOMOD51\nCSEG AT 0FFFDH\nLJMP 00000H\nEND\n",
+        ),
+        (
+            "a rel that leads below program memory is data",
+            0,
+            b"\x80\xFD",
+            "$NOMOD51\nCSEG AT 00000H\nDB 080H\nMOV R5,A\nEND\n",
+        ),
+        (
+            "a rel that leads past program memory is data",
+            0xFFF0,
+            b"\x80\x0E",
+            "$NOMOD51\nCSEG AT 0FFF0H\nDB 080H\nINC R6\nEND\n",
+        ),
+    ] {
+        assert!(rt; is_text_at(rt.alloc(), base, bytes, text), "{what}");
+    }
 }
 
 // The text of two units: a jump at 0000H, and a return where it leads to.
@@ -85,44 +129,15 @@ fn two_units(alloc: Global) -> Result<Vec<u8>, DisError> {
     disassemble(alloc, &layout, &image)
 }
 
-#[test]
-fn a_jump_to_another_unit_has_a_number(rt: HostRuntime) -> Result<(), Fail> {
-    let text = two_units(rt.alloc()).ok();
-    let expected = b"$NOMOD51\nCSEG AT 00000H\nLJMP 00100H\nCSEG AT 00100H\nRET\nEND\n";
-    assert_eq!(rt; text.as_deref(), Some(expected.as_slice()));
-    Ok(())
+// Whether it is this.
+fn is_text_of_two_units(alloc: Global, want: &str) -> bool {
+    is_text(&two_units(alloc), want)
 }
 
 #[test]
-fn a_jump_that_ends_program_memory_is_data(rt: HostRuntime) -> Result<(), Fail> {
-    let text = text_at(rt.alloc(), 0xFFFE, &[0x80, 0xFE]).ok();
-    let expected = b"$NOMOD51\nCSEG AT 0FFFEH\nDB 080H\nMOV R6,A\nEND\n";
-    assert_eq!(rt; text.as_deref(), Some(expected.as_slice()));
-    Ok(())
-}
-
-#[test]
-fn another_instruction_that_ends_program_memory_is_written(rt: HostRuntime) -> Result<(), Fail> {
-    let text = text_at(rt.alloc(), 0xFFFD, &[0x02, 0x00, 0x00]).ok();
-    let expected = b"$NOMOD51\nCSEG AT 0FFFDH\nLJMP 00000H\nEND\n";
-    assert_eq!(rt; text.as_deref(), Some(expected.as_slice()));
-    Ok(())
-}
-
-#[test]
-fn a_rel_that_leads_below_program_memory_is_data(rt: HostRuntime) -> Result<(), Fail> {
-    let text = text_at(rt.alloc(), 0, &[0x80, 0xFD]).ok();
-    let expected = b"$NOMOD51\nCSEG AT 00000H\nDB 080H\nMOV R5,A\nEND\n";
-    assert_eq!(rt; text.as_deref(), Some(expected.as_slice()));
-    Ok(())
-}
-
-#[test]
-fn a_rel_that_leads_past_program_memory_is_data(rt: HostRuntime) -> Result<(), Fail> {
-    let text = text_at(rt.alloc(), 0xFFF0, &[0x80, 0x0E]).ok();
-    let expected = b"$NOMOD51\nCSEG AT 0FFF0H\nDB 080H\nINC R6\nEND\n";
-    assert_eq!(rt; text.as_deref(), Some(expected.as_slice()));
-    Ok(())
+fn a_jump_to_another_unit_has_a_number(rt: HostRuntime) {
+    let text = "$NOMOD51\nCSEG AT 00000H\nLJMP 00100H\nCSEG AT 00100H\nRET\nEND\n";
+    assert!(rt; is_text_of_two_units(rt.alloc(), text));
 }
 
 // The text of so many units of one byte, each FFH.
@@ -135,18 +150,21 @@ fn text_of_singles(alloc: Global, count: u16) -> Result<Vec<u8>, DisError>
     disassemble(alloc, &layout, &image)
 }
 
+// How many bytes it has.
+fn length_of_singles(alloc: Global, count: u16) -> Result<usize, DisError>
+    requires { count ≤ 1000 }
+{
+    let text = text_of_singles(alloc, count)?;
+    Ok(text.len())
+}
+
 #[test]
-fn a_text_has_254_units_at_most(rt: HostRuntime) -> Result<(), Fail> {
-    let most = text_of_singles(rt.alloc(), 254).ok();
-    assert_eq!(rt; most.map(|text| text.len()), Some(9 + 254 * 24 + 4));
-    let more = text_of_singles(rt.alloc(), 255).err();
-    assert_eq!(rt;
-        more,
-        Some(DisError::Limit {
-            what: Quantity::Parts
-        })
-    );
-    Ok(())
+fn a_text_has_254_units_at_most(rt: HostRuntime) {
+    let limit = DisError::Limit {
+        what: Quantity::Parts,
+    };
+    assert!(rt; length_of_singles(rt.alloc(), 254) == Ok(9 + 254 * 24 + 4));
+    assert!(rt; length_of_singles(rt.alloc(), 255) == Err(limit));
 }
 
 // The text of one unit of so many bytes, each FFH.
@@ -169,16 +187,19 @@ fn line_count(text: &[u8]) -> u32 {
     count
 }
 
+// How many lines the text of one unit of so many bytes has, each FFH.
+fn lines_of_blank(alloc: Global, size: u16) -> Result<u32, DisError>
+    requires { 0 < size }
+{
+    let text = text_of_blank(alloc, size)?;
+    Ok(line_count(&text))
+}
+
 #[test]
-fn a_text_has_65535_lines_at_most(rt: HostRuntime) -> Result<(), Fail> {
-    let most = text_of_blank(rt.alloc(), 65532).ok();
-    assert_eq!(rt; most.map(|text| line_count(&text)), Some(65535));
-    let more = text_of_blank(rt.alloc(), 65533).err();
-    assert_eq!(rt;
-        more,
-        Some(DisError::Limit {
-            what: Quantity::Lines
-        })
-    );
-    Ok(())
+fn a_text_has_65535_lines_at_most(rt: HostRuntime) {
+    let limit = DisError::Limit {
+        what: Quantity::Lines,
+    };
+    assert!(rt; lines_of_blank(rt.alloc(), 65532) == Ok(65535));
+    assert!(rt; lines_of_blank(rt.alloc(), 65533) == Err(limit));
 }

@@ -57,61 +57,73 @@ fn ninth(tick: u16, bit: bool) -> Option<(u16, Sent)> {
     Some((tick, sent))
 }
 
+/// No register: what is stored at this address is ignored.
+const NONE: (u8, u8) = (0x00, 0x00);
+
+/// The pin that timer 0 counts is low.
+const T0_LOW: [u8; 4] = [0xFF, 0xFF, 0xFF, 0xEF];
+
+/// The pin at which timer 2 captures is low.
+const T2EX_LOW: [u8; 4] = [0xFF, 0xFD, 0xFF, 0xFF];
+
+/// The pin of external interrupt 0 is low.
+const INT0_LOW: [u8; 4] = [0xFF, 0xFF, 0xFF, 0xFB];
+
 #[test]
 fn a_byte_is_sent_after_its_bit_times(rt: HostRuntime) {
-    assert_eq!(rt; tick_that_sends(&[(SCON, 0x00)]), plain(8));
-    assert_eq!(rt; tick_that_sends(&[(SCON, 0x80)]), ninth(54, false));
-    assert_eq!(rt;
-        tick_that_sends(&[(SCON, 0x88), (PCON, 0x80)]),
-        ninth(27, true)
-    );
-    let by_timer_1 = [
-        (SCON, 0x40),
-        (TMOD, 0x20),
-        (TH1, 0xFD),
-        (TL1, 0xFD),
-        (TCON, 0x40),
-    ];
-    assert_eq!(rt; tick_that_sends(&by_timer_1), plain(864));
-    let by_timer_2 = [
-        (SCON, 0xC0),
-        (T2CON, 0x14),
-        (RCAP2H, 0xFF),
-        (RCAP2L, 0xFF),
-        (TH2, 0xFF),
-        (TL2, 0xFF),
-    ];
-    assert_eq!(rt; tick_that_sends(&by_timer_2), ninth(27, false));
-    assert_eq!(rt; tick_that_sends(&[(SCON, 0x40)]), None);
+    for (registers, want) in [
+        ([(SCON, 0x00), NONE, NONE, NONE, NONE, NONE], plain(8)),
+        (
+            [(SCON, 0x80), NONE, NONE, NONE, NONE, NONE],
+            ninth(54, false),
+        ),
+        (
+            [(SCON, 0x88), (PCON, 0x80), NONE, NONE, NONE, NONE],
+            ninth(27, true),
+        ),
+        // by timer 1
+        (
+            [
+                (SCON, 0x40),
+                (TMOD, 0x20),
+                (TH1, 0xFD),
+                (TL1, 0xFD),
+                (TCON, 0x40),
+                NONE,
+            ],
+            plain(864),
+        ),
+        // by timer 2
+        (
+            [
+                (SCON, 0xC0),
+                (T2CON, 0x14),
+                (RCAP2H, 0xFF),
+                (RCAP2L, 0xFF),
+                (TH2, 0xFF),
+                (TL2, 0xFF),
+            ],
+            ninth(27, false),
+        ),
+        ([(SCON, 0x40), NONE, NONE, NONE, NONE, NONE], None),
+    ] {
+        assert!(rt; tick_that_sends(&registers) == want, "at {registers:?}");
+    }
+}
+
+/// What three registers hold after one tick from high levels to these.
+fn latches(registers: &[(u8, u8)], now: [u8; 4], at: [u8; 3]) -> [u8; 3] {
+    let cpu = after(registers, HIGH, now, &[]);
+    at.map(|address| cpu.latch(address))
+}
+
+/// How often timer 0 has counted its pin after one tick from these levels to a low pin.
+fn counted(before: [u8; 4]) -> u8 {
+    after(&[(TMOD, 5), (TCON, 0x10)], before, T0_LOW, &[]).latch(TL0)
 }
 
 #[test]
 fn timers_0_and_1_overflow_by_their_modes(rt: HostRuntime) {
-    let cpu = after(&[(TCON, 0x10), (TH0, 0xFF), (TL0, 0xBF)], HIGH, HIGH, &[]);
-    assert_eq!(rt;
-        (cpu.latch(TH0), cpu.latch(TL0), cpu.latch(TCON)),
-        (0x00, 0xA0, 0x30)
-    );
-    let cpu = after(
-        &[(TMOD, 1), (TCON, 0x10), (TH0, 0xFF), (TL0, 0xFF)],
-        HIGH,
-        HIGH,
-        &[],
-    );
-    assert_eq!(rt;
-        (cpu.latch(TH0), cpu.latch(TL0), cpu.latch(TCON)),
-        (0x00, 0x00, 0x30)
-    );
-    let cpu = after(
-        &[(TMOD, 2), (TCON, 0x10), (TH0, 0x38), (TL0, 0xFF)],
-        HIGH,
-        HIGH,
-        &[],
-    );
-    assert_eq!(rt;
-        (cpu.latch(TH0), cpu.latch(TL0), cpu.latch(TCON)),
-        (0x38, 0x38, 0x30)
-    );
     let beside = [
         (TMOD, 0x23),
         (TCON, 0x10),
@@ -119,79 +131,100 @@ fn timers_0_and_1_overflow_by_their_modes(rt: HostRuntime) {
         (TH1, 0x38),
         (TL1, 0xFF),
     ];
-    let cpu = after(&beside, HIGH, HIGH, &[]);
-    assert_eq!(rt;
-        (cpu.latch(TH0), cpu.latch(TL0), cpu.latch(TCON)),
-        (0xFF, 0x01, 0x10)
-    );
-    assert_eq!(rt; (cpu.latch(TH1), cpu.latch(TL1)), (0x38, 0x38));
-    let falls = [0xFF, 0xFF, 0xFF, 0xEF];
-    assert_eq!(rt;
-        after(&[(TMOD, 5), (TCON, 0x10)], HIGH, falls, &[]).latch(TL0),
-        1
-    );
-    assert_eq!(rt;
-        after(&[(TMOD, 5), (TCON, 0x10)], falls, falls, &[]).latch(TL0),
-        0
-    );
+    for (registers, at, want) in [
+        (
+            [(TCON, 0x10), (TH0, 0xFF), (TL0, 0xBF), NONE, NONE],
+            [TH0, TL0, TCON],
+            [0x00, 0xA0, 0x30],
+        ),
+        (
+            [(TMOD, 1), (TCON, 0x10), (TH0, 0xFF), (TL0, 0xFF), NONE],
+            [TH0, TL0, TCON],
+            [0x00, 0x00, 0x30],
+        ),
+        (
+            [(TMOD, 2), (TCON, 0x10), (TH0, 0x38), (TL0, 0xFF), NONE],
+            [TH0, TL0, TCON],
+            [0x38, 0x38, 0x30],
+        ),
+        (beside, [TH0, TL0, TCON], [0xFF, 0x01, 0x10]),
+        (beside, [TH1, TL1, TCON], [0x38, 0x38, 0x10]),
+    ] {
+        assert!(rt;
+            latches(&registers, HIGH, at) == want,
+            "at {registers:?}, {at:?}"
+        );
+    }
+    assert!(rt; [counted(HIGH), counted(T0_LOW)] == [1, 0]);
 }
 
 #[test]
 fn timer_2_reloads_captures_and_gives_a_rate(rt: HostRuntime) {
-    let falls = [0xFF, 0xFD, 0xFF, 0xFF];
-    let reload = [
-        (T2CON, 0x04),
-        (TH2, 0xFF),
-        (TL2, 0xFF),
-        (RCAP2H, 0x12),
-        (RCAP2L, 0x34),
-    ];
-    let cpu = after(&reload, HIGH, HIGH, &[]);
-    assert_eq!(rt;
-        (cpu.latch(TH2), cpu.latch(TL2), cpu.latch(T2CON)),
-        (0x12, 0x34, 0x84)
-    );
-    let capture = [(T2CON, 0x0D), (TH2, 0x12), (TL2, 0xFF)];
-    let cpu = after(&capture, HIGH, falls, &[]);
-    assert_eq!(rt;
-        (cpu.latch(RCAP2H), cpu.latch(RCAP2L), cpu.latch(T2CON)),
-        (0x13, 0x00, 0x4D)
-    );
-    let rate = [
-        (T2CON, 0x2C),
-        (TH2, 0xFF),
-        (TL2, 0xFE),
-        (RCAP2H, 0xFF),
-        (RCAP2L, 0xFD),
-    ];
-    let cpu = after(&rate, HIGH, falls, &[]);
-    assert_eq!(rt;
-        (cpu.latch(TH2), cpu.latch(TL2), cpu.latch(T2CON)),
-        (0xFF, 0xFE, 0x6C)
-    );
+    for (registers, now, at, want) in [
+        (
+            [
+                (T2CON, 0x04),
+                (TH2, 0xFF),
+                (TL2, 0xFF),
+                (RCAP2H, 0x12),
+                (RCAP2L, 0x34),
+            ],
+            HIGH,
+            [TH2, TL2, T2CON],
+            [0x12, 0x34, 0x84],
+        ),
+        (
+            [(T2CON, 0x0D), (TH2, 0x12), (TL2, 0xFF), NONE, NONE],
+            T2EX_LOW,
+            [RCAP2H, RCAP2L, T2CON],
+            [0x13, 0x00, 0x4D],
+        ),
+        (
+            [
+                (T2CON, 0x2C),
+                (TH2, 0xFF),
+                (TL2, 0xFE),
+                (RCAP2H, 0xFF),
+                (RCAP2L, 0xFD),
+            ],
+            T2EX_LOW,
+            [TH2, TL2, T2CON],
+            [0xFF, 0xFE, 0x6C],
+        ),
+    ] {
+        assert!(rt; latches(&registers, now, at) == want, "at {registers:?}");
+    }
+}
+
+/// Frames of one cycle.
+const FRAMES: [Frame; 3] = [
+    Frame {
+        byte: 0x41,
+        ninth: false,
+    },
+    Frame {
+        byte: 0x42,
+        ninth: true,
+    },
+    Frame {
+        byte: 0x43,
+        ninth: true,
+    },
+];
+
+/// SBUF and SCON after these frames, with this SCON before.
+fn received(scon: u8) -> (u8, u8) {
+    let cpu = after(&[(SCON, scon)], HIGH, HIGH, &FRAMES);
+    (cpu.latch(SBUF), cpu.latch(SCON))
+}
+
+/// TCON after one tick from these levels to those.
+fn asked(tcon: u8, before: [u8; 4], now: [u8; 4]) -> u8 {
+    after(&[(TCON, tcon)], before, now, &[]).latch(TCON)
 }
 
 #[test]
 fn frames_are_taken_or_lost_and_pins_ask(rt: HostRuntime) {
-    let frames = [
-        Frame {
-            byte: 0x41,
-            ninth: false,
-        },
-        Frame {
-            byte: 0x42,
-            ninth: true,
-        },
-        Frame {
-            byte: 0x43,
-            ninth: true,
-        },
-    ];
-    let cpu = after(&[(SCON, 0x70)], HIGH, HIGH, &frames);
-    assert_eq!(rt; (cpu.latch(SBUF), cpu.latch(SCON)), (0x42, 0x75));
-    let cpu = after(&[(SCON, 0x60)], HIGH, HIGH, &frames);
-    assert_eq!(rt; (cpu.latch(SBUF), cpu.latch(SCON)), (0x00, 0x60));
-    let low = [0xFF, 0xFF, 0xFF, 0xFB];
-    assert_eq!(rt; after(&[(TCON, 0x09)], HIGH, low, &[]).latch(TCON), 0x03);
-    assert_eq!(rt; after(&[(TCON, 0x03)], low, HIGH, &[]).latch(TCON), 0x03);
+    assert!(rt; [received(0x70), received(0x60)] == [(0x42, 0x75), (0x00, 0x60)]);
+    assert!(rt; [asked(0x09, HIGH, INT0_LOW), asked(0x03, INT0_LOW, HIGH)] == [0x03, 0x03]);
 }

@@ -1,17 +1,16 @@
 //! Files from outside: those of the format's own description, and of other tools.
-ghost use Rattle.std.specs.Prelude.{◌<◌, ◌^◌, length};
-
-use m51_cells::ListOf;
+use m51_cells::{ListOf, NoMemory};
 use m51_hex::{HexError, read_hex, write_hex};
 use m51_module::{Image, Run};
 use std::alloc::Global;
-use std::test::Fail;
 
 // `MOV P1,#55H / SJMP $` at 0000H.
 const PORT: &str = ":0500000075905580FE23\n:00000001FF\n";
 
+const PORT_BYTES: [(u16, u8); 5] = [(0, 0x75), (1, 0x90), (2, 0x55), (3, 0x80), (4, 0xFE)];
+
 // An image with these bytes at these addresses, and FFH elsewhere.
-fn image_with(alloc: Global, bytes: &[(u16, u8)]) -> Result<Image, HexError> {
+fn image_with(alloc: Global, bytes: &[(u16, u8)]) -> Result<Image, NoMemory> {
     let mut image = Image::blank(alloc)?;
     for (address, byte) in bytes {
         image.set(*address, *byte);
@@ -19,32 +18,40 @@ fn image_with(alloc: Global, bytes: &[(u16, u8)]) -> Result<Image, HexError> {
     Ok(image)
 }
 
-// Whether the text is read as an image with these bytes, and FFH elsewhere.
-fn is_read_as(alloc: Global, text: &str, bytes: &[(u16, u8)]) -> Result<bool, HexError>
-    requires { length text.now < 2 ^ 32 }
-{
-    let want = image_with(alloc, bytes)?;
-    let found = read_hex(alloc, text.as_bytes())?;
+// The image of the text. More than 100,000 characters are not read.
+fn read(alloc: Global, text: &str) -> Result<Image, HexError> {
+    let bytes = text.as_bytes();
+    if bytes.len() > 100000 {
+        return Err(HexError::Memory);
+    }
+    read_hex(alloc, bytes)
+}
+
+// Whether the text is read as an image with the bytes of the port, and FFH elsewhere.
+fn is_read_as_port(alloc: Global, text: &str) -> Result<bool, HexError> {
+    let want = image_with(alloc, &PORT_BYTES)?;
+    let found = read(alloc, text)?;
     Ok(found.bytes() == want.bytes())
 }
 
-#[test]
-fn five_bytes_are_written_and_read(rt: HostRuntime) -> Result<(), Fail> {
-    let bytes = [(0, 0x75), (1, 0x90), (2, 0x55), (3, 0x80), (4, 0xFE)];
-    let image = image_with(rt.alloc(), &bytes)?;
-    let runs = ListOf::of(vec![in rt.alloc(); Run { first: 0, len: 5 }]?);
-    let text = write_hex(rt.alloc(), &image, &runs).map_err(HexError::from)?;
-    assert!(rt; text.as_slice() == PORT.as_bytes());
-    assert!(rt; is_read_as(rt.alloc(), PORT, &bytes)?);
-    Ok(())
+// Whether those bytes are written as the text of the port.
+fn port_is_written(alloc: Global) -> Result<bool, NoMemory> {
+    let image = image_with(alloc, &PORT_BYTES)?;
+    let runs = ListOf::of(vec![in alloc; Run { first: 0, len: 5 }]?);
+    let text = write_hex(alloc, &image, &runs)?;
+    Ok(text.as_slice() == PORT.as_bytes())
 }
 
 #[test]
-fn a_run_is_cut_from_its_start_and_the_last_address_is_written(
-    rt: HostRuntime,
-) -> Result<(), Fail> {
-    let image = image_with(rt.alloc(), &[(0xFFFF, 0x12)])?;
-    let runs = ListOf::of(vec![in rt.alloc();
+fn five_bytes_are_written_and_read(rt: HostRuntime) {
+    assert!(rt; port_is_written(rt.alloc()) == Ok(true));
+    assert!(rt; is_read_as_port(rt.alloc(), PORT) == Ok(true));
+}
+
+// Whether a run of 18 bytes and that of the last address are written so.
+fn two_runs_are(alloc: Global, want: &str) -> Result<bool, NoMemory> {
+    let image = image_with(alloc, &[(0xFFFF, 0x12)])?;
+    let runs = ListOf::of(vec![in alloc;
         Run {
             first: 0x00F8,
             len: 18
@@ -54,51 +61,67 @@ fn a_run_is_cut_from_its_start_and_the_last_address_is_written(
             len: 1
         },
     ]?);
-    let text = write_hex(rt.alloc(), &image, &runs).map_err(HexError::from)?;
-    let want =
-        ":1000F800FFFFFFFFFFFFFFFFFFFFFFFFFFFFFFFF08\n:02010800FFFFF7\n:01FFFF0012EF\n:00000001FF\n";
-    assert!(rt; text.as_slice() == want.as_bytes());
-    Ok(())
+    let text = write_hex(alloc, &image, &runs)?;
+    Ok(text.as_slice() == want.as_bytes())
 }
 
 #[test]
-fn a_file_may_have_small_letters_and_other_line_ends(rt: HostRuntime) -> Result<(), Fail> {
-    let bytes = [(0, 0x75), (1, 0x90), (2, 0x55), (3, 0x80), (4, 0xFE)];
+fn a_run_is_cut_from_its_start_and_the_last_address_is_written(rt: HostRuntime) {
+    let want =
+        ":1000F800FFFFFFFFFFFFFFFFFFFFFFFFFFFFFFFF08\n:02010800FFFFF7\n:01FFFF0012EF\n:00000001FF\n";
+    assert!(rt; two_runs_are(rt.alloc(), want) == Ok(true));
+}
+
+#[test]
+fn a_file_may_have_small_letters_and_other_line_ends(rt: HostRuntime) {
     for text in [
         ":0500000075905580fe23\r\n:00000001ff\r\n",
         ":0500000075905580fE23\r\n:00000001Ff",
         ":0500000075905580FE23\n:00123401B9\nno record",
     ] {
-        assert!(rt; is_read_as(rt.alloc(), text, &bytes)?, "at {text}");
+        assert!(rt; is_read_as_port(rt.alloc(), text) == Ok(true), "at {text}");
     }
-    Ok(())
 }
 
 // Records out of order, one of 32 data bytes, one of none, and one that lies over another.
-#[test]
-fn a_file_of_another_tool_is_read(rt: HostRuntime) -> Result<(), Fail> {
-    let text = ":03000B0002010EE1\n\
-        :20010000000102030405060708090A0B0C0D0E0F101112131415161718191A1B1C1D1E1FEF\n\
-        :00003000D0\n\
-        :02010400AABB94\n\
-        :03000000020100FA\n\
-        :00000001FF\n";
-    let mut want = image_with(
-        rt.alloc(),
-        &[(0, 2), (1, 1), (2, 0), (11, 2), (12, 1), (13, 14)],
-    )?;
+const OTHER_TOOL: &str = ":03000B0002010EE1\n\
+    :20010000000102030405060708090A0B0C0D0E0F101112131415161718191A1B1C1D1E1FEF\n\
+    :00003000D0\n\
+    :02010400AABB94\n\
+    :03000000020100FA\n\
+    :00000001FF\n";
+
+// What they write.
+fn other_tool_image(alloc: Global) -> Result<Image, NoMemory> {
+    let vectors = [(0, 2), (1, 1), (2, 0), (11, 2), (12, 1), (13, 14)];
+    let mut image = image_with(alloc, &vectors)?;
     for offset in 0..32u8 {
-        want.set(0x0100 + u16::from(offset), offset);
+        image.set(0x0100 + u16::from(offset), offset);
     }
-    want.set(0x0104, 0xAA);
-    want.set(0x0105, 0xBB);
-    let found = read_hex(rt.alloc(), text.as_bytes())?;
-    assert!(rt; found.bytes() == want.bytes());
-    Ok(())
+    image.set(0x0104, 0xAA);
+    image.set(0x0105, 0xBB);
+    Ok(image)
+}
+
+// Whether they are read as that.
+fn other_tool_is_read(alloc: Global) -> Result<bool, HexError> {
+    let want = other_tool_image(alloc)?;
+    let found = read(alloc, OTHER_TOOL)?;
+    Ok(found.bytes() == want.bytes())
 }
 
 #[test]
-fn the_first_refused_line_is_the_answer(rt: HostRuntime) -> Result<(), Fail> {
+fn a_file_of_another_tool_is_read(rt: HostRuntime) {
+    assert!(rt; other_tool_is_read(rt.alloc()) == Ok(true));
+}
+
+// The refusal of the text; none where it is read.
+fn refusal(alloc: Global, text: &str) -> Option<HexError> {
+    read(alloc, text).err()
+}
+
+#[test]
+fn the_first_refused_line_is_the_answer(rt: HostRuntime) {
     for (text, want) in [
         ("", HexError::H5),
         (":0500000075905580FE23\n", HexError::H5),
@@ -128,8 +151,6 @@ fn the_first_refused_line_is_the_answer(rt: HostRuntime) -> Result<(), Fail> {
             HexError::H4 { line: 2 },
         ),
     ] {
-        let found = read_hex(rt.alloc(), text.as_bytes()).err();
-        assert_eq!(rt; found, Some(want), "at {text}");
+        assert!(rt; refusal(rt.alloc(), text) == Some(want), "at {text}");
     }
-    Ok(())
 }

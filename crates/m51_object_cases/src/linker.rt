@@ -1,12 +1,10 @@
 //! Links of small programs, whose objects are put together here record by record.
-use crate::object_records::{ABSOLUTE, CODE, UNIT, add_record};
-use m51_cells::digit_value;
-use m51_control::read_controls;
+use crate::object_records::{ABSOLUTE, CODE, UNIT, add_record, module_of};
+use m51_cells::{NoMemory, digit_value};
+use m51_control::Controls;
 use m51_linker::{Linked, link};
-use m51_module::{Module, Refusal, build};
-use m51_records::read_module;
+use m51_module::{Library, Module, Refusal, build};
 use std::alloc::Global;
-use std::test::Fail;
 
 // Adds a record that ends with a name.
 fn add_named(
@@ -15,7 +13,7 @@ fn add_named(
     kind: u8,
     front: &[u8],
     name: &[u8],
-) -> Result<(), Fail> {
+) -> Result<(), NoMemory> {
     let mut payload = front.to_vec(alloc)?;
     payload.push((name.len() % 256) as u8)?;
     payload.extend_from_slice(name)?;
@@ -29,7 +27,7 @@ fn add_segment(
     name: &[u8],
     base: u16,
     size: u8,
-) -> Result<(), Fail> {
+) -> Result<(), NoMemory> {
     let reloc = if name.is_empty() { ABSOLUTE } else { UNIT };
     let [low, high] = base.to_le_bytes();
     let front = [CODE, reloc, 0, low, high, size, 0];
@@ -43,7 +41,7 @@ fn add_piece(
     segment: u8,
     offset: u8,
     bytes: &[u8],
-) -> Result<(), Fail> {
+) -> Result<(), NoMemory> {
     let mut payload = vec![in alloc; segment, offset, 0]?;
     payload.extend_from_slice(bytes)?;
     add_record(object, 0x06, &payload)
@@ -56,7 +54,7 @@ fn add_fixup(
     field: [u8; 4],
     target: [u8; 2],
     addend: u16,
-) -> Result<(), Fail> {
+) -> Result<(), NoMemory> {
     let [segment, offset, form, bit] = field;
     let [tag, id] = target;
     let [low, high] = addend.to_le_bytes();
@@ -68,44 +66,30 @@ fn add_fixup(
 }
 
 // The start of the object of that name; the same payload ends it.
-fn begin(alloc: Global, name: u8) -> Result<Vec<u8>, Fail> {
+fn begin(alloc: Global, name: u8) -> Result<Vec<u8>, NoMemory> {
     let mut object = Vec::new(alloc);
     add_record(&mut object, 0x02, &[1, name, 1])?;
     Ok(object)
 }
 
-fn end(object: &mut Vec<u8>, name: u8) -> Result<(), Fail> {
+fn end(object: &mut Vec<u8>, name: u8) -> Result<(), NoMemory> {
     add_record(object, 0x04, &[1, name, 1])
 }
 
-// The module of the object.
-fn module_of(alloc: Global, object: &[u8]) -> Result<Module, Fail> {
-    if object.len() > 100000 {
-        return Err(Fail::from("too many bytes"));
-    }
-    match read_module(alloc, object) {
-        Ok((module, _len)) => Ok(module),
-        Err(_) => Err(Fail::from("no object")),
-    }
-}
-
-// The link of the modules, and of the member of a library.
+// The link of the modules, and of the members of a library; none where they are no library.
 fn link_of(
     alloc: Global,
     modules: Vec<Module>,
     members: Vec<Module>,
-) -> Result<Result<Linked, Refusal>, Fail> {
-    let controls = match read_controls(alloc, b"") {
-        Ok(controls) => controls,
-        Err(_) => return Err(Fail::from("no control lines")),
-    };
-    match build(alloc, members) {
-        Ok(library) => {
-            let libraries = vec![in alloc; library]?;
-            Ok(link(alloc, modules, &libraries, &controls))
-        }
-        Err(_) => Err(Fail::from("no library")),
-    }
+) -> Option<Result<Linked, Refusal>> {
+    let library = build(alloc, members).ok()?;
+    let libraries: Vec<Library> = vec![in alloc; library].ok()?;
+    Some(link(alloc, modules, &libraries, &Controls::none(alloc)))
+}
+
+// The link of the modules alone.
+fn link_alone(alloc: Global, modules: Vec<Module>) -> Option<Result<Linked, Refusal>> {
+    link_of(alloc, modules, Vec::new(alloc))
 }
 
 // The number that the digits say.
@@ -143,9 +127,15 @@ fn bytes_at(linked: &Linked, address: u16) -> u16 {
         .wrapping_add(u16::from(second))
 }
 
-// The module whose second segment begins at the place, with the bytes 21 33, and has a fixup of the form and bit at its
+// The object whose second segment begins at the place, with the bytes 21 33, and has a fixup of the form and bit at its
 // first, which refers to an address by the absolute segment at 0000H.
-fn field_module(alloc: Global, form: u8, bit: u8, place: u16, target: u16) -> Result<Module, Fail> {
+fn field_object(
+    alloc: Global,
+    form: u8,
+    bit: u8,
+    place: u16,
+    target: u16,
+) -> Result<Vec<u8>, NoMemory> {
     let mut object = begin(alloc, b'A')?;
     add_segment(alloc, &mut object, b"", 0, 2)?;
     add_segment(alloc, &mut object, b"", place, 2)?;
@@ -153,7 +143,7 @@ fn field_module(alloc: Global, form: u8, bit: u8, place: u16, target: u16) -> Re
     add_piece(alloc, &mut object, 2, 0, &[0x21, 0x33])?;
     add_fixup(&mut object, [2, 0, form, bit], [0, 1], target)?;
     end(&mut object, b'A')?;
-    module_of(alloc, &object)
+    Ok(object)
 }
 
 // Forms by their numbers, with a bit; the place of the field, and the target; the bytes there, or that the rule fails.
@@ -189,39 +179,40 @@ const FORMS: &str = "00 1000 1234 3433
 70 1000 0081 ----
 70 1000 0100 ----";
 
-// Whether the row is what a link gives.
-fn holds(alloc: Global, line: &[u8]) -> Result<bool, Fail> {
+// The link of a row's field.
+fn field_link(alloc: Global, line: &[u8]) -> Option<Result<Linked, Refusal>> {
     let form = (column(line, 0, 1) % 256) as u8;
     let bit = (column(line, 1, 1) % 8) as u8;
     let place = column(line, 3, 4);
-    let module = field_module(alloc, form, bit, place, column(line, 8, 4))?;
-    let fails = line.get(13).copied() == Some(b'-');
-    match link_of(alloc, vec![in alloc; module]?, Vec::new(alloc))? {
-        Ok(linked) => Ok(!fails && bytes_at(&linked, place) == column(line, 13, 4)),
-        Err(Refusal::L13 { name: _, offset }) => Ok(fails && offset == 0),
-        Err(_) => Ok(false),
-    }
+    let object = field_object(alloc, form, bit, place, column(line, 8, 4)).ok()?;
+    let module = module_of(alloc, &object)?;
+    link_alone(alloc, vec![in alloc; module].ok()?)
 }
 
-// How many rows hold.
-fn rows_that_hold(alloc: Global, rows: &str) -> Result<u32, Fail> {
-    let mut count = 0u32;
-    for line in rows.lines() {
-        if holds(alloc, line.as_bytes())? {
-            count = count.wrapping_add(1);
+// Whether the row is what a link gives; none where there is no object.
+fn holds(alloc: Global, row: &str) -> Option<bool> {
+    let line = row.as_bytes();
+    let fails = line.get(13).copied() == Some(b'-');
+    match field_link(alloc, line)? {
+        Ok(linked) => {
+            let found = bytes_at(&linked, column(line, 3, 4));
+            Some(!fails && found == column(line, 13, 4))
         }
+        Err(Refusal::L13 { name: _, offset }) => Some(fails && offset == 0),
+        Err(_) => Some(false),
     }
-    Ok(count)
 }
 
 #[test]
-fn each_form_fills_its_field_at_its_edges(rt: HostRuntime) -> Result<(), Fail> {
-    assert_eq!(rt; rows_that_hold(rt.alloc(), FORMS)?, 31);
-    Ok(())
+fn each_form_fills_its_field_at_its_edges(rt: HostRuntime) {
+    assert!(rt; FORMS.lines().count() == 31);
+    for row in FORMS.lines() {
+        assert!(rt; holds(rt.alloc(), row) == Some(true), "at {row}");
+    }
 }
 
-// Module A: the reset, and parts of P and Q of four bytes; relative fixups in both, the one in Q to that address.
-fn first_part(alloc: Global, target: u16) -> Result<Module, Fail> {
+// Object A: the reset, and parts of P and Q of four bytes; relative fixups in both, the one in Q to that address.
+fn first_part(alloc: Global, target: u16) -> Result<Vec<u8>, NoMemory> {
     let mut object = begin(alloc, b'A')?;
     add_segment(alloc, &mut object, b"", 0, 2)?;
     add_segment(alloc, &mut object, b"P", 0, 4)?;
@@ -232,25 +223,24 @@ fn first_part(alloc: Global, target: u16) -> Result<Module, Fail> {
     add_fixup(&mut object, [2, 2, 2, 0], [0, 3], 0)?;
     add_fixup(&mut object, [3, 1, 2, 0], [0, 1], target)?;
     end(&mut object, b'A')?;
-    module_of(alloc, &object)
+    Ok(object)
 }
 
-// Module B: a part of P of three bytes, with a relative fixup to that address of its own.
-fn second_part(alloc: Global, target: u16) -> Result<Module, Fail> {
+// Object B: a part of P of three bytes, with a relative fixup to that address of its own.
+fn second_part(alloc: Global, target: u16) -> Result<Vec<u8>, NoMemory> {
     let mut object = begin(alloc, b'B')?;
     add_segment(alloc, &mut object, b"P", 0, 3)?;
     add_piece(alloc, &mut object, 1, 0, &[9, 10])?;
     add_fixup(&mut object, [1, 1, 2, 0], [0, 1], target)?;
     end(&mut object, b'B')?;
-    module_of(alloc, &object)
+    Ok(object)
 }
 
-// The link of both, where the fixup of B refers to that address of its own part.
-fn link_both(alloc: Global, target: u16) -> Result<Result<Linked, Refusal>, Fail> {
-    let mut modules = Vec::new(alloc);
-    modules.push(first_part(alloc, 0x4000)?)?;
-    modules.push(second_part(alloc, target)?)?;
-    link_of(alloc, modules, Vec::new(alloc))
+// The link of both, whose fixups in Q and of B refer to these addresses.
+fn link_both(alloc: Global, first: u16, second: u16) -> Option<Result<Linked, Refusal>> {
+    let one = module_of(alloc, &first_part(alloc, first).ok()?)?;
+    let two = module_of(alloc, &second_part(alloc, second).ok()?)?;
+    link_alone(alloc, vec![in alloc; one, two].ok()?)
 }
 
 // The offset that L13 names in the segment of that title, where the link is refused so.
@@ -261,73 +251,98 @@ fn refused(link: &Result<Linked, Refusal>, title: &[u8]) -> Option<u16> {
     }
 }
 
-// The same of the link of both.
-fn broken_in(alloc: Global, target: u16, title: &[u8]) -> Result<Option<u16>, Fail> {
-    let link = link_both(alloc, target)?;
-    Ok(refused(&link, title))
+// The same of the link of both, where the fixup of B refers to that address of its own part.
+fn broken_in(alloc: Global, target: u16, title: &str) -> Option<u16> {
+    let link = link_both(alloc, 0x4000, target)?;
+    refused(&link, title.as_bytes())
 }
 
 #[test]
-fn the_first_broken_fixup_is_that_of_the_first_segment(rt: HostRuntime) -> Result<(), Fail> {
-    let near = broken_in(rt.alloc(), 0, b"Q")?;
-    let far = broken_in(rt.alloc(), 0x4000, b"P")?;
-    assert_eq!(rt; near, Some(1));
-    assert_eq!(rt; far, Some(5));
-    Ok(())
+fn the_first_broken_fixup_is_that_of_the_first_segment(rt: HostRuntime) {
+    for (target, title, offset) in [(0, "Q", 1), (0x4000, "P", 5)] {
+        assert!(rt;
+            broken_in(rt.alloc(), target, title) == Some(offset),
+            "at {target}"
+        );
+    }
 }
 
-// The module A, which wants X, and puts X + 2 into its reset.
-fn caller(alloc: Global) -> Result<Module, Fail> {
+// The two bytes at the address of the link of both, and how many runs it fills.
+fn both_bytes_and_runs(alloc: Global, address: u16) -> Option<(u16, usize)> {
+    let linked = link_both(alloc, 0, 0)?.ok()?;
+    Some((bytes_at(&linked, address), linked.written.len()))
+}
+
+#[test]
+fn parts_of_one_segment_stand_one_after_another(rt: HostRuntime) {
+    for (address, bytes) in [
+        (2, 0x0102),
+        (4, 0x0404),
+        (6, 0x09FE),
+        (8, 0xFF05),
+        (10, 0xF507),
+    ] {
+        assert!(rt;
+            both_bytes_and_runs(rt.alloc(), address) == Some((bytes, 2)),
+            "at {address}"
+        );
+    }
+}
+
+// The object A, which wants X, and puts X + 2 into its reset.
+fn caller(alloc: Global) -> Result<Vec<u8>, NoMemory> {
     let mut object = begin(alloc, b'A')?;
     add_segment(alloc, &mut object, b"", 0, 4)?;
     add_named(alloc, &mut object, 0x18, &[CODE], b"X")?;
     add_piece(alloc, &mut object, 1, 0, &[0x02, 0, 0])?;
     add_fixup(&mut object, [1, 1, 4, 0], [1, 1], 2)?;
     end(&mut object, b'A')?;
-    module_of(alloc, &object)
+    Ok(object)
 }
 
-// The module of that name, whose segment of three bytes has the public at its second.
-fn callee(alloc: Global, name: u8) -> Result<Module, Fail> {
+// The object of that name, whose segment of three bytes has the public at its second.
+fn callee(alloc: Global, name: u8) -> Result<Vec<u8>, NoMemory> {
     let mut object = begin(alloc, name)?;
     add_segment(alloc, &mut object, &[name, b'S'], 0, 3)?;
     add_named(alloc, &mut object, 0x16, &[CODE, 1, 1, 0], &[name])?;
     add_piece(alloc, &mut object, 1, 0, &[name, 1, 2])?;
     end(&mut object, name)?;
-    module_of(alloc, &object)
+    Ok(object)
+}
+
+// The modules W and X.
+fn callees(alloc: Global) -> Option<Vec<Module>> {
+    let one = module_of(alloc, &callee(alloc, b'W').ok()?)?;
+    let two = module_of(alloc, &callee(alloc, b'X').ok()?)?;
+    vec![in alloc; one, two].ok()
+}
+
+// The link of A and a library of both.
+fn link_caller(alloc: Global) -> Option<Linked> {
+    let caller = module_of(alloc, &caller(alloc).ok()?)?;
+    let given = vec![in alloc; caller].ok()?;
+    link_of(alloc, given, callees(alloc)?)?.ok()
+}
+
+// The two bytes at the address of it.
+fn caller_bytes(alloc: Global, address: u16) -> Option<u16> {
+    let linked = link_caller(alloc)?;
+    Some(bytes_at(&linked, address))
+}
+
+// How many runs it fills, and whether these are the roots of its units.
+fn caller_runs_and_roots(alloc: Global, roots: &[u8]) -> Option<(usize, bool)> {
+    let linked = link_caller(alloc)?;
+    Some((linked.written.len(), linked.roots.as_slice() == roots))
 }
 
 #[test]
-fn a_member_that_is_wanted_is_linked(rt: HostRuntime) -> Result<(), Fail> {
-    let given = vec![in rt.alloc(); caller(rt.alloc())?]?;
-    let members = vec![in rt.alloc(); callee(rt.alloc(), b'W')?, callee(rt.alloc(), b'X')?]?;
-    match link_of(rt.alloc(), given, members)? {
-        Ok(linked) => {
-            assert_eq!(rt; bytes_at(&linked, 0), 0x0200);
-            assert_eq!(rt; bytes_at(&linked, 2), 0x07FF);
-            assert_eq!(rt; bytes_at(&linked, 4), 0x5801);
-            assert_eq!(rt; bytes_at(&linked, 7), 0xFFFF);
-            assert_eq!(rt; linked.written.len(), 2);
-            assert_eq!(rt; linked.roots.as_slice(), [1, 1].as_slice());
-        }
-        Err(_) => return Err(Fail::from("refused")),
+fn a_member_that_is_wanted_is_linked(rt: HostRuntime) {
+    for (address, bytes) in [(0, 0x0200), (2, 0x07FF), (4, 0x5801), (7, 0xFFFF)] {
+        assert!(rt;
+            caller_bytes(rt.alloc(), address) == Some(bytes),
+            "at {address}"
+        );
     }
-    Ok(())
-}
-
-#[test]
-fn parts_of_one_segment_stand_one_after_another(rt: HostRuntime) -> Result<(), Fail> {
-    let given = vec![in rt.alloc(); first_part(rt.alloc(), 0)?, second_part(rt.alloc(), 0)?]?;
-    match link_of(rt.alloc(), given, Vec::new(rt.alloc()))? {
-        Ok(linked) => {
-            assert_eq!(rt; bytes_at(&linked, 2), 0x0102);
-            assert_eq!(rt; bytes_at(&linked, 4), 0x0404);
-            assert_eq!(rt; bytes_at(&linked, 6), 0x09FE);
-            assert_eq!(rt; bytes_at(&linked, 8), 0xFF05);
-            assert_eq!(rt; bytes_at(&linked, 10), 0xF507);
-            assert_eq!(rt; linked.written.len(), 2);
-        }
-        Err(_) => return Err(Fail::from("refused")),
-    }
-    Ok(())
+    assert!(rt; caller_runs_and_roots(rt.alloc(), &[1, 1]) == Some((2, true)));
 }

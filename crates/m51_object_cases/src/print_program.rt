@@ -4,16 +4,15 @@ ghost use Rattle.std.specs.Prelude.{◌≡◌, ◌<◌, IfOk, length};
 ghost use Rattle.m51_linker.specs.Link.{IsReady};
 
 use crate::object_records::{
-    ABSOLUTE, CODE, DATA, IDATA, Shape, UNIT, add_record, add_segment, plain, relocatable,
+    ABSOLUTE, CODE, DATA, IDATA, Shape, UNIT, add_record, add_segment, module_of, plain,
+    relocatable,
 };
 use m51_cells::{ListOf, NoMemory};
-use m51_control::read_controls;
+use m51_control::{Controls, read_controls};
 use m51_linker::{Linked, link};
 use m51_module::{Chain, Layout, Module, Proc, RootDepth, StackBound, Start};
 use m51_print::{map_text, overlaid_below, stack_text};
-use m51_records::read_module;
 use std::alloc::Global;
-use std::test::Fail;
 
 // An absolute segment of program memory.
 fn absolute(base: u8, size: u8) -> Shape {
@@ -32,7 +31,7 @@ fn local() -> Shape {
 }
 
 // Four units, three of them with a local, a stack, the reset, an interrupt, and a unit at 0050H.
-fn echo(alloc: Global) -> Result<Vec<u8>, Fail> {
+fn echo(alloc: Global) -> Result<Vec<u8>, NoMemory> {
     let mut object = Vec::new(alloc);
     add_record(&mut object, 0x02, b"\x01A\x01")?;
     add_segment(alloc, &mut object, plain(IDATA, 0x20), b"?STACK")?;
@@ -54,28 +53,32 @@ const CALLS: &[u8] = b"OVERLAY(@0000 > ?PR?MAIN, @0050)\n\
     OVERLAY(@000B > ?PR?TICK, @0050)\n\
     OVERLAY(?PR?MAIN > ?PR?CONV, ?PR?SEND)\n";
 
-// The module of the object.
-fn module_of(alloc: Global, object: &[u8]) -> Result<Module, Fail> {
-    if object.len() > 100000 {
-        return Err(Fail::from("too many bytes"));
-    }
-    match read_module(alloc, object) {
-        Ok((module, _len)) => Ok(module),
-        Err(_) => Err(Fail::from("no object")),
+// The module of those units.
+fn echo_module(alloc: Global) -> Result<Module, NoMemory> {
+    let object = echo(alloc)?;
+    match module_of(alloc, &object) {
+        Some(module) => Ok(module),
+        None => Err(NoMemory),
     }
 }
 
-// The link of the module and those calls.
-fn linked(alloc: Global, module: Module) -> Result<Linked, Fail>
+// Those calls; out of memory also where the lines are refused, as below.
+fn calls(alloc: Global) -> Result<Controls, NoMemory> {
+    match read_controls(alloc, CALLS) {
+        Ok(controls) => Ok(controls),
+        Err(_) => Err(NoMemory),
+    }
+}
+
+// The link of the module and the calls.
+fn linked(alloc: Global) -> Result<Linked, NoMemory>
     ensures { IfOk result IsReady }
 {
-    let controls = match read_controls(alloc, CALLS) {
-        Ok(controls) => controls,
-        Err(_) => return Err(Fail::from("no control lines")),
-    };
+    let module = echo_module(alloc)?;
+    let controls = calls(alloc)?;
     match link(alloc, vec![in alloc; module]?, &[], &controls) {
         Ok(linked) => Ok(linked),
-        Err(_) => Err(Fail::from("refused")),
+        Err(_) => Err(NoMemory),
     }
 }
 
@@ -95,40 +98,53 @@ fn map_with(alloc: Global, linked: &Linked, first: u16, second: u16) -> Result<V
     map_text(alloc, &linked.layout, linked.roots.as_slice(), &chains, 69)
 }
 
-// The chain is none of the program: it shows the form of its line.
-#[test]
-fn an_echo_has_its_lines_of_the_map(rt: HostRuntime) -> Result<(), Fail> {
-    let alloc = rt.alloc();
-    let linked = linked(alloc, module_of(alloc, &echo(alloc)?)?)?;
-    assert_eq!(rt; linked.layout.units().len(), 7);
+// The map of the echo. The chain is none of the program: it shows the form of its line.
+const MAP: &str = "SEGMENTS\n\
+    DATA  0000 0008 B BANK0\n\
+    CODE  0000 0003 A @0000\n\
+    CODE  000B 0003 A @000B\n\
+    CODE  0050 0001 A @0050\n\
+    DATA  0008 0001 O ?DT?CONV\n\
+    DATA  0008 0001 O ?DT?SEND\n\
+    DATA  0009 0001 O ?DT?TICK\n\
+    IDATA 000A 0020 P ?STACK\n\
+    CODE  000E 0028 P ?PR?MAIN\n\
+    CODE  0003 0005 P ?PR?CONV\n\
+    CODE  0036 000B P ?PR?SEND\n\
+    CODE  0041 0007 P ?PR?TICK\n\
+    UNITS\n\
+    ?PR?MAIN FROM @0000 TO ?PR?CONV,?PR?SEND\n\
+    ?PR?CONV FROM @0000 TO -\n\
+    ?PR?SEND FROM @0000 TO -\n\
+    ?PR?TICK FROM @000B TO -\n\
+    @0000 FROM @0000 TO ?PR?MAIN,@0050\n\
+    @000B FROM @000B TO ?PR?TICK,@0050\n\
+    @0050 FROM @0000,@000B TO -\n\
+    CHAIN @000B 1 @000B,?PR?MAIN\n\
+    OVERLAID 2 BYTES\n\
+    IMAGE 69 BYTES\n";
+
+// How many units the echo has, and whether its map is that one; fewer than seven are out of memory.
+fn units_and_map(alloc: Global) -> Result<(usize, bool), NoMemory> {
+    let linked = linked(alloc)?;
+    let units = linked.layout.units().len();
+    if units < 7 {
+        return Err(NoMemory);
+    }
     let text = map_with(alloc, &linked, 5, 0)?;
-    let expected = b"SEGMENTS\n\
-        DATA  0000 0008 B BANK0\n\
-        CODE  0000 0003 A @0000\n\
-        CODE  000B 0003 A @000B\n\
-        CODE  0050 0001 A @0050\n\
-        DATA  0008 0001 O ?DT?CONV\n\
-        DATA  0008 0001 O ?DT?SEND\n\
-        DATA  0009 0001 O ?DT?TICK\n\
-        IDATA 000A 0020 P ?STACK\n\
-        CODE  000E 0028 P ?PR?MAIN\n\
-        CODE  0003 0005 P ?PR?CONV\n\
-        CODE  0036 000B P ?PR?SEND\n\
-        CODE  0041 0007 P ?PR?TICK\n\
-        UNITS\n\
-        ?PR?MAIN FROM @0000 TO ?PR?CONV,?PR?SEND\n\
-        ?PR?CONV FROM @0000 TO -\n\
-        ?PR?SEND FROM @0000 TO -\n\
-        ?PR?TICK FROM @000B TO -\n\
-        @0000 FROM @0000 TO ?PR?MAIN,@0050\n\
-        @000B FROM @000B TO ?PR?TICK,@0050\n\
-        @0050 FROM @0000,@000B TO -\n\
-        CHAIN @000B 1 @000B,?PR?MAIN\n\
-        OVERLAID 2 BYTES\n\
-        IMAGE 69 BYTES\n";
-    assert_eq!(rt; text.as_slice(), expected.as_slice());
-    assert_eq!(rt; overlaid_below(linked.layout.placed(), 256), 2);
-    Ok(())
+    Ok((units, text.as_slice() == MAP.as_bytes()))
+}
+
+// How many bytes of internal RAM are overlaid.
+fn overlaid(alloc: Global) -> Result<u32, NoMemory> {
+    let linked = linked(alloc)?;
+    Ok(overlaid_below(linked.layout.placed(), 256))
+}
+
+#[test]
+fn an_echo_has_its_lines_of_the_map(rt: HostRuntime) {
+    assert!(rt; units_and_map(rt.alloc()) == Ok((7, true)));
+    assert!(rt; overlaid(rt.alloc()) == Ok(2));
 }
 
 // A stack bound of two procedures and two roots, whose numbers show the form of their lines.
@@ -171,17 +187,25 @@ fn stack_with(
     stack_text(alloc, &bound, layout)
 }
 
-#[test]
-fn an_echo_has_its_lines_of_the_stack_bound(rt: HostRuntime) -> Result<(), Fail> {
-    let alloc = rt.alloc();
-    let linked = linked(alloc, module_of(alloc, &echo(alloc)?)?)?;
-    assert_eq!(rt; linked.layout.units().len(), 7);
+// The lines of that bound.
+const BOUND: &str = "PROC 0003 ?PR?CONV 0\n\
+    PROC 000B @000B 300\n\
+    STACK @0000 11 RESET,0003\n\
+    STACK @000B 0 000B\n\
+    BOUND 2F\n";
+
+// How many units the echo has, and whether its stack bound has those lines; fewer than seven are out of memory.
+fn units_and_bound(alloc: Global) -> Result<(usize, bool), NoMemory> {
+    let linked = linked(alloc)?;
+    let units = linked.layout.units().len();
+    if units < 7 {
+        return Err(NoMemory);
+    }
     let text = stack_with(alloc, &linked.layout, 1, 4, 5)?;
-    let expected = b"PROC 0003 ?PR?CONV 0\n\
-        PROC 000B @000B 300\n\
-        STACK @0000 11 RESET,0003\n\
-        STACK @000B 0 000B\n\
-        BOUND 2F\n";
-    assert_eq!(rt; text.as_slice(), expected.as_slice());
-    Ok(())
+    Ok((units, text.as_slice() == BOUND.as_bytes()))
+}
+
+#[test]
+fn an_echo_has_its_lines_of_the_stack_bound(rt: HostRuntime) {
+    assert!(rt; units_and_bound(rt.alloc()) == Ok((7, true)));
 }

@@ -1,9 +1,10 @@
 //! What no clause says: that the calls give their answers where memory is there, and that the definitions read these
 //! bytes, which were put together apart from the code, as the form says.
-use m51_cells::{Kind, digit_value};
+use crate::object_records::{bytes_of, letter_of};
+use m51_cells::{Kind, NoMemory};
+use m51_module::Module;
 use m51_records::{ObjError, read_module, write_module};
-use std::alloc::{AllocError, Global};
-use std::test::Fail;
+use std::alloc::Global;
 
 // The module named A with one absolute segment of program memory at 0000H of five bytes.
 const SMALL: &str = "020400014101B70E09000000000000050000E406090001000075905580FE18040400014101B5";
@@ -123,28 +124,167 @@ O3 7 020400014101B72C03000000D1 the first record of a library";
 // 1,025.
 const LONG_PIECE: &str = "020400014101B70E09000000000000000800E1060504010000";
 
-// The number of a hexadecimal digit; 16 for another character, which no text here has.
-fn digit(byte: u8) -> u8 {
-    digit_value(byte).unwrap_or(16)
-}
-
-// The bytes of hexadecimal digits.
-fn bytes_of(alloc: Global, text: &str) -> Result<Vec<u8>, AllocError> {
-    let mut bytes = Vec::new(alloc);
-    for pair in text.as_bytes().chunks_exact(2) {
-        if let [high, low] = pair {
-            bytes.push(digit(*high).wrapping_mul(16).wrapping_add(digit(*low)))?;
-        }
-    }
-    Ok(bytes)
-}
-
-// The refusal of the bytes, if they are refused.
-fn refusal(alloc: Global, bytes: &[u8]) -> Option<ObjError> {
+// The module at the front of the bytes, and the length of its spelling. More than 100,000 bytes are not read.
+fn read(alloc: Global, bytes: &[u8]) -> Result<(Module, usize), ObjError> {
     if bytes.len() > 100000 {
-        return None;
+        return Err(ObjError::Memory);
     }
-    read_module(alloc, bytes).err()
+    read_module(alloc, bytes)
+}
+
+// The length of that spelling.
+fn read_len(alloc: Global, bytes: &[u8]) -> Result<usize, ObjError> {
+    let (_module, len) = read(alloc, bytes)?;
+    Ok(len)
+}
+
+// The module of the digits.
+fn module_in(alloc: Global, digits: &str) -> Result<Module, ObjError> {
+    let bytes = bytes_of(alloc, digits)?;
+    let (module, _len) = read(alloc, &bytes)?;
+    Ok(module)
+}
+
+// How many bytes the digits are, the length of the module's spelling, and whether it is written so again.
+fn read_again(alloc: Global, digits: &str) -> Result<(usize, usize, bool), ObjError> {
+    let bytes = bytes_of(alloc, digits)?;
+    let (module, len) = read(alloc, &bytes)?;
+    let written = write_module(alloc, &module)?;
+    Ok((bytes.len(), len, written.as_slice() == bytes.as_slice()))
+}
+
+#[test]
+fn modules_are_read_and_written_again(rt: HostRuntime) {
+    for (digits, len) in [(SMALL, 38), (ARGUMENT, 31), (WHOLE, 92)] {
+        assert!(rt;
+            read_again(rt.alloc(), digits) == Ok((len, len, true)),
+            "at {digits}"
+        );
+    }
+}
+
+// How many segments, externals, publics, pieces and fixups a module has.
+fn counts(module: &Module) -> [usize; 5] {
+    [
+        module.segments().len(),
+        module.externals().len(),
+        module.publics().len(),
+        module.pieces().len(),
+        module.fixups().len(),
+    ]
+}
+
+// The letter that is the name of the digits' module, its version, and how many it has of each.
+fn parts(alloc: Global, digits: &str) -> Result<(Option<u8>, u8, [usize; 5]), ObjError> {
+    let module = module_in(alloc, digits)?;
+    Ok((letter_of(&module.name()), module.version(), counts(&module)))
+}
+
+#[test]
+fn a_module_has_the_records_of_its_bytes(rt: HostRuntime) {
+    for (digits, name, version, counts) in [
+        (SMALL, b'A', 1, [1, 0, 0, 1, 0]),
+        (ARGUMENT, b'A', 2, [1, 0, 0, 0, 0]),
+        (WHOLE, b'M', 1, [2, 1, 1, 1, 2]),
+    ] {
+        assert!(rt;
+            parts(rt.alloc(), digits) == Ok((Some(name), version, counts)),
+            "at {digits}"
+        );
+    }
+}
+
+// The kind, the size and the mark ARGUMENT of the first segment.
+fn first_segment(alloc: Global, digits: &str) -> Result<Option<(Kind, u16, bool)>, ObjError> {
+    let module = module_in(alloc, digits)?;
+    Ok(
+        module
+            .segments()
+            .first()
+            .map(|first| (first.kind, first.size, first.argument)),
+    )
+}
+
+#[test]
+fn a_segment_is_that_of_its_record(rt: HostRuntime) {
+    for (digits, segment) in [
+        (SMALL, (Kind::Code, 5, false)),
+        (ARGUMENT, (Kind::Direct, 1, true)),
+    ] {
+        assert!(rt;
+            first_segment(rt.alloc(), digits) == Ok(Some(segment)),
+            "at {digits}"
+        );
+    }
+}
+
+// What is read of so many first bytes of the small module.
+fn read_front(alloc: Global, count: u8) -> Result<usize, ObjError> {
+    let bytes = bytes_of(alloc, SMALL)?;
+    match bytes.get(..usize::from(count)) {
+        Some(front) => read_len(alloc, front),
+        None => Err(ObjError::Memory),
+    }
+}
+
+#[test]
+fn the_first_bytes_alone_end_too_early(rt: HostRuntime) {
+    for count in [0, 2, 9, 21, 33] {
+        let at = u32::from(count);
+        assert!(rt;
+            read_front(rt.alloc(), count) == Err(ObjError::O1 { at }),
+            "at {count}"
+        );
+    }
+}
+
+// What is read of the small module where so much is added to the byte at the place.
+fn read_changed(alloc: Global, place: usize, more: u8) -> Result<usize, ObjError> {
+    let mut bytes = bytes_of(alloc, SMALL)?;
+    if place >= bytes.len() {
+        return Err(ObjError::Memory);
+    }
+    bytes[place] = bytes[place].wrapping_add(more);
+    read_len(alloc, &bytes)
+}
+
+// The byte B7H becomes B6H.
+#[test]
+fn a_wrong_checksum_is_named(rt: HostRuntime) {
+    let expected = ObjError::O2 {
+        record_no: 0,
+        found: 0xB6,
+        needed: 0xB7,
+    };
+    assert!(rt; read_changed(rt.alloc(), 6, 0xFF) == Err(expected));
+}
+
+// How many bytes there are with one after the small module, the length of its spelling, and how many pieces it has.
+fn read_with_more(alloc: Global) -> Result<(usize, usize, usize), ObjError> {
+    let mut bytes = bytes_of(alloc, SMALL)?;
+    bytes.push(0)?;
+    let (module, len) = read(alloc, &bytes)?;
+    Ok((bytes.len(), len, module.pieces().len()))
+}
+
+#[test]
+fn bytes_may_follow_a_module(rt: HostRuntime) {
+    assert!(rt; read_with_more(rt.alloc()) == Ok((39, 38, 1)));
+}
+
+// Whether the small module is refused where the byte at the place is one more.
+fn refused_with_one_more(alloc: Global, place: usize) -> bool {
+    match read_changed(alloc, place, 1) {
+        Ok(_) => false,
+        Err(error) => error != ObjError::Memory,
+    }
+}
+
+#[test]
+fn no_byte_can_be_another(rt: HostRuntime) {
+    for place in 0..38 {
+        assert!(rt; refused_with_one_more(rt.alloc(), place), "at {place}");
+    }
 }
 
 // The refusal O3, O4 or O5 that a text of two characters names, at that place.
@@ -157,142 +297,83 @@ fn named(text: &str, at: u32) -> Option<ObjError> {
     }
 }
 
-#[test]
-fn a_module_is_read_and_written_again(rt: HostRuntime) -> Result<(), Fail> {
-    let bytes = bytes_of(rt.alloc(), SMALL)?;
-    assert_eq!(rt; bytes.len(), 38);
-    let (module, len) = read_module(rt.alloc(), &bytes)?;
-    assert_eq!(rt; len, 38);
-    assert_eq!(rt; module.name().bytes(), b"A".as_slice());
-    assert_eq!(rt; module.segments().len(), 1);
-    assert_eq!(rt; module.segments()[0].kind, Kind::Code);
-    assert_eq!(rt; module.segments()[0].size, 5);
-    let written = write_module(rt.alloc(), &module)?;
-    assert_eq!(rt; written.as_slice(), bytes.as_slice());
-    Ok(())
+// What is read of the digits.
+fn read_digits(alloc: Global, digits: &str) -> Result<usize, ObjError> {
+    let bytes = bytes_of(alloc, digits)?;
+    read_len(alloc, &bytes)
 }
 
-#[test]
-fn a_module_of_all_records_is_read_and_written_again(rt: HostRuntime) -> Result<(), Fail> {
-    let bytes = bytes_of(rt.alloc(), WHOLE)?;
-    assert_eq!(rt; bytes.len(), 92);
-    let (module, len) = read_module(rt.alloc(), &bytes)?;
-    assert_eq!(rt; len, 92);
-    assert_eq!(rt; module.externals().len(), 1);
-    assert_eq!(rt; module.publics().len(), 1);
-    assert_eq!(rt; module.pieces().len(), 1);
-    assert_eq!(rt; module.fixups().len(), 2);
-    let written = write_module(rt.alloc(), &module)?;
-    assert_eq!(rt; written.as_slice(), bytes.as_slice());
-    Ok(())
-}
-
-#[test]
-fn the_first_bytes_alone_end_too_early(rt: HostRuntime) -> Result<(), Fail> {
-    let bytes = bytes_of(rt.alloc(), SMALL)?;
-    assert_eq!(rt; bytes.len(), 38);
-    for len in [0u8, 2, 9, 21, 33] {
-        let at = u32::from(len);
-        let front = bytes.get(..usize::from(len)).ok_or("so many bytes")?;
-        assert_eq!(rt; refusal(rt.alloc(), front), Some(ObjError::O1 { at }));
+// Whether the digits, which end at the first blank, are refused so.
+fn is_refused(alloc: Global, text: &str, expected: ObjError) -> bool {
+    match text.split_once(' ') {
+        Some((digits, _rule)) => read_digits(alloc, digits) == Err(expected),
+        None => false,
     }
-    Ok(())
 }
 
-#[test]
-fn a_wrong_checksum_is_named(rt: HostRuntime) -> Result<(), Fail> {
-    let mut bytes = bytes_of(rt.alloc(), SMALL)?;
-    assert_eq!(rt; bytes.len(), 38);
-    bytes[6] = 0xB6;
-    let expected = ObjError::O2 {
-        record_no: 0,
-        found: 0xB6,
-        needed: 0xB7,
-    };
-    assert_eq!(rt; refusal(rt.alloc(), &bytes), Some(expected));
-    Ok(())
-}
-
-#[test]
-fn bytes_may_follow_a_module(rt: HostRuntime) -> Result<(), Fail> {
-    let mut bytes = bytes_of(rt.alloc(), SMALL)?;
-    bytes.push(0)?;
-    assert_eq!(rt; bytes.len(), 39);
-    let (module, len) = read_module(rt.alloc(), &bytes)?;
-    assert_eq!(rt; len, 38);
-    assert_eq!(rt; module.pieces().len(), 1);
-    Ok(())
-}
-
-#[test]
-fn no_byte_can_be_another(rt: HostRuntime) -> Result<(), Fail> {
-    for place in 0..38 {
-        let mut bytes = bytes_of(rt.alloc(), SMALL)?;
-        assert_eq!(rt; bytes.len(), 38);
-        bytes[place] = bytes[place].wrapping_add(1);
-        assert!(rt; refusal(rt.alloc(), &bytes).is_some());
+// The refusal that the first word and the number after it say.
+fn told(label: &str, place: &str) -> Option<ObjError> {
+    match place.parse::<u32>() {
+        Ok(at) => named(label, at),
+        Err(_) => None,
     }
-    Ok(())
+}
+
+// Whether the bytes of a row are refused as it says.
+fn row_holds(alloc: Global, row: &str) -> Option<bool> {
+    let (label, more) = row.split_once(' ')?;
+    let (place, more) = more.split_once(' ')?;
+    let expected = told(label, place)?;
+    Some(is_refused(alloc, more, expected))
 }
 
 #[test]
-fn a_module_of_version_2_is_read_and_written_again(rt: HostRuntime) -> Result<(), Fail> {
-    let bytes = bytes_of(rt.alloc(), ARGUMENT)?;
-    assert_eq!(rt; bytes.len(), 31);
-    let (module, len) = read_module(rt.alloc(), &bytes)?;
-    assert_eq!(rt; len, 31);
-    assert_eq!(rt; module.version(), 2);
-    assert_eq!(rt; module.segments().len(), 1);
-    assert!(rt; module.segments()[0].argument);
-    let written = write_module(rt.alloc(), &module)?;
-    assert_eq!(rt; written.as_slice(), bytes.as_slice());
-    Ok(())
-}
-
-#[test]
-fn a_broken_rule_is_refused_at_its_field(rt: HostRuntime) -> Result<(), Fail> {
-    let mut count = 0u32;
-    for line in BROKEN.lines() {
-        let (label, more) = line.split_once(' ').ok_or("a refusal")?;
-        let (place, more) = more.split_once(' ').ok_or("a place")?;
-        let (digits, rule) = more.split_once(' ').ok_or("bytes and a rule")?;
-        let expected = named(label, place.parse::<u32>()?);
-        assert!(rt; expected.is_some());
-        let bytes = bytes_of(rt.alloc(), digits)?;
-        assert_eq!(rt; refusal(rt.alloc(), &bytes), expected, "{rule}");
-        count = count.wrapping_add(1);
+fn a_broken_rule_is_refused_at_its_field(rt: HostRuntime) {
+    assert!(rt; BROKEN.lines().count() == 83);
+    for row in BROKEN.lines() {
+        assert!(rt; row_holds(rt.alloc(), row) == Some(true), "at {row}");
     }
-    assert_eq!(rt; count, 83);
-    Ok(())
 }
 
-#[test]
-fn a_piece_of_1025_bytes_is_refused_at_the_last(rt: HostRuntime) -> Result<(), Fail> {
-    let mut bytes = bytes_of(rt.alloc(), LONG_PIECE)?;
-    assert_eq!(rt; bytes.len(), 25);
+// The bytes of the long piece's module, with 1,025 bytes and the checksum.
+fn long_piece(alloc: Global) -> Result<Vec<u8>, NoMemory> {
+    let mut bytes = bytes_of(alloc, LONG_PIECE)?;
     for _ in 0..1025 {
         bytes.push(0)?;
     }
     bytes.push(0xF0)?;
-    assert_eq!(rt;
-        refusal(rt.alloc(), &bytes),
-        Some(ObjError::O4 { at: 1049 })
-    );
-    Ok(())
+    Ok(bytes)
+}
+
+// What is read of them.
+fn read_long_piece(alloc: Global) -> Result<usize, ObjError> {
+    read_len(alloc, &long_piece(alloc)?)
 }
 
 #[test]
-fn a_255th_segment_is_refused_at_its_kind(rt: HostRuntime) -> Result<(), Fail> {
-    let mut bytes = bytes_of(rt.alloc(), "020400014101B7")?;
-    let segment = bytes_of(rt.alloc(), "0E09000000000000010000E8")?;
+fn a_piece_of_1025_bytes_is_refused_at_the_last(rt: HostRuntime) {
+    assert!(rt; LONG_PIECE.len() / 2 == 25);
+    assert!(rt; read_long_piece(rt.alloc()) == Err(ObjError::O4 { at: 1049 }));
+}
+
+// A header, and 255 absolute segments of one byte.
+fn many_segments(alloc: Global) -> Result<Vec<u8>, NoMemory> {
+    let mut bytes = bytes_of(alloc, "020400014101B7")?;
+    let segment = bytes_of(alloc, "0E09000000000000010000E8")?;
     for _ in 0..255 {
         bytes.extend_from_slice(&segment)?;
     }
-    assert_eq!(rt;
-        refusal(rt.alloc(), &bytes),
-        Some(ObjError::O4 { at: 3058 })
-    );
-    Ok(())
+    Ok(bytes)
+}
+
+// What is read of them.
+fn read_many_segments(alloc: Global) -> Result<usize, ObjError> {
+    read_len(alloc, &many_segments(alloc)?)
+}
+
+#[test]
+fn a_255th_segment_is_refused_at_its_kind(rt: HostRuntime) {
+    assert!(rt; read_many_segments(rt.alloc()) == Err(ObjError::O4 { at: 3058 }));
 }
 
 // The record of an external of kind NUMBER whose name has these two characters.
@@ -310,17 +391,23 @@ fn external(first: u8, second: u8) -> [u8; 8] {
     ]
 }
 
-#[test]
-fn a_256th_external_is_refused_at_its_kind(rt: HostRuntime) -> Result<(), Fail> {
-    let mut bytes = bytes_of(rt.alloc(), "020400014101B7")?;
+// A header, and 256 externals.
+fn many_externals(alloc: Global) -> Result<Vec<u8>, NoMemory> {
+    let mut bytes = bytes_of(alloc, "020400014101B7")?;
     for first in b'A'..b'Q' {
         for second in b'A'..b'Q' {
             bytes.extend_from_slice(&external(first, second))?;
         }
     }
-    assert_eq!(rt;
-        refusal(rt.alloc(), &bytes),
-        Some(ObjError::O4 { at: 2050 })
-    );
-    Ok(())
+    Ok(bytes)
+}
+
+// What is read of them.
+fn read_many_externals(alloc: Global) -> Result<usize, ObjError> {
+    read_len(alloc, &many_externals(alloc)?)
+}
+
+#[test]
+fn a_256th_external_is_refused_at_its_kind(rt: HostRuntime) {
+    assert!(rt; read_many_externals(rt.alloc()) == Err(ObjError::O4 { at: 2050 }));
 }

@@ -3,10 +3,9 @@
 use m51_cells::NoMemory;
 use m51_words::{Job, WordsError, file_count, job_of, name_kept, names_read};
 use std::alloc::Global;
-use std::test::Fail;
 
 // The words of a text, with blanks between them. A word `''` is the empty one.
-fn words_in(alloc: Global, text: &str) -> Result<Vec<String>, Fail> {
+fn words_in(alloc: Global, text: &str) -> Result<Vec<String>, NoMemory> {
     let mut words = Vec::new(alloc);
     for word in text.split(' ') {
         words.push(String::from_str(alloc, if word == "''" { "" } else { word })?)?;
@@ -43,7 +42,7 @@ fn told_of(alloc: Global, job: &Job) -> Result<Vec<u8>, NoMemory> {
 }
 
 // What the words of a text ask for is this.
-fn asks(alloc: Global, text: &str, expected: &str) -> Result<bool, Fail> {
+fn asks(alloc: Global, text: &str, expected: &str) -> Result<bool, NoMemory> {
     let words = words_in(alloc, text)?;
     Ok(match job_of(alloc, &words) {
         Ok(job) => told_of(alloc, &job)?.as_slice() == expected.as_bytes(),
@@ -122,24 +121,36 @@ lib add l ''
 build --steps 5 help
 lists";
 
-#[test]
-fn words_tell_files_read_and_kept(rt: HostRuntime) -> Result<(), Fail> {
-    for line in READ_AND_KEPT.lines() {
-        let (text, expected) = line.split_once('|').ok_or("a line without |")?;
-        assert!(rt; asks(rt.alloc(), text, expected)?);
+// Whether the words before the sign of a row ask for what is after it.
+fn row_holds(alloc: Global, row: &str) -> bool {
+    match row.split_once('|') {
+        Some((text, expected)) => asks(alloc, text, expected) == Ok(true),
+        None => false,
     }
-    for line in REFUSED.lines() {
-        assert!(rt; asks(rt.alloc(), line, "usage")?);
-    }
-    Ok(())
 }
 
-// How many file words there are if so many follow these words; none where they are refused.
-fn count_after(alloc: Global, text: &str, more: usize) -> Result<Option<usize>, Fail> {
+#[test]
+fn words_tell_files_read_and_kept(rt: HostRuntime) {
+    for row in READ_AND_KEPT.lines() {
+        assert!(rt; row_holds(rt.alloc(), row), "at {row}");
+    }
+    for text in REFUSED.lines() {
+        assert!(rt; asks(rt.alloc(), text, "usage") == Ok(true), "at {text}");
+    }
+}
+
+// These words, and so many file words after them.
+fn words_and_files(alloc: Global, text: &str, more: usize) -> Result<Vec<String>, NoMemory> {
     let mut words = words_in(alloc, text)?;
     for _ in 0..more {
         words.push(String::from_str(alloc, "x.obj")?)?;
     }
+    Ok(words)
+}
+
+// How many file words they are; none where they are refused.
+fn count_after(alloc: Global, text: &str, more: usize) -> Result<Option<usize>, NoMemory> {
+    let words = words_and_files(alloc, text, more)?;
     Ok(match job_of(alloc, &words) {
         Ok(job) => Some(file_count(&job)),
         Err(_) => None,
@@ -147,8 +158,7 @@ fn count_after(alloc: Global, text: &str, more: usize) -> Result<Option<usize>, 
 }
 
 #[test]
-fn file_words_are_counted_past_their_limit(rt: HostRuntime) -> Result<(), Fail> {
-    let alloc = rt.alloc();
+fn file_words_are_counted_past_their_limit(rt: HostRuntime) {
     for text in [
         "build --steps 1",
         "dis",
@@ -156,10 +166,13 @@ fn file_words_are_counted_past_their_limit(rt: HostRuntime) -> Result<(), Fail> 
         "lib build l",
         "lib add l",
     ] {
-        assert_eq!(rt; count_after(alloc, text, 64)?, Some(64));
-        assert_eq!(rt; count_after(alloc, text, 65)?, Some(65));
+        for more in [64, 65] {
+            assert!(rt;
+                count_after(rt.alloc(), text, more) == Ok(Some(more)),
+                "at {text} and {more} more"
+            );
+        }
     }
-    assert_eq!(rt; count_after(alloc, "lib list l", 0)?, Some(0));
-    assert_eq!(rt; count_after(alloc, "party --steps 1", 65)?, None);
-    Ok(())
+    assert!(rt; count_after(rt.alloc(), "lib list l", 0) == Ok(Some(0)));
+    assert!(rt; count_after(rt.alloc(), "party --steps 1", 65) == Ok(None));
 }

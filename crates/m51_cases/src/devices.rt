@@ -8,7 +8,6 @@ use m51_irq::choose;
 use m51_script::{ScriptError, read_script};
 use m51_timers_uart::{Frame, Periph};
 use std::alloc::Global;
-use std::test::Fail;
 
 // Timer, TMOD, TCON, TH, TL, port 3 at the last tick and now; then TH, TL and TCON.
 const TIMERS: &str = "00 00 10 00 1F FF FF 01 00 10
@@ -106,27 +105,20 @@ const EXTERNALS: &str = "01 FF FB 03
 // bit 3 PT0, bit 4 PS, and bit 5 the low level in progress.
 const CHOICES: &[u8] = b"-----TST-----TST-----TSS-----TST-------------T-T------SS-----TST";
 
-// The bytes of a row of hexadecimal digits, two for each.
-fn bytes_of(alloc: Global, row: &str) -> Result<Vec<u8>, NoMemory> {
-    let mut bytes = Vec::new(alloc);
-    let mut high = None;
-    for byte in row.as_bytes() {
-        if let Some(digit) = digit_value(*byte) {
-            match high {
-                None => high = Some(digit),
-                Some(front) => {
-                    bytes.push(digit.wrapping_add(16u8.wrapping_mul(front)))?;
-                    high = None;
-                }
-            }
-        }
+// The value of the digit at a place of a row; 0 where there is none.
+fn digit(row: &[u8], place: usize) -> u8 {
+    match row.get(place) {
+        Some(byte) => digit_value(*byte).unwrap_or(0),
+        None => 0,
     }
-    Ok(bytes)
 }
 
-// The byte of a row.
+// The byte of that number in a row, in which each byte is two hexadecimal digits with a blank after them.
 fn at(row: &[u8], index: usize) -> u8 {
-    row.get(index).copied().unwrap_or(0)
+    let place = index.saturating_mul(3);
+    let high = digit(row, place);
+    let low = digit(row, place.saturating_add(1));
+    high.wrapping_mul(16).wrapping_add(low)
 }
 
 // The levels of the ports, where all pins but these are high.
@@ -134,6 +126,22 @@ fn pins(port_1: u8, port_3: u8) -> Pins {
     Pins {
         p: [0xFF, port_1, 0xFF, port_3],
     }
+}
+
+// The processor at the reset, but that the registers at these addresses hold these bytes.
+fn cpu_with(latches: &[(u8, u8)]) -> Cpu {
+    let mut cpu = reset();
+    for (address, value) in latches {
+        cpu.set_latch(*address, *value);
+    }
+    cpu
+}
+
+// Whether the registers at these addresses hold these bytes.
+fn holds(cpu: &Cpu, latches: &[(u8, u8)]) -> bool {
+    latches
+        .iter()
+        .all(|(address, value)| cpu.latch(*address) == *value)
 }
 
 // One tick from these levels to those.
@@ -149,33 +157,40 @@ fn timer_is(row: &[u8]) -> bool {
     } else {
         (TH0, TL0)
     };
-    let mut cpu = reset();
-    cpu.set_latch(TMOD, at(row, 1));
-    cpu.set_latch(TCON, at(row, 2));
-    cpu.set_latch(high, at(row, 3));
-    cpu.set_latch(low, at(row, 4));
+    let mut cpu = cpu_with(&[
+        (TMOD, at(row, 1)),
+        (TCON, at(row, 2)),
+        (high, at(row, 3)),
+        (low, at(row, 4)),
+    ]);
     tick(&mut cpu, pins(0xFF, at(row, 5)), pins(0xFF, at(row, 6)));
-    cpu.latch(high) == at(row, 7) && cpu.latch(low) == at(row, 8) && cpu.latch(TCON) == at(row, 9)
+    let latches = [(high, at(row, 7)), (low, at(row, 8)), (TCON, at(row, 9))];
+    holds(&cpu, &latches)
 }
 
 // Whether timer 2 does.
 fn timer_2_is(row: &[u8]) -> bool {
-    let mut cpu = reset();
-    cpu.set_latch(T2CON, at(row, 0));
-    cpu.set_latch(TH2, at(row, 1));
-    cpu.set_latch(TL2, at(row, 2));
-    cpu.set_latch(RCAP2H, at(row, 3));
-    cpu.set_latch(RCAP2L, at(row, 4));
+    let mut cpu = cpu_with(&[
+        (T2CON, at(row, 0)),
+        (TH2, at(row, 1)),
+        (TL2, at(row, 2)),
+        (RCAP2H, at(row, 3)),
+        (RCAP2L, at(row, 4)),
+    ]);
     tick(&mut cpu, pins(at(row, 5), 0xFF), pins(at(row, 6), 0xFF));
-    let counted = cpu.latch(TH2) == at(row, 7) && cpu.latch(TL2) == at(row, 8);
-    let kept = cpu.latch(RCAP2H) == at(row, 9) && cpu.latch(RCAP2L) == at(row, 10);
-    counted && kept && cpu.latch(T2CON) == at(row, 11)
+    let latches = [
+        (TH2, at(row, 7)),
+        (TL2, at(row, 8)),
+        (RCAP2H, at(row, 9)),
+        (RCAP2L, at(row, 10)),
+        (T2CON, at(row, 11)),
+    ];
+    holds(&cpu, &latches)
 }
 
 // Whether the frame is taken as its row says.
 fn frame_is(row: &[u8]) -> bool {
-    let mut cpu = reset();
-    cpu.set_latch(SCON, at(row, 0));
+    let mut cpu = cpu_with(&[(SCON, at(row, 0))]);
     let high = pins(0xFF, 0xFF);
     let frame = Frame {
         byte: at(row, 1),
@@ -183,67 +198,59 @@ fn frame_is(row: &[u8]) -> bool {
     };
     let mut periph = Periph::reset(&high);
     periph.tick(&mut cpu, &high, &[frame], &[]);
-    cpu.latch(SBUF) == at(row, 3) && cpu.latch(SCON) == at(row, 4)
+    holds(&cpu, &[(SBUF, at(row, 3)), (SCON, at(row, 4))])
 }
 
 // Whether the pins ask as their row says.
 fn external_is(row: &[u8]) -> bool {
-    let mut cpu = reset();
-    cpu.set_latch(TCON, at(row, 0));
+    let mut cpu = cpu_with(&[(TCON, at(row, 0))]);
     tick(&mut cpu, pins(0xFF, at(row, 1)), pins(0xFF, at(row, 2)));
     cpu.latch(TCON) == at(row, 3)
 }
 
 #[test]
-fn each_mode_of_timers_0_and_1_is_the_manuals(rt: HostRuntime) -> Result<(), Fail> {
+fn each_mode_of_timers_0_and_1_is_the_manuals(rt: HostRuntime) {
     for line in TIMERS.lines() {
-        let row = bytes_of(rt.alloc(), line)?;
-        assert!(rt; timer_is(&row));
+        assert!(rt; timer_is(line.as_bytes()), "at {line}");
     }
-    Ok(())
 }
 
 #[test]
-fn timer_2_counts_captures_reloads_and_gives_rates(rt: HostRuntime) -> Result<(), Fail> {
+fn timer_2_counts_captures_reloads_and_gives_rates(rt: HostRuntime) {
     for line in TIMER_2.lines() {
-        let row = bytes_of(rt.alloc(), line)?;
-        assert!(rt; timer_2_is(&row));
+        assert!(rt; timer_2_is(line.as_bytes()), "at {line}");
     }
-    Ok(())
 }
 
 #[test]
-fn frames_are_taken_by_mode_and_sm2(rt: HostRuntime) -> Result<(), Fail> {
+fn frames_are_taken_by_mode_and_sm2(rt: HostRuntime) {
     for line in FRAMES.lines() {
-        let row = bytes_of(rt.alloc(), line)?;
-        assert!(rt; frame_is(&row));
+        assert!(rt; frame_is(line.as_bytes()), "at {line}");
     }
-    Ok(())
 }
 
 #[test]
-fn external_interrupts_ask_by_edge_or_level(rt: HostRuntime) -> Result<(), Fail> {
+fn external_interrupts_ask_by_edge_or_level(rt: HostRuntime) {
     for line in EXTERNALS.lines() {
-        let row = bytes_of(rt.alloc(), line)?;
-        assert!(rt; external_is(&row));
+        assert!(rt; external_is(line.as_bytes()), "at {line}");
     }
-    Ok(())
 }
 
 // The ticks until a byte that begins at once is sent, up to 2,000; 0 where it is not.
 fn ticks_to_send(scon: u8, pcon: u8, t2con: u8) -> u16 {
-    let mut cpu = reset();
-    cpu.set_latch(SCON, scon);
-    cpu.set_latch(PCON, pcon);
-    cpu.set_latch(T2CON, t2con);
-    cpu.set_latch(TMOD, 0x20);
-    cpu.set_latch(TCON, 0x40);
-    cpu.set_latch(TH1, 0xFF);
-    cpu.set_latch(TL1, 0xFF);
-    cpu.set_latch(RCAP2H, 0xFF);
-    cpu.set_latch(RCAP2L, 0xFF);
-    cpu.set_latch(TH2, 0xFF);
-    cpu.set_latch(TL2, 0xFF);
+    let mut cpu = cpu_with(&[
+        (SCON, scon),
+        (PCON, pcon),
+        (T2CON, t2con),
+        (TMOD, 0x20),
+        (TCON, 0x40),
+        (TH1, 0xFF),
+        (TL1, 0xFF),
+        (RCAP2H, 0xFF),
+        (RCAP2L, 0xFF),
+        (TH2, 0xFF),
+        (TL2, 0xFF),
+    ]);
     let high = pins(0xFF, 0xFF);
     let mut periph = Periph::reset(&high);
     periph.begin(&cpu, 0x41);
@@ -257,34 +264,42 @@ fn ticks_to_send(scon: u8, pcon: u8, t2con: u8) -> u16 {
 
 #[test]
 fn a_byte_takes_its_bit_times_at_each_rate(rt: HostRuntime) {
-    // Timer 1 overflows in each cycle: nine bit times of 32, or with SMOD of 16; mode 3 has ten.
-    assert_eq!(rt; ticks_to_send(0x40, 0x00, 0x00), 288);
-    assert_eq!(rt; ticks_to_send(0x40, 0x80, 0x00), 144);
-    assert_eq!(rt; ticks_to_send(0xC0, 0x00, 0x00), 320);
-    assert_eq!(rt; ticks_to_send(0xC0, 0x80, 0x00), 160);
-    // Timer 2 gives the rate of sending by TCLK, where SMOD does not matter, and by RCLK only that of receiving.
-    assert_eq!(rt; ticks_to_send(0xC0, 0x00, 0x14), 27);
-    assert_eq!(rt; ticks_to_send(0xC0, 0x80, 0x14), 27);
-    assert_eq!(rt; ticks_to_send(0x40, 0x80, 0x14), 24);
-    assert_eq!(rt; ticks_to_send(0x40, 0x00, 0x24), 288);
-    // Mode 0 has eight cycles; mode 2 ten bit times of 64 periods, or with SMOD of 32, at twelve a cycle.
-    assert_eq!(rt; ticks_to_send(0x00, 0x00, 0x00), 8);
-    assert_eq!(rt; ticks_to_send(0x80, 0x00, 0x00), 54);
-    assert_eq!(rt; ticks_to_send(0x80, 0x80, 0x00), 27);
+    for (scon, pcon, t2con, ticks) in [
+        // Timer 1 overflows in each cycle: nine bit times of 32, or with SMOD of 16; mode 3 has ten.
+        (0x40, 0x00, 0x00, 288),
+        (0x40, 0x80, 0x00, 144),
+        (0xC0, 0x00, 0x00, 320),
+        (0xC0, 0x80, 0x00, 160),
+        // Timer 2 gives the rate of sending by TCLK, where SMOD does not matter, and by RCLK only that of receiving.
+        (0xC0, 0x00, 0x14, 27),
+        (0xC0, 0x80, 0x14, 27),
+        (0x40, 0x80, 0x14, 24),
+        (0x40, 0x00, 0x24, 288),
+        // Mode 0 has eight cycles; mode 2 ten bit times of 64 periods, or with SMOD of 32, at twelve a cycle.
+        (0x00, 0x00, 0x00, 8),
+        (0x80, 0x00, 0x00, 54),
+        (0x80, 0x80, 0x00, 27),
+    ] {
+        assert!(rt;
+            ticks_to_send(scon, pcon, t2con) == ticks,
+            "at SCON {scon}, PCON {pcon} and T2CON {t2con}"
+        );
+    }
 }
 
 // What is taken of two sources that ask, by the bits of the index.
 fn choice_of(index: u8) -> u8 {
-    let mut cpu = reset();
-    cpu.set_latch(TCON, 0x20);
-    cpu.set_latch(SCON, 0x01);
     let enables = (if index & 0x01 != 0 { 0x02 } else { 0 })
         | (if index & 0x02 != 0 { 0x10 } else { 0 });
     let all = if index & 0x04 != 0 { 0x80 } else { 0 };
     let priorities = (if index & 0x08 != 0 { 0x02 } else { 0 })
         | (if index & 0x10 != 0 { 0x10 } else { 0 });
-    cpu.set_latch(IE, enables | all);
-    cpu.set_latch(IP, priorities);
+    let mut cpu = cpu_with(&[
+        (TCON, 0x20),
+        (SCON, 0x01),
+        (IE, enables | all),
+        (IP, priorities),
+    ]);
     cpu.low = index & 0x20 != 0;
     match choose(&cpu) {
         None => b'-',
@@ -297,23 +312,30 @@ fn choice_of(index: u8) -> u8 {
 #[test]
 fn all_enables_and_priorities_of_two_sources(rt: HostRuntime) {
     for index in 0..64u8 {
-        assert_eq!(rt; choice_of(index), at(CHOICES, usize::from(index)));
+        let want = CHOICES.get(usize::from(index)).copied();
+        assert!(rt; want == Some(choice_of(index)), "at {index}");
     }
 }
 
-#[test]
-fn a_script_has_at_most_65_536_lines(rt: HostRuntime) -> Result<(), Fail> {
-    let mut text = Vec::new(rt.alloc());
+// A script of 65,536 lines, and this text after them.
+fn long_script(alloc: Global, end: &[u8]) -> Result<Vec<u8>, NoMemory> {
+    let mut text = Vec::new(alloc);
     for _ in 0..32_768 {
         text.extend_from_slice(b"PIN 7 P1 0F\nRX 7 41\n")?;
     }
-    let script = read_script(rt.alloc(), &text)?;
-    assert_eq!(rt; script.pins_at(7).p, [0xFF, 0x0F, 0xFF, 0xFF]);
-    assert_eq!(rt; script.frames_at(7).len(), 32_768);
-    text.push(b'\n')?;
-    match read_script(rt.alloc(), &text) {
-        Err(ScriptError::Limit) => {}
-        _ => return Err("no limit".into()),
-    }
-    Ok(())
+    text.extend_from_slice(end)?;
+    Ok(text)
+}
+
+// The levels and the number of frames in cycle 7 of that script.
+fn in_cycle_7(alloc: Global, end: &[u8]) -> Result<([u8; 4], usize), ScriptError> {
+    let text = long_script(alloc, end)?;
+    let script = read_script(alloc, &text)?;
+    Ok((script.pins_at(7).p, script.frames_at(7).len()))
+}
+
+#[test]
+fn a_script_has_at_most_65_536_lines(rt: HostRuntime) {
+    assert!(rt; in_cycle_7(rt.alloc(), b"") == Ok(([0xFF, 0x0F, 0xFF, 0xFF], 32_768)));
+    assert!(rt; in_cycle_7(rt.alloc(), b"\n") == Err(ScriptError::Limit));
 }

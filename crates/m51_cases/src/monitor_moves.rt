@@ -1,10 +1,9 @@
 //! Lists of moves over a layout with three roots, and what is live and written after each. All of it is worked by hand.
 use crate::monitor_run::{Act, Run, Spot};
-use m51_cells::{NoMemory, digit_value};
+use m51_cells::digit_value;
 use m51_flat::Source;
 use m51_monitor::Move;
 use std::alloc::Global;
-use std::test::Fail;
 
 // Each row: where a step begins, what it does, where it leads, the move, and the marks afterwards, which are of the
 // bytes 08H to 0DH, of the bits 0 to 2, and of the byte 20H. A step is call, jump, ret_, reti, low_ and high (the
@@ -139,60 +138,68 @@ fn holds(run: &mut Run, row: &[u8]) -> bool {
 }
 
 // How many rows, from the first, end as they say.
-fn followed(alloc: Global, table: &str) -> Result<usize, NoMemory> {
-    let mut run = Run::start(alloc)?;
+fn rows_held(run: &mut Run, table: &str) -> usize {
     for (place, row) in table.lines().enumerate() {
-        if !holds(&mut run, row.as_bytes()) {
-            return Ok(place);
+        if !holds(run, row.as_bytes()) {
+            return place;
         }
     }
-    Ok(table.lines().count())
+    table.lines().count()
+}
+
+// How many do from the reset on; none where there is no memory.
+fn followed(alloc: Global, table: &str) -> usize {
+    match Run::start(alloc) {
+        Ok(mut run) => rows_held(&mut run, table),
+        Err(_) => 0,
+    }
 }
 
 #[test]
-fn a_local_is_unset_at_its_second_call(rt: HostRuntime) -> Result<(), Fail> {
-    assert_eq!(rt; followed(rt.alloc(), CALLED_TWICE)?, 5);
-    Ok(())
+fn the_rows_of_each_list_end_as_they_say(rt: HostRuntime) {
+    for (table, rows, rule) in [
+        (CALLED_TWICE, 5, "a local is unset at its second call"),
+        (
+            BOTH_OF_A_JUMP,
+            5,
+            "both units of a jump are live until the return",
+        ),
+        (WITHIN_A_UNIT, 7, "calls within a unit keep its local"),
+        (
+            INTERRUPTS,
+            10,
+            "an interrupt comes inside a call inside an interrupt",
+        ),
+        (
+            AN_ARGUMENT,
+            5,
+            "an argument is kept through a call of another unit",
+        ),
+        (ONE_BYTE, 10, "bits and a byte of two units share a byte"),
+    ] {
+        let held = followed(rt.alloc(), table);
+        assert!(rt; held == rows, "{rule}: after {held} rows");
+    }
+}
+
+// The segments over the cell of the bit 0: at the reset, in the unit with the bits, and in the unit with the byte 20H;
+// none where a move there is not made.
+fn segments_over_a_cell(run: &mut Run) -> Option<[Option<u16>; 3]> {
+    let reset = run.segment_at(256);
+    let _call = run.go(spot(b'R'), Act::Call, spot(b'B'))?;
+    let bits = run.segment_at(256);
+    let _return = run.go(spot(b'B'), Act::Ret, spot(b'R'))?;
+    let _call = run.go(spot(b'R'), Act::Call, spot(b'D'))?;
+    Some([reset, bits, run.segment_at(256)])
+}
+
+// Those of a run from the reset on.
+fn live_over_a_cell(alloc: Global) -> Option<[Option<u16>; 3]> {
+    let mut run = Run::start(alloc).ok()?;
+    segments_over_a_cell(&mut run)
 }
 
 #[test]
-fn both_units_of_a_jump_are_live_until_the_return(rt: HostRuntime) -> Result<(), Fail> {
-    assert_eq!(rt; followed(rt.alloc(), BOTH_OF_A_JUMP)?, 5);
-    Ok(())
-}
-
-#[test]
-fn calls_within_a_unit_keep_its_local(rt: HostRuntime) -> Result<(), Fail> {
-    assert_eq!(rt; followed(rt.alloc(), WITHIN_A_UNIT)?, 7);
-    Ok(())
-}
-
-#[test]
-fn an_interrupt_comes_inside_a_call_inside_an_interrupt(rt: HostRuntime) -> Result<(), Fail> {
-    assert_eq!(rt; followed(rt.alloc(), INTERRUPTS)?, 10);
-    Ok(())
-}
-
-#[test]
-fn an_argument_is_kept_through_a_call_of_another_unit(rt: HostRuntime) -> Result<(), Fail> {
-    assert_eq!(rt; followed(rt.alloc(), AN_ARGUMENT)?, 5);
-    Ok(())
-}
-
-#[test]
-fn bits_and_a_byte_of_two_units_share_a_byte(rt: HostRuntime) -> Result<(), Fail> {
-    assert_eq!(rt; followed(rt.alloc(), ONE_BYTE)?, 10);
-    Ok(())
-}
-
-#[test]
-fn of_two_segments_on_a_cell_the_live_one_answers(rt: HostRuntime) -> Result<(), Fail> {
-    let mut run = Run::start(rt.alloc())?;
-    assert_eq!(rt; run.segment_at(256), None);
-    assert!(rt; run.go(spot(b'R'), Act::Call, spot(b'B')).is_some());
-    assert_eq!(rt; run.segment_at(256), Some(9));
-    assert!(rt; run.go(spot(b'B'), Act::Ret, spot(b'R')).is_some());
-    assert!(rt; run.go(spot(b'R'), Act::Call, spot(b'D')).is_some());
-    assert_eq!(rt; run.segment_at(256), Some(8));
-    Ok(())
+fn of_two_segments_on_a_cell_the_live_one_answers(rt: HostRuntime) {
+    assert!(rt; live_over_a_cell(rt.alloc()) == Some([None, Some(9), Some(8)]));
 }

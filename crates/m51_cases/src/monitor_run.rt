@@ -1,5 +1,5 @@
 //! A monitor and the moves that it is put through.
-ghost use Rattle.std.specs.Prelude.{◌≡◌, ◌≤◌, ℕ, true};
+ghost use Rattle.std.specs.Prelude.{◌≡◌, ◌<◌, ◌≤◌, ℕ, true};
 ghost use Rattle.m51_monitor.specs.Monitored.{HasAddress, HasLevel, Monitored, WasJudged};
 ghost use Rattle.m51_monitor.specs.Rising.{interrupts};
 ghost use Rattle.m51_monitor.specs.Transfers.{moved};
@@ -190,21 +190,32 @@ impl Run {
         self.make(from, &act.effect(from, to))
     }
 
+    // What a byte of internal RAM holds, as a mark.
+    fn byte_mark(&self, address: u8) -> u8 {
+        mark(self.monitor.store().byte(address))
+    }
+
+    // What a bit of internal RAM holds, as a mark.
+    fn bit_mark(&self, address: u8) -> u8
+        requires { address < 128 }
+    {
+        mark(self.monitor.store().bit(address))
+    }
+
     /// What the bytes 08H to 0DH, the bits 0 to 2 and the byte 20H hold: `.` is outside, `?` unset, and a digit a
     /// value.
     pub(crate) fn marks(&self) -> [u8; 10] {
-        let store = self.monitor.store();
         [
-            mark(store.byte(0x08)),
-            mark(store.byte(0x09)),
-            mark(store.byte(0x0A)),
-            mark(store.byte(0x0B)),
-            mark(store.byte(0x0C)),
-            mark(store.byte(0x0D)),
-            mark(store.bit(0)),
-            mark(store.bit(1)),
-            mark(store.bit(2)),
-            mark(store.byte(0x20)),
+            self.byte_mark(0x08),
+            self.byte_mark(0x09),
+            self.byte_mark(0x0A),
+            self.byte_mark(0x0B),
+            self.byte_mark(0x0C),
+            self.byte_mark(0x0D),
+            self.bit_mark(0),
+            self.bit_mark(1),
+            self.bit_mark(2),
+            self.byte_mark(0x20),
         ]
     }
 

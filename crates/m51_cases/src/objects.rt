@@ -1,11 +1,11 @@
 //! From the bytes of objects and a file of control lines to a graph. The bytes were put together apart from the code.
+use m51_cells::{Name, NoMemory};
 use m51_control::read_controls;
 use m51_graph::{Graph, graph};
 use m51_module::{Module, Refusal};
 use m51_records::read_module;
 use m51_resolve::{Joined, resolve};
 use std::alloc::Global;
-use std::test::Fail;
 
 // The reset and the interrupt at 000BH call ?PR?H, which has a local in DATA.
 //     ?PR?H SEGMENT CODE
@@ -213,7 +213,7 @@ fn digit(byte: u8) -> u8 {
 }
 
 // The bytes that the digits write.
-fn bytes_of(alloc: Global, digits: &[u8]) -> Result<Vec<u8>, Fail> {
+fn bytes_of(alloc: Global, digits: &[u8]) -> Result<Vec<u8>, NoMemory> {
     let mut bytes = Vec::new(alloc);
     for pair in digits.chunks_exact(2) {
         bytes.push(digit(pair[0]).wrapping_mul(16).wrapping_add(digit(pair[1])))?;
@@ -221,92 +221,118 @@ fn bytes_of(alloc: Global, digits: &[u8]) -> Result<Vec<u8>, Fail> {
     Ok(bytes)
 }
 
-// The module of these bytes.
-fn module_of(alloc: Global, bytes: &[u8]) -> Result<Module, Fail> {
+// The module of these bytes, where they are an object.
+fn module_of(alloc: Global, bytes: &[u8]) -> Option<Module> {
     if bytes.len() > 1000 {
-        return Err(Fail::from("too many bytes"));
+        return None;
     }
     match read_module(alloc, bytes) {
-        Ok((module, _len)) => Ok(module),
-        Err(_) => Err(Fail::from("no object")),
+        Ok((module, _len)) => Some(module),
+        Err(_) => None,
     }
 }
 
-// The joined modules of these objects.
-fn joined_of(alloc: Global, objects: &[&str]) -> Result<Joined, Fail> {
+// The modules of these objects, where each is one.
+fn modules_of(alloc: Global, objects: &[&str]) -> Option<Vec<Module>> {
     let mut modules = Vec::new(alloc);
     for digits in objects {
-        let bytes = bytes_of(alloc, digits.as_bytes())?;
-        modules.push(module_of(alloc, &bytes)?)?;
+        let bytes = bytes_of(alloc, digits.as_bytes()).ok()?;
+        modules.push(module_of(alloc, &bytes)?).ok()?;
     }
-    match resolve(alloc, modules, &[]) {
-        Ok(joined) => Ok(joined),
-        Err(_) => Err(Fail::from("not joined")),
-    }
+    Some(modules)
 }
 
-// The graph of these objects and control lines.
-fn graph_of(alloc: Global, objects: &[&str], lines: &[u8]) -> Result<Result<Graph, Refusal>, Fail> {
+// The joined modules of these objects, where they are joined.
+fn joined_of(alloc: Global, objects: &[&str]) -> Option<Joined> {
+    let modules = modules_of(alloc, objects)?;
+    resolve(alloc, modules, &[]).ok()
+}
+
+// The graph of these objects and control lines, or why it is refused, where objects are joined and lines are read.
+fn graph_of(alloc: Global, objects: &[&str], lines: &str) -> Option<Result<Graph, Refusal>> {
     let joined = joined_of(alloc, objects)?;
-    match read_controls(alloc, lines) {
-        Ok(controls) => Ok(graph(alloc, &joined, &controls)),
-        Err(_) => Err(Fail::from("no control lines")),
+    let controls = read_controls(alloc, lines.as_bytes()).ok()?;
+    Some(graph(alloc, &joined, &controls))
+}
+
+// That graph, where it is not refused.
+fn drawn(alloc: Global, objects: &[&str], lines: &str) -> Option<Graph> {
+    graph_of(alloc, objects, lines)?.ok()
+}
+
+// Why that graph is refused, where it is.
+fn refused(alloc: Global, objects: &[&str], lines: &str) -> Option<Refusal> {
+    graph_of(alloc, objects, lines)?.err()
+}
+
+// Whether there is a graph of this object.
+fn is_drawn(alloc: Global, object: &str, lines: &str) -> bool {
+    drawn(alloc, &[object], lines).is_some()
+}
+
+// Whether the text is these names, one after another.
+fn spells(text: &[u8], names: &[Name]) -> bool {
+    let mut rest = text;
+    for name in names {
+        match rest.strip_prefix(name.bytes()) {
+            Some(after) => rest = after,
+            None => return false,
+        }
+    }
+    rest.is_empty()
+}
+
+// Whether the refusal has these names.
+fn has_names(refusal: &Refusal, want: &[u8]) -> bool {
+    match refusal {
+        Refusal::L10 { units } => spells(want, units.as_slice()),
+        Refusal::L6 { name } => spells(want, &[*name]),
+        Refusal::L11 { unit, one, two } => spells(want, &[*unit, *one, *two]),
+        _ => false,
     }
 }
 
-// The names that the refusal has.
-fn names_of(alloc: Global, answer: &Result<Graph, Refusal>) -> Result<Vec<u8>, Fail> {
-    let mut names = Vec::new(alloc);
-    match answer {
-        Err(Refusal::L10 { units }) => {
-            for unit in units.as_slice() {
-                names.extend_from_slice(unit.bytes())?;
-            }
-        }
-        Err(Refusal::L6 { name }) => names.extend_from_slice(name.bytes())?,
-        Err(Refusal::L11 { unit, one, two }) => {
-            for name in [unit, one, two] {
-                names.extend_from_slice(name.bytes())?;
-            }
-        }
-        _ => {}
+// Whether the graph of an object is refused with these names.
+fn is_refused(alloc: Global, object: &str, names: &[u8]) -> bool {
+    match refused(alloc, &[object], "") {
+        Some(refusal) => has_names(&refusal, names),
+        None => false,
     }
-    Ok(names)
 }
 
 #[test]
-fn a_helper_under_two_roots_may_have_no_local(rt: HostRuntime) -> Result<(), Fail> {
-    let refused = graph_of(rt.alloc(), &[HELPER_WITH_LOCAL], b"")?;
-    let names = names_of(rt.alloc(), &refused)?;
-    assert_eq!(rt; names.as_slice(), b"?PR?H@0000@000B".as_slice());
-    Ok(())
+fn a_refusal_has_the_names_of_its_units_or_segment(rt: HostRuntime) {
+    for (object, names, rule) in [
+        (
+            HELPER_WITH_LOCAL,
+            b"?PR?H@0000@000B".as_slice(),
+            "a helper under two roots may have no local",
+        ),
+        (TABLE, b"?PR?U?CO?T", "a table of addresses makes a cycle"),
+        (
+            HELPER_WITH_ARGUMENT,
+            b"?PR?H@0000@000B",
+            "a helper under two roots may have no argument segment",
+        ),
+        (UNMARKED, b"?AG?H", "an argument segment needs its mark"),
+        (STRAY, b"?DT?X", "a local needs its unit"),
+    ] {
+        assert!(rt; is_refused(rt.alloc(), object, names), "{rule}");
+    }
 }
 
 #[test]
-fn a_helper_without_a_local_lies_under_two_roots(rt: HostRuntime) -> Result<(), Fail> {
-    assert!(rt; graph_of(rt.alloc(), &[HELPER_ALONE], b"")?.is_ok());
-    Ok(())
+fn a_helper_without_a_local_lies_under_two_roots(rt: HostRuntime) {
+    assert!(rt; is_drawn(rt.alloc(), HELPER_ALONE, ""));
 }
 
 #[test]
-fn a_table_of_addresses_makes_a_cycle(rt: HostRuntime) -> Result<(), Fail> {
-    let refused = graph_of(rt.alloc(), &[TABLE], b"")?;
-    let names = names_of(rt.alloc(), &refused)?;
-    assert_eq!(rt; names.as_slice(), b"?PR?U?CO?T".as_slice());
-    Ok(())
-}
-
-#[test]
-fn a_cut_edge_makes_no_cycle(rt: HostRuntime) -> Result<(), Fail> {
-    assert!(rt; graph_of(rt.alloc(), &[TABLE], b"OVERLAY(?CO?T ~ ?PR?U)\n")?.is_ok());
-    Ok(())
+fn a_cut_edge_makes_no_cycle(rt: HostRuntime) {
+    assert!(rt; is_drawn(rt.alloc(), TABLE, "OVERLAY(?CO?T ~ ?PR?U)\n"));
 }
 
 // Whether the first unit reaches the second, where both are there.
-fn reach(answer: &Result<Graph, Refusal>, from: u16, to: u16) -> Option<bool> {
-    let Ok(graph) = answer else {
-        return None;
-    };
+fn reach(graph: &Graph, from: u16, to: u16) -> Option<bool> {
     let count = graph.parts().units.len();
     if usize::from(from) >= count || usize::from(to) >= count {
         return None;
@@ -314,20 +340,20 @@ fn reach(answer: &Result<Graph, Refusal>, from: u16, to: u16) -> Option<bool> {
     Some(graph.reaches(from, to))
 }
 
+// Whether the reset of the computed jump reaches its target with these control lines.
+fn reset_reaches(alloc: Global, lines: &str) -> Option<bool> {
+    let graph = drawn(alloc, &[COMPUTED], lines)?;
+    reach(&graph, 0, 1)
+}
+
 #[test]
-fn a_computed_jump_is_an_edge_where_a_line_adds_it(rt: HostRuntime) -> Result<(), Fail> {
-    let plain = graph_of(rt.alloc(), &[COMPUTED], b"")?;
-    assert_eq!(rt; reach(&plain, 0, 1), Some(false));
-    let added = graph_of(rt.alloc(), &[COMPUTED], b"OVERLAY(@0000 > @0100)")?;
-    assert_eq!(rt; reach(&added, 0, 1), Some(true));
-    Ok(())
+fn a_computed_jump_is_an_edge_where_a_line_adds_it(rt: HostRuntime) {
+    assert!(rt; reset_reaches(rt.alloc(), "") == Some(false));
+    assert!(rt; reset_reaches(rt.alloc(), "OVERLAY(@0000 > @0100)") == Some(true));
 }
 
 // Whether the two joined segments must not share a cell, where both are there and different.
-fn clash(answer: &Result<Graph, Refusal>, one: u16, two: u16) -> Option<bool> {
-    let Ok(graph) = answer else {
-        return None;
-    };
+fn clash(graph: &Graph, one: u16, two: u16) -> Option<bool> {
     let count = graph.parts().own.len();
     if usize::from(one) >= count || usize::from(two) >= count || one == two {
         return None;
@@ -335,93 +361,91 @@ fn clash(answer: &Result<Graph, Refusal>, one: u16, two: u16) -> Option<bool> {
     Some(graph.conflict(one, two))
 }
 
-#[test]
-fn locals_of_siblings_share_cells_and_those_of_a_callee_do_not(
-    rt: HostRuntime,
-) -> Result<(), Fail> {
-    let siblings = graph_of(rt.alloc(), &[MAIN, SIBLINGS], b"")?;
-    assert_eq!(rt; clash(&siblings, 3, 4), Some(false));
-    assert_eq!(rt; clash(&siblings, 0, 4), Some(true));
-    let called = graph_of(rt.alloc(), &[MAIN, SIBLINGS], b"overlay(?pr?f > ?pr?g)")?;
-    assert_eq!(rt; clash(&called, 3, 4), Some(true));
-    Ok(())
+// Whether two segments of the siblings must not share a cell with these control lines.
+fn siblings_clash(alloc: Global, lines: &str, one: u16, two: u16) -> Option<bool> {
+    let graph = drawn(alloc, &[MAIN, SIBLINGS], lines)?;
+    clash(&graph, one, two)
 }
 
-// The owners of an argument segment, its own unit first.
-fn owners_of(
-    alloc: Global,
-    answer: &Result<Graph, Refusal>,
-    segment: u16,
-) -> Result<Vec<u16>, Fail> {
-    let mut owners = Vec::new(alloc);
-    let Ok(graph) = answer else {
-        return Ok(owners);
-    };
+#[test]
+fn locals_of_siblings_share_cells_and_those_of_a_callee_do_not(rt: HostRuntime) {
+    for (lines, one, two, want) in [
+        ("", 3, 4, false),
+        ("", 0, 4, true),
+        ("overlay(?pr?f > ?pr?g)", 3, 4, true),
+    ] {
+        assert!(rt;
+            siblings_clash(rt.alloc(), lines, one, two) == Some(want),
+            "of {one} and {two} with '{lines}'"
+        );
+    }
+}
+
+// Whether these are the owners of an argument segment, its own unit first.
+fn has_owners(graph: &Graph, segment: u16, want: &[u16]) -> bool {
     if usize::from(segment) >= graph.parts().own.len() {
-        return Ok(owners);
+        return false;
     }
     let Some(own) = graph.owner(segment) else {
-        return Ok(owners);
+        return false;
     };
-    owners.push(own)?;
+    let mut rest = match want.split_first() {
+        Some((first, callers)) if *first == own => callers,
+        _ => return false,
+    };
     for unit in 0..graph.parts().units.len() {
         if graph.edge(unit as u16, own) {
-            owners.push(unit as u16)?;
+            match rest.strip_prefix(&[unit as u16]) {
+                Some(after) => rest = after,
+                None => return false,
+            }
         }
     }
-    Ok(owners)
+    rest.is_empty()
+}
+
+// Whether these are the owners of the argument segment of the two callers.
+fn are_owners(alloc: Global, want: &[u16]) -> bool {
+    match drawn(alloc, &[TWO_CALLERS], "") {
+        Some(graph) => has_owners(&graph, 4, want),
+        None => false,
+    }
+}
+
+// Whether the argument segment of the two callers and this segment must not share a cell.
+fn argument_clashes(alloc: Global, segment: u16) -> Option<bool> {
+    let graph = drawn(alloc, &[TWO_CALLERS], "")?;
+    clash(&graph, 4, segment)
 }
 
 #[test]
-fn callers_own_the_argument_segment(rt: HostRuntime) -> Result<(), Fail> {
-    let answer = graph_of(rt.alloc(), &[TWO_CALLERS], b"")?;
-    let owners = owners_of(rt.alloc(), &answer, 4)?;
-    assert_eq!(rt; owners.as_slice(), [2, 0, 1].as_slice());
-    assert_eq!(rt; clash(&answer, 4, 6), Some(true));
-    assert_eq!(rt; clash(&answer, 4, 7), Some(false));
-    Ok(())
+fn callers_own_the_argument_segment(rt: HostRuntime) {
+    assert!(rt; are_owners(rt.alloc(), &[2, 0, 1]));
+    assert!(rt; argument_clashes(rt.alloc(), 6) == Some(true));
+    assert!(rt; argument_clashes(rt.alloc(), 7) == Some(false));
 }
 
-#[test]
-fn a_helper_under_two_roots_may_have_no_argument_segment(rt: HostRuntime) -> Result<(), Fail> {
-    let refused = graph_of(rt.alloc(), &[HELPER_WITH_ARGUMENT], b"")?;
-    let names = names_of(rt.alloc(), &refused)?;
-    assert_eq!(rt; names.as_slice(), b"?PR?H@0000@000B".as_slice());
-    Ok(())
-}
-
-#[test]
-fn an_argument_segment_needs_its_mark(rt: HostRuntime) -> Result<(), Fail> {
-    let refused = graph_of(rt.alloc(), &[UNMARKED], b"")?;
-    let names = names_of(rt.alloc(), &refused)?;
-    assert_eq!(rt; names.as_slice(), b"?AG?H".as_slice());
-    Ok(())
-}
-
-#[test]
-fn a_local_needs_its_unit(rt: HostRuntime) -> Result<(), Fail> {
-    let refused = graph_of(rt.alloc(), &[STRAY], b"")?;
-    let names = names_of(rt.alloc(), &refused)?;
-    assert_eq!(rt; names.as_slice(), b"?DT?X".as_slice());
-    Ok(())
-}
-
-// The line that L7 names, if it comes; 0 for L8.
-fn line_of(answer: &Result<Graph, Refusal>) -> Option<u32> {
-    match answer {
-        Err(Refusal::L7 { line }) => Some(*line),
-        Err(Refusal::L8) => Some(0),
+// The line that L7 names; 0 for L8.
+fn line_of(refusal: &Refusal) -> Option<u32> {
+    match refusal {
+        Refusal::L7 { line } => Some(*line),
+        Refusal::L8 => Some(0),
         _ => None,
     }
 }
 
+// That of the refusal of a graph, if it comes.
+fn refused_line(alloc: Global, objects: &[&str], lines: &str) -> Option<u32> {
+    let refusal = refused(alloc, objects, lines)?;
+    line_of(&refusal)
+}
+
 #[test]
-fn a_line_that_does_not_fit_comes_before_a_missing_reset(rt: HostRuntime) -> Result<(), Fail> {
-    let absent = graph_of(rt.alloc(), &[MAIN, SIBLINGS], b"; none\nNOOVERLAY(?PR?X)")?;
-    assert_eq!(rt; line_of(&absent), Some(2));
-    let itself = graph_of(rt.alloc(), &[SIBLINGS], b"OVERLAY(?PR?F > ?PR?F)")?;
-    assert_eq!(rt; line_of(&itself), Some(1));
-    let headless = graph_of(rt.alloc(), &[SIBLINGS], b"OVERLAY(?PR?F > ?PR?G)")?;
-    assert_eq!(rt; line_of(&headless), Some(0));
-    Ok(())
+fn a_line_that_does_not_fit_comes_before_a_missing_reset(rt: HostRuntime) {
+    let absent = refused_line(rt.alloc(), &[MAIN, SIBLINGS], "; none\nNOOVERLAY(?PR?X)");
+    assert!(rt; absent == Some(2));
+    let itself = refused_line(rt.alloc(), &[SIBLINGS], "OVERLAY(?PR?F > ?PR?F)");
+    assert!(rt; itself == Some(1));
+    let headless = refused_line(rt.alloc(), &[SIBLINGS], "OVERLAY(?PR?F > ?PR?G)");
+    assert!(rt; headless == Some(0));
 }

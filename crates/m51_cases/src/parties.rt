@@ -2,10 +2,9 @@
 use m51_cells::{Bytes, NoMemory};
 use m51_chain::{MemSink, Status, SureShelf, chain};
 use std::alloc::Global;
-use std::test::Fail;
 
 // The words of a text, with blanks between them.
-fn words_in(alloc: Global, text: &str) -> Result<Vec<String>, Fail> {
+fn words_in(alloc: Global, text: &str) -> Result<Vec<String>, NoMemory> {
     let mut words = Vec::new(alloc);
     for word in text.split(' ') {
         words.push(String::from_str(alloc, word)?)?;
@@ -13,6 +12,7 @@ fn words_in(alloc: Global, text: &str) -> Result<Vec<String>, Fail> {
     Ok(words)
 }
 
+// The bytes of a text.
 fn bytes_of(alloc: Global, text: &str) -> Result<Bytes, NoMemory> {
     Ok(Bytes::of(text.as_bytes().to_vec(alloc)?))
 }
@@ -25,11 +25,28 @@ fn shelf(alloc: Global, first: &str, second: &str) -> Result<SureShelf, NoMemory
     Ok(SureShelf::make(files))
 }
 
-// What a party of two sources writes to this sink, and its status.
-fn party(alloc: Global, first: &str, second: &str, out: &mut MemSink) -> Result<Status, Fail> {
+// The status of a call with these words.
+fn call(alloc: Global, words: &[String], mut files: SureShelf, out: &mut MemSink) -> Status {
+    chain(alloc, words, &mut files, out)
+}
+
+// The status of a party of two sources that writes to this sink.
+fn party(alloc: Global, first: &str, second: &str, out: &mut MemSink) -> Result<Status, NoMemory> {
     let words = words_in(alloc, "party --steps 40 a.a51 b.a51")?;
-    let mut files = shelf(alloc, first, second)?;
-    Ok(chain(alloc, &words, &mut files, out))
+    let files = shelf(alloc, first, second)?;
+    Ok(call(alloc, &words, files, out))
+}
+
+// The status of a party of two sources, and whether it writes this text.
+fn answer(
+    alloc: Global,
+    first: &str,
+    second: &str,
+    want: &[u8],
+) -> Result<(Status, bool), NoMemory> {
+    let mut out = MemSink::make(alloc, Vec::new(alloc), 1_000)?;
+    let status = party(alloc, first, second, &mut out)?;
+    Ok((status, out.text() == want))
 }
 
 // Sends 41H with a ninth bit.
@@ -45,47 +62,34 @@ const STOPS: &str = "CSEG AT 0\nDB 0A5H\nEND\n";
 const NO_RESET: &str = "END\n";
 
 #[test]
-fn one_board_receives_what_the_other_sends(rt: HostRuntime) -> Result<(), Fail> {
-    let alloc = rt.alloc();
-    let mut out = MemSink::make(alloc, Vec::new(alloc), 1_000)?;
-    let status = party(alloc, SENDS, RECEIVES, &mut out)?;
-    assert_eq!(rt; status, Status::Ran);
-    assert_eq!(rt;
-        out.text(),
-        b"PARTY 2\n1: 56 TX 41 1\n2: 62 P1 41\n1: END 40 STEPS 80 CYCLES\n2: END 40 STEPS 80 CYCLES\n".as_slice()
-    );
-    Ok(())
+fn one_board_receives_what_the_other_sends(rt: HostRuntime) {
+    let want =
+        b"PARTY 2\n1: 56 TX 41 1\n2: 62 P1 41\n1: END 40 STEPS 80 CYCLES\n2: END 40 STEPS 80 CYCLES\n";
+    assert!(rt; answer(rt.alloc(), SENDS, RECEIVES, want) == Ok((Status::Ran, true)));
 }
 
 #[test]
-fn the_second_board_has_an_event(rt: HostRuntime) -> Result<(), Fail> {
-    let alloc = rt.alloc();
-    let mut out = MemSink::make(alloc, Vec::new(alloc), 1_000)?;
-    let status = party(alloc, SENDS, STOPS, &mut out)?;
-    assert_eq!(rt; status, Status::Event);
-    assert_eq!(rt;
-        out.text(),
-        b"PARTY 2\n1: 56 TX 41 1\n1: END 40 STEPS 80 CYCLES\n2: EVENT V4 AT 0000 AFTER 0 STEPS 0 CYCLES\n".as_slice()
-    );
-    Ok(())
+fn the_second_board_has_an_event(rt: HostRuntime) {
+    let want =
+        b"PARTY 2\n1: 56 TX 41 1\n1: END 40 STEPS 80 CYCLES\n2: EVENT V4 AT 0000 AFTER 0 STEPS 0 CYCLES\n";
+    assert!(rt; answer(rt.alloc(), SENDS, STOPS, want) == Ok((Status::Event, true)));
 }
 
 #[test]
-fn the_second_program_is_not_linked(rt: HostRuntime) -> Result<(), Fail> {
-    let alloc = rt.alloc();
-    let mut out = MemSink::make(alloc, Vec::new(alloc), 1_000)?;
-    let status = party(alloc, SENDS, NO_RESET, &mut out)?;
-    assert_eq!(rt; status, Status::Link);
-    assert_eq!(rt; out.text(), b"LINK L8\n".as_slice());
-    Ok(())
+fn the_second_program_is_not_linked(rt: HostRuntime) {
+    let want = b"LINK L8\n";
+    assert!(rt; answer(rt.alloc(), SENDS, NO_RESET, want) == Ok((Status::Link, true)));
 }
 
-#[test]
-fn the_sink_has_no_room_for_the_second_line(rt: HostRuntime) -> Result<(), Fail> {
-    let alloc = rt.alloc();
+// The status of a party whose sink has no room for its second line, and whether this begins with what is written.
+fn answer_in_10_bytes(alloc: Global, want: &[u8]) -> Result<(Status, bool), NoMemory> {
     let mut out = MemSink::make(alloc, Vec::new(alloc), 10)?;
     let status = party(alloc, SENDS, RECEIVES, &mut out)?;
-    assert_eq!(rt; status, Status::WriteFault);
-    assert!(rt; b"PARTY 2\n1: 56 TX 41 1\n".starts_with(out.text()));
-    Ok(())
+    Ok((status, want.starts_with(out.text())))
+}
+
+#[test]
+fn the_sink_has_no_room_for_the_second_line(rt: HostRuntime) {
+    let want = b"PARTY 2\n1: 56 TX 41 1\n";
+    assert!(rt; answer_in_10_bytes(rt.alloc(), want) == Ok((Status::WriteFault, true)));
 }

@@ -331,7 +331,9 @@ fn long_script(alloc: Global, end: &[u8]) -> Result<Vec<u8>, NoMemory> {
 fn in_cycle_7(alloc: Global, end: &[u8]) -> Result<([u8; 4], usize), ScriptError> {
     let text = long_script(alloc, end)?;
     let script = read_script(alloc, &text)?;
-    Ok((script.pins_at(7).p, script.frames_at(7).len()))
+    let pins = script.pins_at(7);
+    let levels = pins.p;
+    Ok((levels, script.frames_at(7).len()))
 }
 
 #[test]

@@ -68,11 +68,9 @@ fn frames_arrive_in_the_order_of_their_lines(rt: HostRuntime) {
 // The fill of a plain script, and in the cycle 5 the levels of its pins and how many frames it has.
 fn plain(alloc: Global) -> Result<(u8, [u8; 4], usize), NoMemory> {
     let script = Script::plain(alloc)?;
-    Ok((
-        script.fill(),
-        script.pins_at(5).p,
-        script.frames_at(5).len(),
-    ))
+    let pins = script.pins_at(5);
+    let levels = pins.p;
+    Ok((script.fill(), levels, script.frames_at(5).len()))
 }
 
 #[test]

@@ -16,7 +16,10 @@ fn length_of_mov(operands: &[Operand]) -> Option<u8> {
 fn bytes_of_mov(operands: &[Operand]) -> Result<([u8; 3], u8), u8> {
     let mov = Name::of(b"MOV").ok_or(0u8)?;
     match code(&STATEMENT, &mov, operands, Jump::Long).coded {
-        Ok(coded) => Ok((coded.code.bytes, coded.code.len)),
+        Ok(coded) => {
+            let bytes = coded.code.bytes;
+            Ok((bytes, coded.code.len))
+        }
         Err(error) => Err(error.number),
     }
 }

@@ -12,27 +12,33 @@ fn words_in(alloc: Global, text: &str) -> Result<Vec<String>, NoMemory> {
     Ok(words)
 }
 
-// The verb that words ask for, or why they ask for none.
-fn verb_of(alloc: Global, words: &[String]) -> &'static str {
-    match job_of(alloc, words) {
-        Ok(Job::Build(_)) => "build",
-        Ok(Job::Asm(_)) => "asm",
-        Ok(Job::Library(_)) => "lib",
-        Ok(Job::Flat(_)) => "flat",
-        Ok(Job::Gen(_)) => "gen",
-        Ok(Job::Dis(_)) => "dis",
-        Ok(Job::Stack(_)) => "stack",
-        Ok(Job::Party(_)) => "party",
-        Err(WordsError::Usage) => "usage",
-        Err(WordsError::Memory) => "memory",
+// The verb of a job.
+fn verb_of(job: &Job) -> &'static str {
+    match job {
+        Job::Build(_) => "build",
+        Job::Asm(_) => "asm",
+        Job::Library(_) => "lib",
+        Job::Flat(_) => "flat",
+        Job::Gen(_) => "gen",
+        Job::Dis(_) => "dis",
+        Job::Stack(_) => "stack",
+        Job::Party(_) => "party",
     }
 }
 
-// That of the words of a text.
+// What the words of a text ask for.
+fn asked(alloc: Global, text: &str) -> Result<Job, WordsError> {
+    let words = words_in(alloc, text)?;
+    job_of(alloc, &words)
+}
+
+// The verb that a text asks for, or why it asks for none.
 fn answer_to(alloc: Global, text: &str) -> &'static str {
-    match words_in(alloc, text) {
-        Ok(words) => verb_of(alloc, &words),
-        Err(NoMemory) => "memory",
+    let asked = asked(alloc, text);
+    match &asked {
+        Ok(job) => verb_of(job),
+        Err(WordsError::Usage) => "usage",
+        Err(WordsError::Memory) => "memory",
     }
 }
 

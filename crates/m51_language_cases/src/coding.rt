@@ -24,7 +24,7 @@ fn bytes_of_mov(operands: &[Operand]) -> Result<([u8; 3], u8), u8> {
     }
 }
 
-// The lengths of MOV A,AB and of MOV A,R8.
+// The lengths of MOV A,AB, and of MOV with A and a register 8, which is not there.
 fn lengths_without_row() -> [Option<u8>; 2] {
     [
         length_of_mov(&[Operand::A, Operand::Ab]),

@@ -56,7 +56,7 @@ fn push_segment(text: &mut Vec<u8>, placed: &Placed) -> Result<(), NoMemory>
 }
 
 /// Appends the lines of the placed extents.
-pub(crate) fn push_segments(text: &mut Vec<u8>, placed: &[Placed]) -> Result<(), NoMemory>
+fn push_segments(text: &mut Vec<u8>, placed: &[Placed]) -> Result<(), NoMemory>
     ensures { OnOk result (text.new.items ≡ text.old.items ++ flat_map segment_line placed.now) }
 {
     for extent in placed {
@@ -67,7 +67,7 @@ pub(crate) fn push_segments(text: &mut Vec<u8>, placed: &[Placed]) -> Result<(),
 
 /// Appends the line of a unit.
 #[tactic(auto, unfolding(crate::specs::Map::unit_line))]
-pub(crate) fn push_unit_line(
+fn push_unit_line(
     text: &mut Vec<u8>,
     alloc: Global,
     title: &Name,
@@ -127,7 +127,7 @@ fn push_units(
 
 /// Appends the line of a chain.
 #[tactic(auto, unfolding(crate::specs::Map::chain_line))]
-pub(crate) fn push_chain_line(
+fn push_chain_line(
     text: &mut Vec<u8>,
     root: &Name,
     bytes: u32,

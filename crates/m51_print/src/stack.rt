@@ -48,12 +48,7 @@ fn push_path(text: &mut Vec<u8>, path: &[Start]) -> Result<(), NoMemory>
 
 /// Appends the line of a procedure.
 #[tactic(auto, unfolding(crate::specs::Stack::proc_line))]
-pub(crate) fn push_proc_line(
-    text: &mut Vec<u8>,
-    at: u16,
-    unit: &Name,
-    depth: u16,
-) -> Result<(), NoMemory>
+fn push_proc_line(text: &mut Vec<u8>, at: u16, unit: &Name, depth: u16) -> Result<(), NoMemory>
     ensures { OnOk result (text.new.items ≡ text.old.items ++ proc_line at unit.now depth) }
 {
     push_text(text, b"PROC ")?;
@@ -78,7 +73,7 @@ fn push_procs(text: &mut Vec<u8>, layout: &Layout, procs: &[Proc]) -> Result<(),
 
 /// Appends the line of a root.
 #[tactic(auto, unfolding(crate::specs::Stack::root_line))]
-pub(crate) fn push_root_line(
+fn push_root_line(
     text: &mut Vec<u8>,
     root: &Name,
     depth: u16,

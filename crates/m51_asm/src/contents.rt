@@ -18,7 +18,7 @@ use crate::stepping::LinePlace;
 use crate::valuation::Values;
 use crate::values_at::take_set;
 use m51_cells::{ListOf, NoMemory};
-use m51_content::{Content, LineContent, line_content, place_of, row_of};
+use m51_content::{Content, line_content, place_of, row_of};
 use m51_module::{Faults, Publics, Row, Rows};
 use m51_text::Line;
 use std::alloc::Global;
@@ -71,62 +71,37 @@ fn nothing_given(alloc: Global) -> Contents
     }
 }
 
-// What is kept with a line more.
+// What a line gives, after what the lines above it give.
 fn give_line(
     alloc: Global,
     text: &PlacedText<'_>,
     line: &Line,
     place: &LinePlace,
-    before: Contents,
-) -> Result<Contents, NoMemory>
-    ensures { IfOk result (λ after. (lines : List LineTree) (a : Assignment) (k : ℕ) → IsReady lines a text.now
+    contents: &mut Contents,
+) -> Result<(), NoMemory>
+    ensures { OnOk result ((lines : List LineTree) (a : Assignment) (k : ℕ) → IsReady lines a text.now
         → slice_get lines k ≡ Some (line_tree line.now) → IsPlaceOf lines a k place.now
-        → IsGivenTo lines a k before → IsGivenTo lines a (suc k) after) }
+        → IsGivenTo lines a k contents.old → IsGivenTo lines a (suc k) contents.new) }
 {
-    let Contents {
-        set: values,
-        made: before_line,
-        faults: above,
-        publics: public,
-        rows: listed,
-        given: all,
-    } = before;
-    let mut set = values;
-    let mut faults = above;
-    let mut publics = public;
-    let mut rows = listed;
-    let mut given = all;
-    let named = text.text;
-    let end = text.end;
     let here = here_of(place.segment, place.offset);
     let names = names_of(
-        named.names,
-        &end.values,
-        &set,
+        text.text.names,
+        &text.end.values,
+        &contents.set,
         text.numbering,
-        named.mod51,
+        text.text.mod51,
         place.bank,
         here,
     );
-    let told = line_content(alloc, &names, place.form, &line.stmt.body, before_line)?;
-    let unpublished = publish(text, &names, &mut publics, publics_in(&line.stmt.body))?;
-    let LineContent {
-        content,
-        fault,
-        made,
-    } = told;
-    push_fault(&mut faults, line, or_next(fault, unpublished))?;
-    rows.push(row_at(line, place, &content))?;
-    given.push(content)?;
-    take_set(alloc, &mut set, line, place)?;
-    Ok(Contents {
-        set,
-        made,
-        faults,
-        publics,
-        rows,
-        given,
-    })
+    let body = &line.stmt.body;
+    let told = line_content(alloc, &names, place.form, body, contents.made)?;
+    let unpublished = publish(text, &names, &mut contents.publics, publics_in(body))?;
+    contents.made = told.made;
+    push_fault(&mut contents.faults, line, or_next(told.fault, unpublished))?;
+    contents.rows.push(row_at(line, place, &told.content))?;
+    contents.given.push(told.content)?;
+    take_set(alloc, &mut contents.set, line, place)?;
+    Ok(())
 }
 
 /// What all lines of a text give. The only error is out of memory.
@@ -136,9 +111,8 @@ pub(crate) fn give_lines(alloc: Global, text: &PlacedText<'_>) -> Result<Content
         → IsGivenTo lines a (length lines) all) }
 {
     let mut contents = nothing_given(alloc);
-    let named = text.text;
-    for (k, line) in named.lines.iter().enumerate() {
-        contents = give_line(alloc, text, line, &text.places[k], contents)?;
+    for (k, line) in text.text.lines.iter().enumerate() {
+        give_line(alloc, text, line, &text.places[k], &mut contents)?;
     }
     Ok(contents)
 }

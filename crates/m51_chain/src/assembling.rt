@@ -59,19 +59,15 @@ fn list(
 }
 
 // What comes of a source that was assembled.
-fn assembled(alloc: Global, files: &[FileName], all: AssembledSource) -> Result<Finished, Stop>
-    requires { IsAnswer all.source all.includes.items (tree_of all.assembled) }
+fn assembled(alloc: Global, files: &[FileName], all: &AssembledSource) -> Result<Finished, Stop>
+    requires { IsAnswer all.now.source all.now.includes.items (tree_of all.now.assembled) }
     ensures { Comes (λ outcome. outcome
-        ≡ assembled_outcome files.now all.source all.includes.items (tree_of all.assembled)) result }
+        ≡ assembled_outcome files.now all.now.source all.now.includes.items (tree_of all.now.assembled)) result }
 {
-    let AssembledSource {
-        source,
-        includes,
-        assembled,
-    } = all;
-    match assembled {
-        Assembled::Faults(faults) => Err(refuse_source(alloc, files, &source, faults.as_slice())?),
-        Assembled::Module(parts, rows) => Ok(list(alloc, &source, &includes, &parts, &rows)?),
+    let source = &all.source;
+    match &all.assembled {
+        Assembled::Faults(faults) => Err(refuse_source(alloc, files, source, faults.as_slice())?),
+        Assembled::Module(parts, rows) => Ok(list(alloc, source, &all.includes, parts, rows)?),
     }
 }
 
@@ -84,5 +80,5 @@ pub(crate) fn assemble(alloc: Global, job: &AsmJob, contents: &[Bytes]) -> Resul
 {
     let files = job.files.as_slice();
     let all = assemble_source(alloc, files, contents)?;
-    assembled(alloc, files, all)
+    assembled(alloc, files, &all)
 }

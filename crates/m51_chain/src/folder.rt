@@ -2,6 +2,7 @@
 ghost use Rattle.std.specs.Prelude.{◌≡◌, ◌≤◌, [], None, false, IfOk, IsTrue, OnErr, OnOk, is_ok, length, string_bytes};
 ghost use Rattle.std.specs.Io.KnownBytes.{Appends, ReadConsumes};
 ghost use Rattle.m51_cells.specs.Outside.{HasCause, one_more};
+ghost use Rattle.m51_sim.specs.Writing.{StopsWithin};
 ghost use Rattle.m51_chain.specs.Shelf.{handed, missed_after};
 ghost use Rattle.m51_chain.specs.Stored.{SameReading, SameStore};
 
@@ -86,7 +87,8 @@ fn fill<R: Read>(file: &mut R, into: &mut [u8]) -> Result<usize, Failed>
 // Writes all bytes. A write that takes none of them is a failure. One that a signal interrupts is made again,
 // `MOST_TRIES` times at most in a call.
 fn write_all<W: Write>(file: &mut W, bytes: &[u8]) -> Result<(), Failed>
-    ensures { OnOk result (Appends (W.contents file.old) (W.contents file.new) bytes.now) }
+    ensures all { OnOk result (Appends (W.contents file.old) (W.contents file.new) bytes.now) }
+    ensures part { OnErr result (StopsWithin (W.contents file.old) (W.contents file.new) bytes.now) }
 {
     let mut done = 0;
     let mut interrupted = 0;

@@ -6,7 +6,7 @@ ghost use Rattle.m51_chain.specs.Linking.{IsProgramOutcome, alone};
 ghost use Rattle.m51_chain.specs.Outcome.{Comes, outcome_of, status_at, status_by, text_at};
 
 use crate::assembling::refuse_source;
-use crate::linking::link_alone;
+use crate::linking::{board_of, link_alone};
 use crate::work::{Ending, Finished, Stop};
 use m51_asm::{Assembled, assemble};
 use m51_cells::{Bytes, NoMemory};
@@ -15,7 +15,6 @@ use m51_linker::Linked;
 use m51_module::{Mark, Module, Placed, Tally};
 use m51_print::{overlaid_below, summary_text};
 use m51_script::Script;
-use m51_sim::Board;
 use m51_words::{GenJob, Steps};
 use std::alloc::Global;
 
@@ -59,11 +58,10 @@ fn summary(alloc: Global, steps: Steps, linked: Linked) -> Result<Finished, NoMe
     requires { IsReady linked }
     ensures { IfOk result (λ work. outcome_of work ≡ summary_outcome linked steps) }
 {
+    let units = linked.layout.units().len() as u16;
     let overlaid = overlaid_below(linked.layout.placed(), 256);
     let sizes = overlaid_sizes(linked.layout.placed());
-    let units = linked.layout.units().len() as u16;
-    let script = Script::plain(alloc)?;
-    let mut board = Board::make(alloc, linked.layout, linked.image, script)?;
+    let mut board = board_of(alloc, linked, Script::plain(alloc)?)?;
     let tally = board.tally(steps.number());
     let text = summary_text(alloc, units, overlaid, sizes, &tally, board.layout())?;
     Ok(Finished {

@@ -14,7 +14,7 @@ ghost use Rattle.m51_chain.specs.Outcome.{Comes, outcome_of};
 ghost use Rattle.m51_chain.specs.Parties.{AreBoardsOr, IsBoardOr, IsPartyOutcome, party_report};
 
 use crate::flat::script_in;
-use crate::linking::{inputs_in, link_alone};
+use crate::linking::{board_of, inputs_in, link_alone};
 use crate::optional::content_if;
 use crate::unrun::UnrunParty;
 use crate::work::{Ending, Finished, Stop};
@@ -49,7 +49,7 @@ fn board_alone(alloc: Global, parts: Module, file: Option<&Bytes>) -> Result<Boa
 {
     let linked = link_alone(alloc, parts)?;
     let script = script_again(alloc, file)?;
-    Ok(Board::make(alloc, linked.layout, linked.image, script)?)
+    Ok(board_of(alloc, linked, script)?)
 }
 
 // The boards of modules, each linked alone, in order.

@@ -3,6 +3,7 @@ ghost use Rattle.std.specs.Prelude.{◌≡◌, ◌≢◌, ◌≤◌, IfOk, Some,
 ghost use Rattle.std.specs.List.{All};
 ghost use Rattle.m51_cells.specs.declared.limits.TheConstants.{MOST_FILES, MOST_FILE_BYTES};
 ghost use Rattle.m51_linker.specs.Link.{IsReady, program_of};
+ghost use Rattle.m51_sim.specs.Boards.{IsStarted};
 ghost use Rattle.m51_chain.specs.Linking.{AreLinkedOr, IsLinkedOr, alone, link_outcome, reason_of};
 ghost use Rattle.m51_chain.specs.Outcome.{stopped};
 ghost use Rattle.m51_chain.specs.ProgramFiles.{AreAnsweredOr, HasParts, named};
@@ -17,6 +18,7 @@ use m51_linker::{Linked, link};
 use m51_module::{Library, Module, Refusal};
 use m51_print::refusal_text;
 use m51_script::Script;
+use m51_sim::Board;
 use m51_words::FileName;
 use std::alloc::Global;
 
@@ -134,4 +136,12 @@ pub(crate) fn link_files(
     } = inputs_in(alloc, files, control, script, contents)?;
     let linked = link_modules(alloc, modules, &libraries, &controls)?;
     Ok(LinkedFiles { linked, script })
+}
+
+// The board of a linked program with this script, after a reset.
+pub(crate) fn board_of(alloc: Global, linked: Linked, script: Script) -> Result<Board, NoMemory>
+    requires { IsReady linked }
+    ensures { IfOk result (IsStarted linked.layout linked.image script) }
+{
+    Board::make(alloc, linked.layout, linked.image, script)
 }

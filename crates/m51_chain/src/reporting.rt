@@ -4,7 +4,7 @@ ghost use Rattle.m51_linker.specs.Link.{IsReady};
 ghost use Rattle.m51_chain.specs.Outcome.{outcome_of};
 ghost use Rattle.m51_chain.specs.Programs.{IsMap, IsReport, filled_by, hex_kept};
 
-use crate::linking::LinkedFiles;
+use crate::linking::{LinkedFiles, board_of};
 use crate::work::{Ending, Finished};
 use m51_cells::{Bytes, NoMemory};
 use m51_hex::write_hex;
@@ -12,7 +12,6 @@ use m51_linker::Linked;
 use m51_module::Run;
 use m51_place::heaviest;
 use m51_print::map_text;
-use m51_sim::Board;
 use m51_words::BuildJob;
 use std::alloc::Global;
 
@@ -74,7 +73,7 @@ pub(crate) fn report(
     let LinkedFiles { linked, script } = found;
     let keeps = hex_kept(alloc, job, &linked)?;
     let text = map_and_run(alloc, &linked)?;
-    let board = Board::make(alloc, linked.layout, linked.image, script)?;
+    let board = board_of(alloc, linked, script)?;
     Ok(Finished {
         keeps,
         text,

@@ -17,7 +17,7 @@ loop-k-preserved c = λ lines a ready.
     let within : k < length read = omega arith in
     let room : k < length c.args.text.now.places.now = omega arith in
     let said = subst (λ ls. slice_get ls k ≡ Some (line_tree c.line-item.result)) ready.read (line_at read k c.line-item.result within c.line-item.is) in
-    rw add-one (c.in_ok-contents.ensures lines a k ready said (place_at lines a c.args.text.now.places.now k _ room ready.placed.each) (c.loop-k.invariant lines a ready))
+    rw add-one (c.in_ok-give_line.ensures lines a k ready said (place_at lines a c.args.text.now.places.now k _ room ready.placed.each) (c.loop-k.invariant lines a ready))
 
 pub returns : goal.returns
 returns c = λ lines a ready.

@@ -4,7 +4,17 @@ use m51_cells::{NoMemory, copy_of};
 use m51_module::Module;
 use std::alloc::Global;
 
-// The pieces, fixups and publics of a module.
+/// Writes the base and number of each public of a module.
+pub(crate) fn show_publics(shown: &mut String, module: &Module) -> Result<(), NoMemory> {
+    for public in module.publics() {
+        let base = public.base;
+        let number = public.number;
+        write!(shown, "{base:?} {number}; ")?;
+    }
+    Ok(())
+}
+
+// Writes the pieces, fixups and publics of a module.
 fn show_module(shown: &mut String, module: &Module) -> Result<(), NoMemory> {
     for piece in module.pieces() {
         let segment = piece.segment;
@@ -22,15 +32,10 @@ fn show_module(shown: &mut String, module: &Module) -> Result<(), NoMemory> {
         let addend = fixup.addend;
         write!(shown, "{offset} {form:?} {target:?} {addend}; ")?;
     }
-    for public in module.publics() {
-        let base = public.base;
-        let number = public.number;
-        write!(shown, "{base:?} {number}; ")?;
-    }
-    Ok(())
+    show_publics(shown, module)
 }
 
-// The faults with their lines.
+// Writes the faults with their lines.
 fn show_faults(shown: &mut String, faults: &[Fault]) -> Result<(), NoMemory> {
     for fault in faults {
         let line = fault.line;

@@ -1,6 +1,6 @@
 //! Worked texts whose places are seen: of each line whose row has one, that place; the segments of the module; and of
 //! each label that is made public, its segment and its offset in it. The faults are those by place.
-use crate::asm::{assembled, shows};
+use crate::asm::{assembled, show_publics, shows};
 use m51_asm::Assembled;
 use m51_cells::NoMemory;
 use m51_module::{Module, Row};
@@ -17,7 +17,7 @@ fn show_places(shown: &mut String, rows: &[Row]) -> Result<(), NoMemory> {
     Ok(())
 }
 
-// Writes the segments of the module, and the segment and offset of each public.
+// Writes the segments and the publics of the module.
 fn show_segments(shown: &mut String, module: &Module) -> Result<(), NoMemory> {
     for segment in module.segments() {
         let kind = segment.kind;
@@ -25,12 +25,7 @@ fn show_segments(shown: &mut String, module: &Module) -> Result<(), NoMemory> {
         let size = segment.size;
         write!(shown, "{kind:?} {base} {size}; ")?;
     }
-    for public in module.publics() {
-        let base = public.base;
-        let number = public.number;
-        write!(shown, "{base:?} {number}; ")?;
-    }
-    Ok(())
+    show_publics(shown, module)
 }
 
 // The places and the segments of a source without a fault.

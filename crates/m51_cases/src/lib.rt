@@ -1,5 +1,5 @@
-//! Tests that cross crates: the way from objects to a graph, edits, arguments, devices, the monitor and boards on
-//! one line. It is no part of the product.
+//! Tests that cross crates: the way from objects to a graph, edits, arguments, devices, the monitor, boards on one line
+//! and the files of the system. It is no part of the product.
 #![tactic(auto)]
 
 #[cfg(test)]
@@ -18,5 +18,7 @@ mod monitor_table;
 mod objects;
 #[cfg(test)]
 mod parties;
+#[cfg(test)]
+mod system_files;
 #[cfg(test)]
 mod words;

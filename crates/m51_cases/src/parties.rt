@@ -3,8 +3,8 @@ use m51_cells::{Bytes, NoMemory};
 use m51_chain::{MemSink, Status, SureShelf, chain};
 use std::alloc::Global;
 
-// The words of a text, with blanks between them.
-fn words_in(alloc: Global, text: &str) -> Result<Vec<String>, NoMemory> {
+/// The words of a text, with blanks between them.
+pub(crate) fn words_in(alloc: Global, text: &str) -> Result<Vec<String>, NoMemory> {
     let mut words = Vec::new(alloc);
     for word in text.split(' ') {
         words.push(String::from_str(alloc, word)?)?;

@@ -1,9 +1,11 @@
-//! Tests that cross crates: the way from objects to a graph, edits, arguments, devices, the monitor, boards on one line
-//! and the files of the system. It is no part of the product.
+//! Tests that cross crates: from objects to a graph, edits, arguments, devices, the monitor, boards on one line, calls
+//! that fail, and the files of the system. It is no part of the product.
 #![tactic(auto)]
 
 #[cfg(test)]
 mod devices;
+#[cfg(test)]
+mod failing_calls;
 #[cfg(test)]
 mod library_edits;
 #[cfg(test)]

@@ -12,8 +12,8 @@ pub(crate) fn words_in(alloc: Global, text: &str) -> Result<Vec<String>, NoMemor
     Ok(words)
 }
 
-// The bytes of a text.
-fn bytes_of(alloc: Global, text: &str) -> Result<Bytes, NoMemory> {
+/// The bytes of a text.
+pub(crate) fn bytes_of(alloc: Global, text: &str) -> Result<Bytes, NoMemory> {
     Ok(Bytes::of(text.as_bytes().to_vec(alloc)?))
 }
 

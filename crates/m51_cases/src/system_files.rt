@@ -1,18 +1,12 @@
 //! The files of the system: the top call reads one that another call wrote there, names one that is absent, and keeps
 //! an object, which a further call links. The report, the listing and the object were worked out by hand.
+use crate::failing_calls::{REPORT, SOURCE};
 use crate::parties::words_in;
 use m51_cells::NoMemory;
 use m51_chain::{DirShelf, MemSink, Status, chain};
 use std::alloc::Global;
 use std::fs;
 use std::rt::Files;
-
-// Writes 55H to port 1.
-const SOURCE: &[u8] = b"CSEG AT 0\nMOV P1,#55H\nSJMP $\nEND\n";
-
-const REPORT: &[u8] = b"SEGMENTS\nDATA  0000 0008 B BANK0\nCODE  0000 0005 A @0000\nUNITS\n\
-    @0000 FROM @0000 TO -\nCHAIN @0000 0 @0000\nOVERLAID 0 BYTES\nIMAGE 5 BYTES\nRUN\n\
-    0 P1 55\nEND 4 STEPS 8 CYCLES\n";
 
 const ABSENT: &[u8] = b"READ FAULT b.a51\n";
 

@@ -1,0 +1,101 @@
+//! The top call over files in memory and a sink in memory of which one call fails. The texts were worked out by hand.
+use crate::parties::{bytes_of, words_in};
+use m51_cells::{Bytes, NoMemory};
+use m51_chain::{Call, MemShelf, MemSink, Status, chain};
+use std::alloc::Global;
+
+/// A source that writes 55H to port 1.
+pub(crate) const SOURCE: &str = "CSEG AT 0\nMOV P1,#55H\nSJMP $\nEND\n";
+
+/// What `build --steps 4` writes for it.
+pub(crate) const REPORT: &[u8] =
+    b"SEGMENTS\nDATA  0000 0008 B BANK0\nCODE  0000 0005 A @0000\nUNITS\n\
+    @0000 FROM @0000 TO -\nCHAIN @0000 0 @0000\nOVERLAID 0 BYTES\nIMAGE 5 BYTES\nRUN\n\
+    0 P1 55\nEND 4 STEPS 8 CYCLES\n";
+
+// Three files with that source.
+fn sources(alloc: Global) -> Result<Vec<(Bytes, Bytes)>, NoMemory> {
+    let mut files = Vec::new(alloc);
+    for name in ["a.a51", "b.a51", "c.a51"] {
+        files.push((bytes_of(alloc, name)?, bytes_of(alloc, SOURCE)?))?;
+    }
+    Ok(files)
+}
+
+// The status of a call over these files, where this call of the shelf fails, whether it writes this text, and how many
+// files it keeps.
+fn answer(
+    alloc: Global,
+    words: &str,
+    fails: (Call, u32),
+    want: &[u8],
+) -> Result<(Status, bool, usize), NoMemory> {
+    let words = words_in(alloc, words)?;
+    let files = sources(alloc)?;
+    let mut shelf = MemShelf::make(alloc, files, vec![in alloc; fails]?, 1, 100)?;
+    let mut out = MemSink::make(alloc, Vec::new(alloc), 1_000)?;
+    let status = chain(alloc, &words, &mut shelf, &mut out);
+    Ok((status, out.text() == want, shelf.kept().len()))
+}
+
+const ONE: &str = "build --steps 4 a.a51";
+
+const THREE: &str = "build --hex h --steps 1 a.a51 b.a51 c.a51";
+
+// A file is read by two pieces: all its bytes, and its end.
+#[test]
+fn a_call_of_the_shelf_fails(rt: HostRuntime) {
+    let first = b"READ FAULT a.a51\n".as_slice();
+    for (words, fails, status, want) in [
+        (ONE, (Call::Start, 1), Status::ReadFault, first),
+        (ONE, (Call::Piece, 1), Status::ReadFault, first),
+        (ONE, (Call::Piece, 2), Status::ReadFault, first),
+        (ONE, (Call::Piece, 3), Status::Ran, REPORT),
+        (
+            THREE,
+            (Call::Start, 2),
+            Status::ReadFault,
+            b"READ FAULT b.a51\n",
+        ),
+        (
+            THREE,
+            (Call::Piece, 5),
+            Status::ReadFault,
+            b"READ FAULT c.a51\n",
+        ),
+        (
+            "asm --out o a.a51",
+            (Call::Keep, 1),
+            Status::WriteFault,
+            b"WRITE FAULT o\n",
+        ),
+    ] {
+        let told = answer(rt.alloc(), words, fails, want);
+        assert!(rt; told == Ok((status, true, 0)), "{words}, {fails:?}");
+    }
+}
+
+// The status of a call whose write of this number fails, whether the report begins with what it writes, and how much
+// this is.
+fn answer_cut(alloc: Global, write: u32) -> Result<(Status, bool, usize), NoMemory> {
+    let words = words_in(alloc, ONE)?;
+    let files = sources(alloc)?;
+    let mut shelf = MemShelf::make(alloc, files, Vec::new(alloc), 1, 100)?;
+    let mut out = MemSink::make(alloc, vec![in alloc; write]?, 1_000)?;
+    let status = chain(alloc, &words, &mut shelf, &mut out);
+    Ok((status, REPORT.starts_with(out.text()), out.text().len()))
+}
+
+// The map with the line RUN is one write, and so is each line after it.
+#[test]
+fn a_write_fails(rt: HostRuntime) {
+    for (write, status, count) in [
+        (1, Status::WriteFault, 0),
+        (2, Status::WriteFault, 140),
+        (3, Status::WriteFault, 148),
+        (4, Status::Ran, 169),
+    ] {
+        let told = answer_cut(rt.alloc(), write);
+        assert!(rt; told == Ok((status, true, count)), "write {write}");
+    }
+}

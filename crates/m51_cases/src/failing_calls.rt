@@ -1,7 +1,7 @@
 //! The top call over files in memory and a sink in memory of which one call fails. The texts were worked out by hand.
-use crate::parties::{bytes_of, words_in};
+use crate::parties::{bytes_of, call, words_in};
 use m51_cells::{Bytes, NoMemory};
-use m51_chain::{Call, MemShelf, MemSink, Status, chain};
+use m51_chain::{Call, MemShelf, MemSink, Status};
 use std::alloc::Global;
 
 /// A source that writes 55H to port 1.
@@ -34,7 +34,7 @@ fn answer(
     let files = sources(alloc)?;
     let mut shelf = MemShelf::make(alloc, files, vec![in alloc; fails]?, 1, 100)?;
     let mut out = MemSink::make(alloc, Vec::new(alloc), 1_000)?;
-    let status = chain(alloc, &words, &mut shelf, &mut out);
+    let status = call(alloc, &words, &mut shelf, &mut out);
     Ok((status, out.text() == want, shelf.kept().len()))
 }
 
@@ -82,7 +82,7 @@ fn answer_cut(alloc: Global, write: u32) -> Result<(Status, bool, usize), NoMemo
     let files = sources(alloc)?;
     let mut shelf = MemShelf::make(alloc, files, Vec::new(alloc), 1, 100)?;
     let mut out = MemSink::make(alloc, vec![in alloc; write]?, 1_000)?;
-    let status = chain(alloc, &words, &mut shelf, &mut out);
+    let status = call(alloc, &words, &mut shelf, &mut out);
     Ok((status, REPORT.starts_with(out.text()), out.text().len()))
 }
 

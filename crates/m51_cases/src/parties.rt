@@ -1,6 +1,6 @@
 //! The top call for `party`: it is built and run with ample memory, with texts that were worked out by hand.
 use m51_cells::{Bytes, NoMemory};
-use m51_chain::{MemSink, Status, SureShelf, chain};
+use m51_chain::{MemSink, Shelf, Status, SureShelf, chain};
 use std::alloc::Global;
 
 /// The words of a text, with blanks between them.
@@ -25,16 +25,21 @@ fn shelf(alloc: Global, first: &str, second: &str) -> Result<SureShelf, NoMemory
     Ok(SureShelf::make(files))
 }
 
-// The status of a call with these words.
-fn call(alloc: Global, words: &[String], mut files: SureShelf, out: &mut MemSink) -> Status {
-    chain(alloc, words, &mut files, out)
+/// The status of a call with these words. The clauses of the top call are long, so its callers do without them.
+pub(crate) fn call<F: Shelf>(
+    alloc: Global,
+    words: &[String],
+    files: &mut F,
+    out: &mut MemSink,
+) -> Status {
+    chain(alloc, words, files, out)
 }
 
 // The status of a party of two sources that writes to this sink.
 fn party(alloc: Global, first: &str, second: &str, out: &mut MemSink) -> Result<Status, NoMemory> {
     let words = words_in(alloc, "party --steps 40 a.a51 b.a51")?;
-    let files = shelf(alloc, first, second)?;
-    Ok(call(alloc, &words, files, out))
+    let mut files = shelf(alloc, first, second)?;
+    Ok(call(alloc, &words, &mut files, out))
 }
 
 // The status of a party of two sources, and whether it writes this text.

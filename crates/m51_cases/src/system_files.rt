@@ -1,9 +1,9 @@
 //! The files of the system: the top call reads one that another call wrote there, names one that is absent, and keeps
 //! an object, which a further call links. The report, the listing and the object were worked out by hand.
 use crate::failing_calls::{REPORT, SOURCE};
-use crate::parties::words_in;
+use crate::parties::{call, words_in};
 use m51_cells::NoMemory;
-use m51_chain::{DirShelf, MemSink, Status, chain};
+use m51_chain::{DirShelf, MemSink, Status};
 use std::alloc::Global;
 use std::fs;
 use std::rt::Files;
@@ -22,7 +22,7 @@ fn answer<R: Files>(
 ) -> Result<(Status, bool), NoMemory> {
     let words = words_in(alloc, words)?;
     let mut out = MemSink::make(alloc, Vec::new(alloc), 1_000)?;
-    let status = chain(alloc, &words, files, &mut out);
+    let status = call(alloc, &words, files, &mut out);
     Ok((status, out.text() == want))
 }
 

@@ -1,4 +1,5 @@
-//! The top call over files in memory and a sink in memory of which one call fails. The texts were worked out by hand.
+//! The top call over files in memory and a sink in memory of which one call fails. The report is the one that
+//! README.md explains, the other texts are those of docs/COMMAND.md.
 use crate::parties::{bytes_of, call, words_in};
 use m51_cells::{Bytes, NoMemory};
 use m51_chain::{Call, MemShelf, MemSink, Status};

@@ -1,5 +1,6 @@
 //! The files of the system: the top call reads one that another call wrote there, names one that is absent, and keeps
-//! an object, which a further call links. The report, the listing and the object were worked out by hand.
+//! an object, which a further call links. The report is the one that README.md explains, the listing that of
+//! docs/COMMAND.md, the object that of docs/OBJECTS.md.
 use crate::failing_calls::{REPORT, SOURCE};
 use crate::parties::{call, words_in};
 use m51_cells::NoMemory;

@@ -1,5 +1,5 @@
-"""`stack` and `dis` of the sources of boards.py, answered apart from the program over the map and the HEX of `build`,
-after docs/COMMAND.md: the heights of the stack at each point, and the text of the code."""
+"""`stack` and `dis` of the sources of boards.py, and `flat` of their HEX, answered apart from the program over the map
+and the HEX of `build`, after docs/COMMAND.md: the heights of the stack, the text of the code, the record."""
 import board
 import boards
 import objects
@@ -224,8 +224,15 @@ def code_text(text, image):
     return text_of([*lines, 'END'])
 
 
+def flat_differs(run, hex_text, script, steps):
+    status, written, _ = run(['flat', '--script', 's', '--steps', steps, 'h'], {'h': hex_text, 's': script})
+    record = board.Flat(objects.read_hex(hex_text), script.decode()).run(int(steps))
+    wanted = int('EVENT' in record), f'RUN\n{record}'
+    return None if (status, written.decode()) == wanted else f'flat {status} {written[:300]!r} for {wanted}'
+
+
 def differs(run, case):
-    """What is wrong with `stack` or `dis` of a source, or nothing."""
+    """What is wrong with `stack`, `dis` or `flat` of a source, or nothing."""
     _, words, files, _ = case
     _, text, kept = run(words, files)
     told, image = text.decode().partition('RUN\n')[0], objects.read_hex(kept['h'])
@@ -236,7 +243,7 @@ def differs(run, case):
     status, written, _ = run(['dis', 'a.a51'], files)
     if (status, written.decode()) != (0, code_text(told, image)):
         return f'dis {status} {written[:300]!r}'
-    return None
+    return flat_differs(run, kept['h'], files['s'], words[words.index('--steps') + 1])
 
 
 CASES = boards.CASES[:COUNT]

@@ -407,12 +407,16 @@ class Board:
 
         def change():
             self.records.pop()
-            if kind == 'interrupt' and self.high:
-                self.high = False
-            elif kind == 'interrupt':
-                self.low = False
+            self.end_level(kind)
 
         return target, change
+
+    def end_level(self, kind):
+        """RETI ends the higher level in progress."""
+        if kind == 'interrupt' and self.high:
+            self.high = False
+        elif kind == 'interrupt':
+            self.low = False
 
     def branch(self, taken):
         return ('jump', (self.after + signed(self.fields['rel'][0])) % 65_536) if taken else None
@@ -638,3 +642,23 @@ class Board:
         if divisor:
             self.new[ACC], self.new[B] = divmod(self.a, divisor)
         self.flags(cy=0, ov=not divisor)
+
+
+# One unit of all addresses, and no segment of data.
+ALL_CODE = 'SEGMENTS\nCODE 0000 10000 A @0000\nUNITS\n@0000 FROM @0000 TO -\nCHAIN @0000 0 @0000\n'
+
+
+class Flat(Board):
+    """The same machine over one memory, as the chip has it: it looks at no record, and only V4 and V5 stop it."""
+
+    def __init__(self, image, script):
+        super().__init__(ALL_CODE, image, script)
+
+    def current(self, records=None):
+        return '@0000'
+
+    def stop(self, why, target):
+        pass
+
+    def returned(self, kind, target):
+        return target, lambda: self.end_level(kind)

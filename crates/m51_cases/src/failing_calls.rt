@@ -1,8 +1,8 @@
-//! The top call over files in memory and a sink in memory of which one call fails. The report is the one that
-//! README.md explains, the other texts are those of docs/COMMAND.md.
-use crate::parties::{bytes_of, call, words_in};
+//! The top call over files in memory and a sink in memory of which one call fails, and over those that never fail. The
+//! report is the one that README.md explains, the other texts are those of docs/COMMAND.md.
+use crate::calls::{bytes_of, call, words_in};
 use m51_cells::{Bytes, NoMemory};
-use m51_chain::{Call, MemShelf, MemSink, Status};
+use m51_chain::{Call, MemShelf, MemSink, Status, SureShelf, SureSink};
 use std::alloc::Global;
 
 /// A source that writes 55H to port 1.
@@ -78,8 +78,8 @@ fn a_call_of_the_shelf_fails(rt: HostRuntime) {
 
 // The status of a call whose write of this number fails, whether the report begins with what it writes, and how much
 // this is.
-fn answer_cut(alloc: Global, write: u32) -> Result<(Status, bool, usize), NoMemory> {
-    let words = words_in(alloc, ONE)?;
+fn answer_cut(alloc: Global, words: &str, write: u32) -> Result<(Status, bool, usize), NoMemory> {
+    let words = words_in(alloc, words)?;
     let files = sources(alloc)?;
     let mut shelf = MemShelf::make(alloc, files, Vec::new(alloc), 1, 100)?;
     let mut out = MemSink::make(alloc, vec![in alloc; write]?, 1_000)?;
@@ -87,16 +87,41 @@ fn answer_cut(alloc: Global, write: u32) -> Result<(Status, bool, usize), NoMemo
     Ok((status, REPORT.starts_with(out.text()), out.text().len()))
 }
 
-// The map with the line RUN is one write, and so is each line after it.
+// The map with the line RUN is one write, and so is each line after it. A refusal is one write.
 #[test]
 fn a_write_fails(rt: HostRuntime) {
-    for (write, status, count) in [
-        (1, Status::WriteFault, 0),
-        (2, Status::WriteFault, 140),
-        (3, Status::WriteFault, 148),
-        (4, Status::Ran, 169),
+    for (words, write, status, count) in [
+        (ONE, 1, Status::WriteFault, 0),
+        (ONE, 2, Status::WriteFault, 140),
+        (ONE, 3, Status::WriteFault, 148),
+        (ONE, 4, Status::Ran, 169),
+        ("build", 1, Status::WriteFault, 0),
+        ("build --steps 4 d.a51", 1, Status::WriteFault, 0),
+        ("lib list a.a51", 1, Status::WriteFault, 0),
     ] {
-        let told = answer_cut(rt.alloc(), write);
-        assert!(rt; told == Ok((status, true, count)), "write {write}");
+        let told = answer_cut(rt.alloc(), words, write);
+        assert!(rt; told == Ok((status, true, count)), "{words}, write {write}");
+    }
+}
+
+// The status of a call over a file and a sink that never fail.
+fn answer_without_failure(alloc: Global, words: &str) -> Result<Status, NoMemory> {
+    let words = words_in(alloc, words)?;
+    let file = (bytes_of(alloc, "a.a51")?, bytes_of(alloc, SOURCE)?);
+    let mut shelf = SureShelf::make(vec![in alloc; file]?);
+    let mut out = SureSink::make();
+    Ok(call(alloc, &words, &mut shelf, &mut out))
+}
+
+// Each name of which that shelf has no file is that of an empty one.
+#[test]
+fn no_call_fails(rt: HostRuntime) {
+    for (words, status) in [
+        (ONE, Status::Ran),
+        ("build --steps 4 b.a51", Status::Source),
+        ("asm --out o a.a51", Status::Ran),
+    ] {
+        let told = answer_without_failure(rt.alloc(), words);
+        assert!(rt; told == Ok(status), "{words}");
     }
 }

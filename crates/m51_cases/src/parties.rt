@@ -1,21 +1,8 @@
 //! The top call for `party`: it is built and run with ample memory, with texts that were worked out by hand.
-use m51_cells::{Bytes, NoMemory};
-use m51_chain::{MemSink, Shelf, Status, SureShelf, chain};
+use crate::calls::{bytes_of, call, words_in};
+use m51_cells::NoMemory;
+use m51_chain::{MemSink, Status, SureShelf};
 use std::alloc::Global;
-
-/// The words of a text, with blanks between them.
-pub(crate) fn words_in(alloc: Global, text: &str) -> Result<Vec<String>, NoMemory> {
-    let mut words = Vec::new(alloc);
-    for word in text.split(' ') {
-        words.push(String::from_str(alloc, word)?)?;
-    }
-    Ok(words)
-}
-
-/// The bytes of a text.
-pub(crate) fn bytes_of(alloc: Global, text: &str) -> Result<Bytes, NoMemory> {
-    Ok(Bytes::of(text.as_bytes().to_vec(alloc)?))
-}
 
 // A shelf with two sources.
 fn shelf(alloc: Global, first: &str, second: &str) -> Result<SureShelf, NoMemory> {
@@ -23,16 +10,6 @@ fn shelf(alloc: Global, first: &str, second: &str) -> Result<SureShelf, NoMemory
     files.push((bytes_of(alloc, "a.a51")?, bytes_of(alloc, first)?))?;
     files.push((bytes_of(alloc, "b.a51")?, bytes_of(alloc, second)?))?;
     Ok(SureShelf::make(files))
-}
-
-/// The status of a call with these words. The clauses of the top call are long, so its callers do without them.
-pub(crate) fn call<F: Shelf>(
-    alloc: Global,
-    words: &[String],
-    files: &mut F,
-    out: &mut MemSink,
-) -> Status {
-    chain(alloc, words, files, out)
 }
 
 // The status of a party of two sources that writes to this sink.

@@ -1,8 +1,8 @@
 //! The files of the system: the top call reads one that another call wrote there, names one that is absent, and keeps
 //! an object, which a further call links. The report is the one that README.md explains, the listing that of
 //! docs/COMMAND.md, the object that of docs/OBJECTS.md.
+use crate::calls::{call, words_in};
 use crate::failing_calls::{REPORT, SOURCE};
-use crate::parties::{call, words_in};
 use m51_cells::NoMemory;
 use m51_chain::{DirShelf, MemSink, Status};
 use std::alloc::Global;

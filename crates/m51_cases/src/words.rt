@@ -1,16 +1,7 @@
 //! What arguments ask for.
-use m51_cells::NoMemory;
+use crate::calls::words_in;
 use m51_words::{Job, WordsError, job_of};
 use std::alloc::Global;
-
-// The words of a text, with blanks between them. A word `''` is the empty one.
-fn words_in(alloc: Global, text: &str) -> Result<Vec<String>, NoMemory> {
-    let mut words = Vec::new(alloc);
-    for word in text.split(' ') {
-        words.push(String::from_str(alloc, if word == "''" { "" } else { word })?)?;
-    }
-    Ok(words)
-}
 
 // The verb of a job.
 fn verb_of(job: &Job) -> &'static str {

@@ -46,7 +46,7 @@ class Drawn:
     def lines(self):
         lines = [self.segment(name, kind) for name, kind in self.segments.items()]
         lines += [self.external(f'X{number}') for number in range(4)]
-        self.known |= {name: CODE for name in self.labels}
+        self.known.update({name: CODE for name in self.labels})
         lines += [self.line() for _ in range(self.count)]
         lines += [(label, 'NONE', ()) for label in self.free if not self.chance(self.wild)]
         for name in self.rng.sample([*self.above], self.rng.choice([0, 0, 1, 3])):
@@ -138,7 +138,7 @@ class Drawn:
 
     def leaf(self, class_, above):
         """A name, mostly one of that class, `$` or a number."""
-        names = self.above if above else self.known | self.above
+        names = self.above if above else {**self.known, **self.above}
         if self.chance(self.wild):
             return self.rng.choice([*self.known, *self.segments, *self.labels, 'NONE'])
         if class_ is None and 'V0' in names and self.chance(0.1):

@@ -280,7 +280,7 @@ class Board:
         for put in self.puts:
             for cell, bit in put:
                 self.stores[self.owner(cell), cell] = bit
-        self.new[PSW] = self.new[PSW] & 0xFE | self.new[ACC].bit_count() % 2
+        self.new[PSW] = self.new[PSW] & 0xFE | bin(self.new[ACC]).count('1') % 2
         self.registers, self.pc, self.held = self.new, pc, self.holds
         change()
         self.enliven()

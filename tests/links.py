@@ -109,7 +109,8 @@ class Drawn:
         if segment.kind == CODE and segment.size and not self.chance(0.05):
             cut = self.rng.randint(1, segment.size) if self.chance(0.3) else segment.size
             pieces = [(0, cut), (cut + 1, segment.size)]
-            module.pieces += [(number, low, self.rng.randbytes(high - low)) for low, high in pieces if low < high]
+            module.pieces += [(number, low, bytes(self.rng.choices(range(256), k=high - low)))
+                              for low, high in pieces if low < high]
         module.banks |= 1 << self.rng.choice([1, 2, 3]) if self.chance(0.01) else 0
 
     # Publics, externals and fixups.
@@ -284,7 +285,7 @@ def case(number):
     libraries = [part for part in (members[:cut], members[cut:]) if part]
     controls = [(line, *parts) for line, parts in enumerate(drawn.lines(), 1)]
     files = {f'{k}.obj': object_of(module) for k, module in enumerate(given)}
-    files |= {f'{k}.lib': objects.library(*map(object_of, library)) for k, library in enumerate(libraries)}
+    files.update({f'{k}.lib': objects.library(*map(object_of, library)) for k, library in enumerate(libraries)})
     words = ['build', '--control', 'c', '--hex', 'h', '--steps', '1', *files]
     files['c'] = text_of(line_text(word, operands) for _, word, operands in controls).encode()
     answer = wanted(files, given, libraries, controls)

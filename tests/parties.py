@@ -57,8 +57,8 @@ def differs(run, made):
     for source in sources:
         _, text, kept = run(['build', '--hex', 'h', '--steps', '1', 'a.a51'], {'a.a51': source.encode()})
         programs.append((text.decode().partition('RUN\n')[0], objects.read_hex(kept['h'])))
-    files = {f'{number}.a51': source.encode() for number, source in enumerate(sources)} | {'s': script.encode()}
-    names = [name for name in files if name != 's']
+    files = {f'{number}.a51': source.encode() for number, source in enumerate(sources)}
+    names, files['s'] = [*files], script.encode()
     status, written, _ = run(['party', '--script', 's', '--steps', str(steps), *names], files)
     ran = family(programs, script, steps)
     wanted = int(any('EVENT' in last for _, last in ran)), text_of(ran)

@@ -8,7 +8,7 @@ import links
 from objects import (
     BIT, BITADDRESSABLE, CODE, DATA, IDATA, INBLOCK, INPAGE, NUMBER, PAGE, UNIT, XDATA)
 
-COUNT = 300
+COUNT = 500
 KINDS = {CODE: 'CODE', XDATA: 'XDATA', DATA: 'DATA', IDATA: 'IDATA', BIT: 'BIT', NUMBER: 'NUMBER'}
 TYPES = {UNIT: '', BITADDRESSABLE: ' BITADDRESSABLE', INPAGE: ' INPAGE', INBLOCK: ' INBLOCK', PAGE: ' PAGE'}
 SELECTORS = {CODE: 'CSEG', XDATA: 'XSEG', DATA: 'DSEG', IDATA: 'ISEG', BIT: 'BSEG'}
@@ -49,6 +49,8 @@ class Drawn:
         self.known.update({name: CODE for name in self.labels})
         lines += [self.line() for _ in range(self.count)]
         lines += [(label, 'NONE', ()) for label in self.free if not self.chance(self.wild)]
+        if self.chance(0.5):
+            lines.append((None, 'SET', ('V0', self.rng.choice(NUMBERS))))
         for name in self.rng.sample([*self.above], self.rng.choice([0, 0, 1, 3])):
             lines.insert(self.rng.randint(0, len(lines)), (None, 'PUBLIC', (name,)))
         return lines
@@ -120,7 +122,9 @@ class Drawn:
         return 'DB', tuple(self.rng.choice(texts) if self.chance(0.2) else self.small() for _ in range(count))
 
     def draw_dw(self):
-        return 'DW', tuple(self.tree(None) for _ in range(self.rng.randint(1, 2)))
+        has_set = 'V0' in self.above
+        count = self.rng.randint(1, 2)
+        return 'DW', tuple('V0' if has_set and self.chance(0.3) else self.tree(None) for _ in range(count))
 
     def draw_code(self):
         if self.chance(0.2):
@@ -164,7 +168,8 @@ class Drawn:
             inner = self.tree(None, above, depth + 1) if self.chance(0.3) else self.number(depth + 1)
             return self.rng.choice(UNARY), inner
         if self.chance(0.7):
-            return self.rng.choice('+-'), self.tree(class_, above, depth + 1), self.rng.choice(NUMBERS[:4])
+            number = self.rng.choice(NUMBERS[:4] if self.chance(0.8) else NUMBERS[:13])
+            return self.rng.choice('+-'), self.tree(class_, above, depth + 1), number
         if self.chance(0.3):
             word = self.rng.choice(['+', '+', '-', *BINARY])
             return word, self.tree(class_, above, depth + 1), self.tree(None, above, depth + 1)

@@ -33,7 +33,7 @@ class Fault(Exception):
 class Value:
     number: int
     class_: int = NUMBER
-    base: tuple = None                                # ('segment', Place) or ('external', number)
+    base: tuple = None                                # ('segment', Filled) or ('external', number)
     part: object = None                               # HIGH, LOW or a number of a bit
 
     def plain(self):
@@ -60,7 +60,7 @@ def is_bit_byte(byte):
 
 
 @dataclass(eq=False)
-class Place:
+class Filled:
     """A segment while it is filled: where it begins, how far it reaches, and its bytes by their offsets."""
     kind: int
     type: int
@@ -196,7 +196,7 @@ class Assembler:
     """Goes through the lines twice: places first, then content."""
 
     def __init__(self, lines):
-        self.lines, self.module = lines, None
+        self.lines = lines
         self.defined_lines = {}
         for number, (label, word, operands) in enumerate(lines):
             for name in self.defines(label, word, operands):
@@ -204,7 +204,7 @@ class Assembler:
         self.values, self.sets, self.externals, self.named = {}, {}, [], {}
         self.is_set, self.last, self.bank, self.banks = set(), {}, 0, 1
         self.segments = []
-        self.current = self.begin(Place(CODE, ABSOLUTE))
+        self.current = self.begin(Filled(CODE, ABSOLUTE))
         self.published = []
         self.steps = []                               # of each line its segment, its place, its bank and its form
 
@@ -289,7 +289,7 @@ class Assembler:
         flags = OVERLAYABLE if overlays else 0
         if overlays and kind == DATA and name.startswith('?AG?'):
             flags |= ARGUMENT
-        segment = Place(kind, type_, name, flags=flags)
+        segment = Filled(kind, type_, name, flags=flags)
         self.named[name] = segment
         self.segments.append(segment)
         self.values[name] = Value(0, kind, ('segment', segment))
@@ -302,14 +302,14 @@ class Assembler:
 
     def place_select(self, number, kind, tree):
         if tree is None:
-            self.current = self.last.get(kind) or self.begin(Place(kind, ABSOLUTE))
+            self.current = self.last.get(kind) or self.begin(Filled(kind, ABSOLUTE))
             return
         self.start(kind, self.number_of(tree, number))
 
     def start(self, kind, base):
         if base > MEMORY[kind]:
             raise Fault(15)
-        self.current = self.begin(Place(kind, ABSOLUTE, base=base))
+        self.current = self.begin(Filled(kind, ABSOLUTE, base=base))
 
     def place_org(self, number, tree):
         if self.current.type != ABSOLUTE:

@@ -2,7 +2,7 @@
 
    FAILING_LOG   a file that gets a letter for each call, in their order: s open for reading, p read of a piece,
                  q read of the rest of a piece, m open for writing, k write to a file, t write to standard output,
-                 c close, a growth of memory
+                 h change of permissions, y store on the disk, r rename, c close, a growth of memory
    FAILING_KIND  the letter of the calls that fail; p is for all reads
    FAILING_AT    which of them, counted from 1
    FAILING_HOW   once: that call; on: that call and all later ones of its kind; all: that call and all later ones of
@@ -13,8 +13,10 @@
 #include <errno.h>
 #include <fcntl.h>
 #include <stdarg.h>
+#include <stdio.h>
 #include <stdlib.h>
 #include <string.h>
+#include <sys/stat.h>
 #include <sys/syscall.h>
 #include <unistd.h>
 
@@ -110,9 +112,36 @@ int open(const char *name, int flags, ...)
     va_end(more);
     size_t none = 0;
     ssize_t answer;
-    if (is_struck(flags & O_CREAT ? 'm' : 's') && !goes_on(EACCES, &none, &answer))
+    if (is_struck((flags & O_ACCMODE) == O_RDONLY ? 's' : 'm') && !goes_on(EACCES, &none, &answer))
         return -1;
     return syscall(SYS_openat, AT_FDCWD, name, flags, mode);
+}
+
+int fchmod(int file, mode_t mode)
+{
+    size_t none = 0;
+    ssize_t answer;
+    if (is_struck('h') && !goes_on(EPERM, &none, &answer))
+        return -1;
+    return syscall(SYS_fchmod, file, mode);
+}
+
+int fsync(int file)
+{
+    size_t none = 0;
+    ssize_t answer;
+    if (is_struck('y') && !goes_on(EIO, &none, &answer))
+        return -1;
+    return syscall(SYS_fsync, file);
+}
+
+int rename(const char *from, const char *to)
+{
+    size_t none = 0;
+    ssize_t answer;
+    if (is_struck('r') && !goes_on(EBUSY, &none, &answer))
+        return -1;
+    return syscall(SYS_renameat, AT_FDCWD, from, AT_FDCWD, to);
 }
 
 int close(int file)

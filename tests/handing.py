@@ -4,7 +4,6 @@ are left), and answers what is wrong, or nothing.
 import generator
 import objects
 import refusals
-import words
 
 ECHO_RUN = ['--script', 'echo.brd', '--steps', '2000']
 
@@ -46,7 +45,7 @@ def a_hex_file_runs_as_it_was_built(run, echo):
 
 def libraries_are_edited_back(run, echo):
     """Modules that are put in, taken out and put in again leave the library that a build makes."""
-    one, two = refusals.SMALL, words.empty_module('B')
+    one, two = refusals.SMALL, objects.empty_module('B')
     objects_of = {'a.obj': one, 'b.obj': two}
     both, files = objects.library(one, two), {**objects_of, 'l.lib': objects.library(one)}
     raised = objects.library(refusals.SMALL_RAISED, two)

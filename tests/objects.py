@@ -68,6 +68,10 @@ def end(name, banks=1):
     return record(END, name_field(name) + bytes([banks]))
 
 
+def empty_module(name, version=1):
+    return header(name, version) + end(name)
+
+
 def library(*modules):
     return record(LIBRARY, two(len(modules))) + b''.join(modules)
 

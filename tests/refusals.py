@@ -4,7 +4,7 @@ a test of the answer. The answers are those of objects.py, which reads these fil
 import objects
 from objects import ABSOLUTE, BYTE, CODE, DATA, IDATA, UNIT, WORD
 
-# The module of tests/cases/echo, coded by hand from its source.
+# The module of the case echo, coded by hand from its source.
 ECHO_SEGMENTS = [
     (IDATA, UNIT, 32, '?STACK'), (CODE, UNIT, 40, '?PR?MAIN'),
     (CODE, UNIT, 5, '?PR?CONV'), (DATA, UNIT, 1, '?DT?CONV', 0, 1),

@@ -5,12 +5,20 @@ import tempfile
 
 TESTS = pathlib.Path(__file__).resolve().parent
 PROGRAM = TESTS.parent / 'crates' / 'm51' / 'out' / 'm51'
+# The stored cases, which m51_rows runs too.
+ROWS = TESTS.parent / 'crates' / 'm51_rows' / 'data'
 # The most that a run may take.
 SECONDS = 120
 
 
 def files_of(folder):
     return {path.name: path.read_bytes() for path in folder.iterdir()} if folder.is_dir() else {}
+
+
+def filled_of(path):
+    """The files of lines with a name, a count and a byte in hexadecimal."""
+    rows = [line.split() for line in path.read_text().splitlines()]
+    return {name: bytes.fromhex(byte) * int(count) for name, count, byte in rows}
 
 
 def run_in_folder(words, files):

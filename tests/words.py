@@ -1,31 +1,12 @@
-"""The rows of words.txt: a name, the words, the files, and a test of the answer."""
-import pathlib
+"""The rows of words.txt and of system.txt: a name, the words, the files, and a test of the answer."""
 import re
 
-import objects
+from running import ROWS, TESTS, filled_of, files_of
 
-USAGE = b'usage: m51 build [--control F] [--script F] [--hex F] --steps N FILE..\n'
-SOURCE = b'CSEG AT 0\nSJMP $\nEND\n'
-END_RECORD = objects.hex_record(0, '', 1).encode()
-
-
-def empty_module(name, version=1):
-    return objects.header(name, version) + objects.end(name)
-
-
-FILES = {
-    'a.a51': SOURCE, '-n.a51': SOURCE, 'help.a51': SOURCE, '.A51': SOURCE, 'b.A51': b'X EQU 1\nEND\n',
-    'c.Inc': b'NOP\n', 'd.OBJ': empty_module('D'), 'g': empty_module('G'), 'g2': empty_module('B', 2),
-    'e.Lib': objects.library(empty_module('A'), empty_module('B')),
-    'f.hex': END_RECORD, 'f': END_RECORD, 's.brd': b'', 'k.ctl': b'',
-    'bad.a51': b'^\nEND\n', 'bad.inc': b'^\n', 'with.a51': b'$INCLUDE(bad.inc)\nEND\n', 'bad.obj': b'', 'bad.lib': b'?',
-    'bad.hex': b'', 'bad.ctl': b'?\n', 'bad.brd': b'?\n', 'unlinked.a51': b'EXTRN CODE (F)\nLJMP F\nEND\n',
-}
+USAGE = (ROWS / 'cases' / 'usage' / 'stdout').read_bytes()
+FILES = files_of(ROWS / 'words')
 # Files that are there only where the words name them.
-LARGE = {
-    **{f'long.{ending}': b' ' * 1_048_577 for ending in ('a51', 'inc', 'ctl', 'hex', 'lib')},
-    'many.ctl': b'\n' * 1_001, 'many.brd': b'\n' * 65_537,
-}
+FILLED = filled_of(ROWS / 'filled.txt')
 
 
 def bytes_of(text):
@@ -58,10 +39,11 @@ def is_right_for(answer, files):
 
 
 def cases():
-    for row in (pathlib.Path(__file__).parent / 'words.txt').read_text().splitlines():
+    tables = [ROWS / 'words.txt', TESTS / 'system.txt']
+    for row in [row for table in tables for row in table.read_text().splitlines()]:
         if row and not row.startswith('#'):
             answer, text = re.fullmatch(r'(.*?) = ?(.*)', row).groups()
-            files = {**FILES, **{name: content for name, content in LARGE.items() if name in text.split()}}
+            files = {**FILES, **{name: content for name, content in FILLED.items() if name in text.split()}}
             yield f'words {text}', words_of(text), files, is_right_for(answer, files)
 
 

@@ -11,8 +11,7 @@ use Rattle.m51_expr.specs.Tree.{Tree}
 use Rattle.m51_expr.specs.Value.{Valued, plain}
 use Rattle.m51_expr.specs.Evaluation.{value_of}
 use Rattle.m51_predefined.specs.Predefined.{register_or_bit, absolute_register_of, register_value}
-use Rattle.m51_predefined.specs.Registers.{address_in, registers}
-use Rattle.m51_predefined.specs.Bits.{bits}
+use Rattle.m51_sfr.specs.Registers.{address_in, bits, registers}
 use Rattle.m51_stmt.specs.Statement as body
 use Rattle.m51_stmt.specs.Statement.{BodyTree}
 use Rattle.m51_text.specs.Answer.{LineTree}

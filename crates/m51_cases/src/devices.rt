@@ -1,11 +1,11 @@
 //! Tables of the devices, of interrupts and of scripts, with values from the family manual.
 use m51_cells::{NoMemory, digit_value};
-use m51_flat::addresses::{
-    IE, IP, PCON, RCAP2H, RCAP2L, SBUF, SCON, T2CON, TCON, TH0, TH1, TH2, TL0, TL1, TL2, TMOD,
-};
 use m51_flat::{Cpu, Pins, Source, reset};
 use m51_irq::choose;
 use m51_script::{ScriptError, read_script};
+use m51_sfr::addresses::{
+    IE, IP, PCON, RCAP2H, RCAP2L, SBUF, SCON, T2CON, TCON, TH0, TH1, TH2, TL0, TL1, TL2, TMOD,
+};
 use m51_timers_uart::{Frame, Periph};
 use std::alloc::Global;
 

@@ -6,13 +6,13 @@ use Rattle.m51_cells.specs.Outside.{Rose}
 use Rattle.m51_cells.proofs.Fronts.{front_at_end}
 use Rattle.m51_sim.specs.declared.runs.RunEnd.{RunEnd}
 use Rattle.m51_sim.specs.declared.runs.RunEnd.TheVariants as ends
-use Rattle.m51_sim.specs.declared.sink.Failed.{Failed}
+use Rattle.m51_shelf.specs.declared.sink.Failed.{Failed}
 use Rattle.m51_sim.specs.Run.{Ended, record_text}
 use Rattle.m51_sim.specs.Runs.{Machine, State, record_of}
-use Rattle.m51_sim.specs.Writing.{SinkState}
+use Rattle.m51_shelf.specs.Writing.{SinkState}
 use Rattle.m51_chain.specs.declared.status.Status.{Status}
 use Rattle.m51_chain.specs.declared.status.Status.TheVariants as status
-use Rattle.m51_chain.specs.Outside.{KeepAt}
+use Rattle.m51_shelf.specs.States.{KeepAt}
 use Rattle.m51_chain.specs.Outcome.{Answer, status_after, status_by}
 use Rattle.m51_chain.specs.Targets.{unkept_text}
 use Rattle.m51_chain.specs.Carried.{status_told, IsKept, IsWritten, IsEnded, IsUnkept, Whole, Cut, Unkept, UnkeptCut}

@@ -5,11 +5,13 @@ use Rattle.m51_words.specs.declared.job.Job.{Job}
 use Rattle.m51_words.specs.Files.{name_kept, names_read}
 use Rattle.m51_chain.specs.declared.status.Status.{Status}
 use Rattle.m51_chain.specs.declared.status.Status.TheVariants as status
-use Rattle.m51_chain.specs.Shelf.{File, Files}
-use Rattle.m51_chain.specs.Outside.{Change, ReadAt}
+use Rattle.m51_shelf.specs.Shelf.{File, Files}
+use Rattle.m51_shelf.specs.States.{ReadAt}
+use Rattle.m51_chain.specs.Outside.{Change}
 use Rattle.m51_chain.specs.Outcome.{Answer, under, usage_answer, many_answer, long_answer, unread_answer}
 use Rattle.m51_chain.specs.Expected.{MayKeep}
-use Rattle.m51_chain.specs.Reading.{AreRead, IsLong, IsReached}
+use Rattle.m51_shelf.specs.Reading.{IsLong}
+use Rattle.m51_chain.specs.Reading.{AreRead, IsReached}
 use Rattle.m51_chain.specs.Carried as carried
 use Rattle.m51_chain.specs.Carried.{IsUnkept}
 use Rattle.m51_chain.specs.Due as due

@@ -13,7 +13,7 @@ use Rattle.m51_chain.specs.Expected.{HasOutcome, IsAnswer}
 use Rattle.m51_chain.specs.Outcome.{Answer, long_answer, many_answer, named_answer, unread_answer, usage_answer}
 use Rattle.m51_chain.specs.Outside.{Change}
 use Rattle.m51_chain.specs.Reading.{Absent, Reading, TooLong, Whole, read_of}
-use Rattle.m51_chain.specs.Shelf.{Files}
+use Rattle.m51_shelf.specs.Shelf.{Files}
 use Rattle.m51_chain.specs.Told.{Ended, IsTold, IsUnread, Written}
 use Rattle.m51_chain.proofs.OneOutcome.{one_outcome}
 

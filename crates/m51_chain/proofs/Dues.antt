@@ -3,8 +3,9 @@ use Rattle.std.proofs.Common.{◌≡◌, ◌⊎◌, ℕ, List, Option, Some, sub
 use Rattle.m51_words.specs.Files.{names_read}
 use Rattle.m51_chain.specs.declared.status.Status.{Status}
 use Rattle.m51_chain.specs.declared.status.Status.TheVariants as status
-use Rattle.m51_chain.specs.Shelf.{Files}
-use Rattle.m51_chain.specs.Outside.{Change, ReadAt}
+use Rattle.m51_shelf.specs.Shelf.{Files}
+use Rattle.m51_shelf.specs.States.{ReadAt}
+use Rattle.m51_chain.specs.Outside.{Change}
 use Rattle.m51_chain.specs.Outcome.{Answer}
 use Rattle.m51_chain.specs.Carried as carried
 use Rattle.m51_chain.specs.Expected as answers

@@ -26,7 +26,7 @@ use Rattle.m51_sim.specs.Boards.{BoardState, IsStarted}
 use Rattle.m51_sim.specs.Cycles.{inputs_of}
 use Rattle.m51_sim.specs.FlatMachine.{reset_with}
 use Rattle.m51_sim.specs.SeparateMachine.{separate_start}
-use Rattle.m51_sim.specs.Writing.{SinkState}
+use Rattle.m51_shelf.specs.Writing.{SinkState}
 use Rattle.m51_chain.specs.declared.work.Stop.{Stop}
 use Rattle.m51_chain.specs.declared.work.Stop.TheVariants as stop
 use Rattle.m51_chain.specs.Carried.{IsWritten}

@@ -4,7 +4,6 @@ pub mod HandedOut
 pub mod Dues
 pub mod Causes
 pub mod Holding
-pub mod Pieces
 pub mod Planned
 pub mod Objects
 pub mod Ends
@@ -23,4 +22,3 @@ pub mod Following
 pub mod Bounded
 pub mod Chained
 pub mod Built
-pub mod Places

@@ -1,15 +1,18 @@
 -- Reading files one after the other.
-use Rattle.std.proofs.Common.{◌≡◌, ℕ, zero, suc, ◌+◌, ◌<◌, ◌≤◌, nat_le, true, false, Bool, List, [], ◌∷◌, ◌++◌, length, take, drop, get_or, drop-cons, take-append-drop, Option, Some, None, refl, sym, ap, ◌∙◌, subst, arith, inl, inr, length-append, cond}
+use Rattle.std.proofs.Common.{◌≡◌, ℕ, Err, zero, suc, ◌+◌, ◌<◌, ◌≤◌, nat_le, true, false, Bool, List, [], ◌∷◌, ◌++◌, length, take, drop, get_or, drop-cons, take-append-drop, Option, Some, None, refl, sym, ap, ◌∙◌, subst, arith, inl, inr, length-append, cond}
 use Rattle.std.specs.Prelude.{IfSome, IsSomeAnd, Contains, slice_get}
 use Rattle.std.specs.List.{All}
 use Rattle.std.proofs.lemmas.Bool.Decides.{leb_tells}
-use Rattle.std.proofs.lemmas.List.{take_more}
+use Rattle.std.proofs.lemmas.List.{length-take-le, take_more}
 use Rattle.std.proofs.lemmas.List.Elements.{All-append, Contains-get_or}
 use Rattle.std.proofs.lemmas.Option.{slice_get-get_or}
 use Rattle.m51_cells.specs.declared.limits.TheConstants.{MOST_FILE_BYTES}
-use Rattle.m51_chain.specs.Shelf.{Files}
-use Rattle.m51_chain.specs.Outside.{ReadAt}
-use Rattle.m51_chain.specs.Reading.{Reading, Whole, TooLong, Absent, with_file, read_one, read_of, IsWhole, IsLong, AreRead, IsReached}
+use Rattle.m51_shelf.specs.declared.reading.ReadError.{ReadError}
+use Rattle.m51_shelf.specs.declared.reading.ReadError.TheVariants as errors
+use Rattle.m51_shelf.specs.Shelf.{Files}
+use Rattle.m51_shelf.specs.States.{ReadAt}
+use Rattle.m51_shelf.specs.Reading.{IsWhole, IsLong, IsRead}
+use Rattle.m51_chain.specs.Reading.{Reading, Whole, TooLong, Absent, with_file, read_one, read_of, AreRead, AreReadOr, IsReached}
 
 -- contents in front of what is read on
 abbrev pub with_files : List (List ℕ) → Reading → Reading
@@ -138,3 +141,17 @@ named_there names index name named low is same = slice_get-get_or names index na
 pub named_among : (names : List (List ℕ)) (index : ℕ) (name named : List ℕ) → index < length names → name ≡ get_or names index name → named ≡ name
     → Contains names named
 named_among names index name named low is same = subst (λ n. Contains names n) (sym is ∙ sym same) (Contains-get_or names index name low)
+
+-- The file at an index was not read whole.
+pub unread : (holds : Option Files) (names contents : List (List ℕ)) (index : ℕ) (name : List ℕ) (first before after : ReadAt) (error : ReadError)
+    → index < length names → AreRead holds (take index names) contents → name ≡ get_or names index name → after.named ≡ name
+    → first.faults ≤ before.faults → IsRead holds before after (Err error) → AreReadOr holds names contents first after (Err error)
+unread holds names contents index name first before after errors.TooLong low read is same later long =
+    (long, reached holds names contents index name after.named low read is same)
+unread holds names contents index name first before after errors.Failed low read is same later failed =
+    let at : length contents ≡ index = read.count ∙ length-take-le index names (omega (arith, low)) in (
+      record { rose = omega (arith, later, failed.rose); closed = failed.closed },
+      reached holds names contents index name after.named low read is same,
+      rw at (named_there names index name after.named low is same),
+    )
+unread holds names contents index name first before after errors.Memory low read is same later out = tt

@@ -2,12 +2,12 @@
 use Rattle.std.specs.Prelude.{◌≡◌, ℕ, List, Some, None, Result, Ok, Err, option_to_list}
 use Rattle.std.specs.Io.KnownBytes.{Appends}
 use Rattle.m51_cells.specs.Outside.{Rose, AppendsFront}
-use Rattle.m51_sim.specs.declared.sink.Failed.{Failed}
-use Rattle.m51_sim.specs.Writing.{SinkState}
+use Rattle.m51_shelf.specs.declared.sink.Failed.{Failed}
+use Rattle.m51_shelf.specs.Writing.{SinkState}
 use Rattle.m51_chain.specs.declared.status.Status.{Status}
 use Rattle.m51_chain.specs.declared.status.Status.TheVariants as status
-use Rattle.m51_chain.specs.Shelf.{File, Grows}
-use Rattle.m51_chain.specs.Outside.{KeepAt}
+use Rattle.m51_shelf.specs.Shelf.{File, Grows}
+use Rattle.m51_shelf.specs.States.{KeepAt}
 use Rattle.m51_chain.specs.Outcome.{Answer}
 use Rattle.m51_chain.specs.Targets.{unkept_text}
 

@@ -9,11 +9,12 @@ use Rattle.m51_chain.specs.declared.work.Plan.{Plan}
 use Rattle.m51_chain.specs.declared.work.Stop.{Stop}
 use Rattle.m51_chain.specs.declared.work.Stop.TheVariants as stop
 use Rattle.m51_words.specs.Jobs.{job_of}
-use Rattle.m51_chain.specs.Shelf.{Files}
-use Rattle.m51_chain.specs.Outside.{ReadAt, HasFailed}
+use Rattle.m51_shelf.specs.Shelf.{Files}
+use Rattle.m51_shelf.specs.States.{ReadAt, HasFailed}
 use Rattle.m51_chain.specs.Outcome.{Answer, answer_of, outcome_of, refused, named_answer}
 use Rattle.m51_chain.specs.Outcome.{usage_answer, many_answer, long_answer, unread_answer}
-use Rattle.m51_chain.specs.Reading.{AreRead, AreGiven, ReadsSome, IsLong, IsReached}
+use Rattle.m51_shelf.specs.Reading.{IsLong}
+use Rattle.m51_chain.specs.Reading.{AreRead, AreGiven, ReadsSome, IsReached}
 use Rattle.m51_chain.specs.Expected.{HasOutcome}
 
 -- The work was done on contents that were read whole, and that are what the shelf handed out.

@@ -6,7 +6,7 @@ use Rattle.m51_words.specs.Files.{file_count, names_read, name_kept}
 use Rattle.m51_chain.specs.declared.status.Status.{Status}
 use Rattle.m51_chain.specs.declared.status.Status.TheVariants as status
 use Rattle.m51_words.specs.Jobs.{job_of}
-use Rattle.m51_chain.specs.Shelf.{Files}
+use Rattle.m51_shelf.specs.Shelf.{Files}
 use Rattle.m51_chain.specs.Outcome.{Answer, Outcome, named_answer}
 use Rattle.m51_chain.specs.Outcome.{usage_answer, many_answer, long_answer, unread_answer}
 use Rattle.m51_chain.specs.Reading.{Whole, TooLong, Absent, read_of}

@@ -1,6 +1,3 @@
-pub mod Shelf
-pub mod Stored
-pub mod Memory
 pub mod Outside
 pub mod Reading
 pub mod Asked

@@ -11,7 +11,7 @@ use Rattle.m51_party.specs.Text.{party_text}
 use Rattle.m51_print.specs.Lines.{titles_of}
 use Rattle.m51_sim.specs.declared.runs.RunEnd.{RunEnd}
 use Rattle.m51_sim.specs.declared.runs.RunEnd.TheVariants as ends
-use Rattle.m51_sim.specs.declared.sink.Failed.{Failed}
+use Rattle.m51_shelf.specs.declared.sink.Failed.{Failed}
 use Rattle.m51_sim.specs.Boards.{BoardState, FlatState, flat_of, separate_of}
 use Rattle.m51_sim.specs.Cycles.{inputs_of}
 use Rattle.m51_sim.specs.FlatMachine.{flat_machine}
@@ -30,7 +30,7 @@ use Rattle.m51_chain.specs.declared.work.Reason.{Reason}
 use Rattle.m51_chain.specs.declared.work.Reason.TheVariants as reason
 use Rattle.m51_chain.specs.declared.work.Stop.{Stop}
 use Rattle.m51_chain.specs.declared.work.Stop.TheVariants as stop
-use Rattle.m51_chain.specs.Shelf.{File}
+use Rattle.m51_shelf.specs.Shelf.{File}
 
 -- What work comes to: a status, the text that is written, and the bytes of the file that is kept.
 pub record Outcome : Type 0 where

@@ -8,8 +8,9 @@ use Rattle.m51_words.specs.Files.{file_count, name_kept}
 use Rattle.m51_chain.specs.declared.status.Status.{Status}
 use Rattle.m51_chain.specs.declared.status.Status.TheVariants as status
 use Rattle.m51_words.specs.Jobs.{job_of}
-use Rattle.m51_chain.specs.Shelf.{File, Files, HoldsOthers}
-use Rattle.m51_chain.specs.Outside.{Change, HasFailed}
+use Rattle.m51_shelf.specs.Shelf.{File, Files, HoldsOthers}
+use Rattle.m51_shelf.specs.States.{HasFailed}
+use Rattle.m51_chain.specs.Outside.{Change}
 use Rattle.m51_chain.specs.Outcome.{Answer, usage_answer, many_answer, long_answer, unread_answer}
 use Rattle.m51_chain.specs.Targets.{unkept_text}
 use Rattle.m51_chain.specs.Carried.{IsWhole, IsCut, IsUnkept, IsUntouched, IsEnded}

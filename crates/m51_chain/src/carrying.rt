@@ -2,14 +2,14 @@
 ghost use Rattle.std.specs.Prelude.{◌≡◌, ◌≤◌, ◌++◌, None, Some};
 ghost use Rattle.m51_chain.specs.Carried.{IsWritten, IsEnded, status_told};
 ghost use Rattle.m51_chain.specs.Outcome.{answer_of, file_of, party_status, status_after, status_at, text_at};
-ghost use Rattle.m51_chain.specs.Shelf.{HoldsOthers};
+ghost use Rattle.m51_shelf.specs.Shelf.{HoldsOthers};
 ghost use Rattle.m51_chain.specs.Told.{HoldsBut};
 
-use crate::shelf::Shelf;
 use crate::status::Status;
 use crate::work::{Ending, Kept, Plan};
 use m51_party::PartyEnd;
-use m51_sim::{Failed, RunEnd, Sink, write_whole};
+use m51_shelf::{Failed, Shelf, Sink, write_whole};
+use m51_sim::RunEnd;
 
 // Writes a text, and ends with the status.
 fn write<S: Sink>(out: &mut S, status: Status, text: &[u8]) -> Result<Status, Failed>

@@ -156,70 +156,6 @@ fn keep_edited(
     }
 }
 
-// The objects are added.
-#[tactic(auto, unfolding(crate::specs::Libraries::operated))]
-fn add(
-    alloc: Global,
-    mut library: Library,
-    names: &[FileName],
-    files: &[Bytes],
-) -> Result<Finished, Stop>
-    requires count { length files.now ≡ length names.now }
-    requires within { All (λ bytes. length bytes ≤ MOST_FILE_BYTES) files.now }
-    ensures { Gives outcome_of stopped result (operated (Operation.Add names.now) files.now library) }
-{
-    let modules = objects_in(alloc, names, files)?;
-    let edited = add_each(&mut library, modules);
-    keep_edited(alloc, &library, edited)
-}
-
-// The objects are put in the places of those of their names.
-#[tactic(auto, unfolding(crate::specs::Libraries::operated))]
-fn replace(
-    alloc: Global,
-    mut library: Library,
-    names: &[FileName],
-    files: &[Bytes],
-) -> Result<Finished, Stop>
-    requires count { length files.now ≡ length names.now }
-    requires within { All (λ bytes. length bytes ≤ MOST_FILE_BYTES) files.now }
-    ensures { Gives outcome_of stopped result (operated (Operation.Replace names.now) files.now library) }
-{
-    let modules = objects_in(alloc, names, files)?;
-    let edited = replace_each(&mut library, modules);
-    keep_edited(alloc, &library, edited)
-}
-
-// The modules of these names are deleted.
-#[tactic(auto, unfolding(crate::specs::Libraries::operated))]
-fn delete(
-    alloc: Global,
-    mut library: Library,
-    names: &[Name],
-    files: &[Bytes],
-) -> Result<Finished, Stop>
-    ensures { Gives outcome_of stopped result (operated (Operation.Delete names.now) files.now library) }
-{
-    let _ = files;
-    let edited = delete_each(&mut library, names);
-    keep_edited(alloc, &library, edited)
-}
-
-// The modules of these names are raised.
-#[tactic(auto, unfolding(crate::specs::Libraries::operated))]
-fn raise(
-    alloc: Global,
-    mut library: Library,
-    names: &[Name],
-    files: &[Bytes],
-) -> Result<Finished, Stop>
-    ensures { Gives outcome_of stopped result (operated (Operation.Raise names.now) files.now library) }
-{
-    let _ = files;
-    let edited = raise_each(&mut library, names);
-    keep_edited(alloc, &library, edited)
-}
-
 // The module of that name is kept.
 fn extract(alloc: Global, library: &Library, name: &Name) -> Result<Finished, Stop>
     ensures { Gives outcome_of stopped result (kept_module (extracted library.now name.now)) }
@@ -262,7 +198,7 @@ fn list(alloc: Global, library: &Library) -> Result<Finished, Stop>
 #[tactic(auto, unfolding(crate::specs::Libraries::operated))]
 fn operated(
     alloc: Global,
-    library: Library,
+    mut library: Library,
     operation: &Operation,
     files: &[Bytes],
 ) -> Result<Finished, Stop>
@@ -272,10 +208,24 @@ fn operated(
 {
     match operation {
         Operation::Build(_) => keep_library(alloc, &library),
-        Operation::Add(names) => add(alloc, library, names.as_slice(), files),
-        Operation::Replace(names) => replace(alloc, library, names.as_slice(), files),
-        Operation::Delete(names) => delete(alloc, library, names.as_slice(), files),
-        Operation::Raise(names) => raise(alloc, library, names.as_slice(), files),
+        Operation::Add(names) => {
+            let modules = objects_in(alloc, names.as_slice(), files)?;
+            let edited = add_each(&mut library, modules);
+            keep_edited(alloc, &library, edited)
+        }
+        Operation::Replace(names) => {
+            let modules = objects_in(alloc, names.as_slice(), files)?;
+            let edited = replace_each(&mut library, modules);
+            keep_edited(alloc, &library, edited)
+        }
+        Operation::Delete(names) => {
+            let edited = delete_each(&mut library, names.as_slice());
+            keep_edited(alloc, &library, edited)
+        }
+        Operation::Raise(names) => {
+            let edited = raise_each(&mut library, names.as_slice());
+            keep_edited(alloc, &library, edited)
+        }
         Operation::Extract { name, .. } => extract(alloc, &library, name),
         Operation::List => list(alloc, &library),
     }

@@ -2,6 +2,7 @@
 ghost use Rattle.std.specs.Prelude.{◌≡◌, ◌⊎◌, ◌≤◌, IfOk, None, length, option_map};
 ghost use Rattle.std.specs.List.{All};
 ghost use Rattle.m51_cells.specs.declared.limits.TheConstants.{MOST_FILES, MOST_FILE_BYTES};
+ghost use Rattle.m51_shelf.specs.States.{OnlyReads};
 ghost use Rattle.m51_words.specs.Files.{file_count, name_kept, names_read};
 ghost use Rattle.m51_words.specs.Jobs.{job_of};
 ghost use Rattle.m51_words.specs.Texts.{texts};
@@ -19,13 +20,13 @@ use crate::flat::run_flat;
 use crate::generating::count;
 use crate::joining::join_files;
 use crate::library::operate;
-use crate::reading::{Unread, read_all};
+use crate::reading::{Contents, read_all};
 use crate::refusing::{refuse_long_file, refuse_many_files, refuse_unread_file, refuse_words};
-use crate::shelf::Shelf;
 use crate::status::Status;
 use crate::target::Target;
 use crate::work::{Finished, Kept, Plan, Reason, Stop};
 use m51_cells::{Bytes, MOST_FILES, NoMemory};
+use m51_shelf::{ReadError, Shelf};
 use m51_words::{Job, WordsError, file_count, job_of, name_kept, names_read};
 use std::alloc::Global;
 
@@ -125,12 +126,10 @@ fn plan_job<F: Shelf>(alloc: Global, job: &Job, files: &mut F) -> Result<Plan, N
     requires fit { IsFit job.now }
     ensures due { IfOk result (λ plan. IsDueFor job.now (F.state files.old).holds
         (F.state files.old).reads (F.state files.new).reads (answer_of plan)) }
-    ensures later { (F.state files.old).reads.faults ≤ (F.state files.new).reads.faults }
+    ensures frame { OnlyReads (F.state files.old) (F.state files.new) }
     ensures reads { ((F.state files.new).reads ≡ (F.state files.old).reads)
         ⊎ ((file_count job.now ≤ MOST_FILES)
         × ReadsSome (names_read job.now) (F.state files.old).reads (F.state files.new).reads) }
-    ensures holds { (F.state files.new).holds ≡ (F.state files.old).holds }
-    ensures keeps { (F.state files.new).keeps ≡ (F.state files.old).keeps }
 {
     if file_count(job) > MOST_FILES {
         return refuse_many_files(alloc);
@@ -144,21 +143,20 @@ fn plan_few<F: Shelf>(alloc: Global, job: &Job, files: &mut F) -> Result<Plan, N
     requires few { file_count job.now ≤ MOST_FILES }
     ensures due { IfOk result (λ plan. IsDueFor job.now (F.state files.old).holds
         (F.state files.old).reads (F.state files.new).reads (answer_of plan)) }
-    ensures later { (F.state files.old).reads.faults ≤ (F.state files.new).reads.faults }
+    ensures frame { OnlyReads (F.state files.old) (F.state files.new) }
     ensures reads { ((F.state files.new).reads ≡ (F.state files.old).reads)
         ⊎ ReadsSome (names_read job.now) (F.state files.old).reads (F.state files.new).reads }
-    ensures holds { (F.state files.new).holds ≡ (F.state files.old).holds }
-    ensures keeps { (F.state files.new).keeps ≡ (F.state files.old).keeps }
 {
     let names = names_read(alloc, job)?;
-    match read_all(alloc, names.as_slice(), files) {
-        Ok(contents) => work_planned(alloc, job, contents.as_slice()),
-        Err(Unread::TooLong) => refuse_long_file(alloc),
-        Err(Unread::Failed { index }) => refuse_unread_file(
+    let mut contents = Contents::new(alloc);
+    match read_all(alloc, names.as_slice(), files, &mut contents) {
+        Ok(()) => work_planned(alloc, job, contents.as_slice()),
+        Err(ReadError::TooLong) => refuse_long_file(alloc),
+        Err(ReadError::Failed) => refuse_unread_file(
             alloc,
-            names.as_slice()[index].as_str(),
+            names.as_slice()[contents.len()].as_str(),
         ),
-        Err(Unread::Memory) => Err(NoMemory),
+        Err(ReadError::Memory) => Err(NoMemory),
     }
 }
 
@@ -172,11 +170,9 @@ pub(crate) fn plan<F: Shelf>(
     ensures due { IfOk result (λ plan. IsDue (texts words.now) (F.state files.old).holds
         (F.state files.old).reads (F.state files.new).reads (answer_of plan)) }
     ensures usage { job_of (texts words.now) ≡ None → files.new ≡ files.old }
-    ensures later { (F.state files.old).reads.faults ≤ (F.state files.new).reads.faults }
+    ensures frame { OnlyReads (F.state files.old) (F.state files.new) }
     ensures reads { ((F.state files.new).reads ≡ (F.state files.old).reads)
         ⊎ ReadsOnly (texts words.now) (F.state files.old).reads (F.state files.new).reads }
-    ensures holds { (F.state files.new).holds ≡ (F.state files.old).holds }
-    ensures keeps { (F.state files.new).keeps ≡ (F.state files.old).keeps }
 {
     match job_of(alloc, words) {
         Ok(job) => plan_job(alloc, &job, files),

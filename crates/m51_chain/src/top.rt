@@ -7,15 +7,14 @@ ghost use Rattle.m51_chain.specs.Due.{ReadsOnly};
 ghost use Rattle.m51_chain.specs.Expected.{IsAnswer};
 ghost use Rattle.m51_chain.specs.Outcome.{Answer};
 ghost use Rattle.m51_chain.specs.Outside.{change};
-ghost use Rattle.m51_chain.specs.Shelf.{Files};
+ghost use Rattle.m51_shelf.specs.Shelf.{Files};
 ghost use Rattle.m51_chain.specs.Told.{HoldsButKept, IsCaused, IsTold};
 
 use crate::carrying::carry_out;
 use crate::planning::plan;
-use crate::shelf::Shelf;
 use crate::status::Status;
 use m51_cells::NoMemory;
-use m51_sim::Sink;
+use m51_shelf::{Shelf, Sink};
 use std::alloc::Global;
 
 /// Does what the arguments ask for, with the files of the shelf, and writes to the sink. The arguments are those after

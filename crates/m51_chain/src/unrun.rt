@@ -8,7 +8,8 @@ ghost use Rattle.m51_party.specs.Rounds.{family_of};
 
 use m51_cells::NoMemory;
 use m51_party::{Party, PartyEnd};
-use m51_sim::{Board, Sink};
+use m51_shelf::Sink;
+use m51_sim::Board;
 use std::alloc::Global;
 use std::marker::Model;
 

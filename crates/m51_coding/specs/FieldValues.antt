@@ -1,11 +1,12 @@
 -- What a value gives in a field of a statement: a number, a reference, or nothing, which is E14.
-use Rattle.std.specs.Prelude.{ℕ, ◌+◌, ◌-◌, ◌/◌, ◌%◌, ◌==◌, ◌<◌, Bool, ◌&&◌, ◌||◌, nat_le, if◌then◌else◌, Option, Some}
+use Rattle.std.specs.Prelude.{ℕ, ◌%◌, ◌<◌, Bool, ◌&&◌, ◌||◌, if◌then◌else◌, Option, Some}
 use Rattle.std.specs.Prelude.{None}
 use Rattle.m51_expr.specs.declared.value.Value.{Value}
 use Rattle.m51_expr.specs.Value.{counted}
 use Rattle.m51_expr.specs.Meanings.{Meanings, is_unplaced}
 use Rattle.m51_isa.specs.declared.slot.Field.{Field}
 use Rattle.m51_isa.specs.declared.slot.Field.TheVariants.{Data16, Addr16, Addr11, Rel}
+pub use Rattle.m51_isa.specs.Targets.{distance, is_near, in_one_block as same_block}
 use Rattle.m51_coding.specs.declared.reference.FieldValue.{FieldValue}
 use Rattle.m51_coding.specs.declared.reference.FieldValue.TheVariants.{Number, Linked}
 use Rattle.m51_coding.specs.Taking.{takes_class, takes_part, takes_number, held_of}
@@ -17,18 +18,6 @@ use Rattle.m51_coding.specs.Bases.{is_current, stands_absolute, is_linked}
 abbrev pub is_taken : Meanings → Field → Value → Bool
 is_taken names at v =
     takes_class at v.class && takes_part at v.part && (is_unplaced names v.base || takes_number at (counted v))
-
--- how far a target lies from the address after a statement, modulo 65,536
-abbrev pub distance : ℕ → ℕ → ℕ
-distance next target = (65536 + target - next) % 65536
-
--- a distance from -128 to 127
-abbrev pub is_near : ℕ → Bool
-is_near d = nat_le d 127 || nat_le 65408 d
-
--- two addresses in one block of 2,048 bytes
-abbrev pub same_block : ℕ → ℕ → Bool
-same_block a b = a / 2048 == b / 2048
 
 -- the signed byte from after a statement to a target
 abbrev pub rel_of : ℕ → ℕ → Option FieldValue

@@ -1,12 +1,13 @@
 -- What stands in a field of a statement: classes, operators over a base, and numbers (this project's rules of
 -- operands).
-use Rattle.std.specs.Prelude.{ℕ, ◌%◌, Bool, true, false, ◌||◌, nat_le}
+use Rattle.std.specs.Prelude.{ℕ, ◌%◌, Bool, true, false, nat_le}
 use Rattle.m51_cells.specs.declared.kind.Kind.{Kind}
 use Rattle.m51_cells.specs.declared.kind.Kind.TheVariants as kind
 use Rattle.m51_expr.specs.declared.value.Part.{Part}
 use Rattle.m51_expr.specs.declared.value.Part.TheVariants.{Whole, Bit}
 use Rattle.m51_isa.specs.declared.slot.Field.{Field}
 use Rattle.m51_isa.specs.declared.slot.Field.TheVariants as field
+use Rattle.m51_isa.specs.Targets.{fits_byte}
 
 -- A value without a class stands anywhere, and any value in data and words; else the class is that of the field.
 abbrev pub takes_class : Field → Kind → Bool
@@ -31,7 +32,7 @@ takes_part at part = false
 
 -- data of 8 bits, as a number without or with a sign; an address or a bit of 8 bits
 abbrev pub takes_number : Field → ℕ → Bool
-takes_number field.Data n = nat_le n 0xFF || nat_le 0xFF00 n
+takes_number field.Data n = fits_byte n
 takes_number field.Direct n = nat_le n 0xFF
 takes_number field.Bit n = nat_le n 0xFF
 takes_number at n = true

@@ -3,10 +3,9 @@ ghost use Rattle.std.specs.Prelude.{◌≡◌};
 ghost use Rattle.m51_coding.specs.JumpForm.{address_after, is_byte, is_own, is_short, shortest, jump_form_of};
 
 use crate::bases::{is_current, stands_absolute};
-use crate::field_values::{distance, is_near, same_block};
 use m51_cells::Base;
 use m51_expr::{ExprError, Lookup, Part, Value, counted};
-use m51_isa::{Jump, Verb};
+use m51_isa::{Jump, Verb, distance, in_one_block, is_near};
 
 /// The address after a statement of so many bytes, modulo 65,536.
 pub(crate) fn address_after<L: Lookup>(names: &L, length: u16) -> u16
@@ -51,7 +50,7 @@ fn shortest<L: Lookup>(names: &L, verb: Verb, next: u16, target: u16) -> Jump
 {
     if is_short(verb, next, target) {
         Jump::Short
-    } else if stands_absolute(names) && same_block(target, next) {
+    } else if stands_absolute(names) && in_one_block(target, next) {
         Jump::Block
     } else {
         Jump::Long

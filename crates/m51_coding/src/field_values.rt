@@ -1,13 +1,13 @@
 //! What a value gives in a field.
 ghost use Rattle.std.specs.Prelude.{◌≡◌, IfSome};
-ghost use Rattle.m51_coding.specs.FieldValues.{is_taken, distance, is_near, same_block, rel_of, addr11_of};
+ghost use Rattle.m51_coding.specs.FieldValues.{is_taken, rel_of, addr11_of};
 ghost use Rattle.m51_coding.specs.FieldValues.{relative_of, block_of, stored_of, taken_of, field_of, FitsField};
 
 use crate::bases::{is_current, is_linked, stands_absolute};
 use crate::reference::{FieldValue, reference_of};
 use crate::taking::{held_of, takes_class, takes_number, takes_part};
 use m51_expr::{Lookup, Value, counted, is_unplaced};
-use m51_isa::Field;
+use m51_isa::{Field, distance, in_one_block, is_near};
 
 // Whether the field takes the class, the operator and the number.
 fn is_taken<L: Lookup>(names: &L, field: Field, value: Value) -> bool
@@ -16,27 +16,6 @@ fn is_taken<L: Lookup>(names: &L, field: Field, value: Value) -> bool
     takes_class(field, value.class)
         && takes_part(field, value.part)
         && (is_unplaced(names, value.base) || takes_number(field, counted(value)))
-}
-
-/// How far a target lies from the address after a statement, modulo 65,536.
-pub(crate) fn distance(next: u16, target: u16) -> u16
-    ensures { result ≡ distance next target }
-{
-    target.wrapping_sub(next)
-}
-
-/// Whether a distance is from -128 to 127.
-pub(crate) fn is_near(distance: u16) -> bool
-    ensures { result ≡ is_near distance }
-{
-    distance <= 127 || distance >= 65408
-}
-
-/// Whether two addresses lie in one block of 2,048 bytes.
-pub(crate) fn same_block(a: u16, b: u16) -> bool
-    ensures { result ≡ same_block a b }
-{
-    a / 2048 == b / 2048
 }
 
 // The signed byte from after a statement to a target.
@@ -55,7 +34,7 @@ fn rel_of(next: u16, target: u16) -> Option<FieldValue>
 fn addr11_of(next: u16, target: u16) -> Option<FieldValue>
     ensures { result ≡ addr11_of next target }
 {
-    if same_block(target, next) {
+    if in_one_block(target, next) {
         Some(FieldValue::Number(target % 2048))
     } else {
         None

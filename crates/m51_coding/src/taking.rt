@@ -4,7 +4,7 @@ ghost use Rattle.m51_coding.specs.Taking.{takes_class, takes_part, takes_number,
 
 use m51_cells::Kind;
 use m51_expr::Part;
-use m51_isa::Field;
+use m51_isa::{Field, fits_byte};
 
 /// Whether values of the class are allowed in the field.
 pub(crate) fn takes_class(field: Field, class: Kind) -> bool
@@ -33,7 +33,7 @@ pub(crate) fn takes_number(field: Field, number: u16) -> bool
     ensures { result ≡ takes_number field number }
 {
     match field {
-        Field::Data => number <= 0xFF || number >= 0xFF00,
+        Field::Data => fits_byte(number),
         Field::Direct | Field::Bit => number <= 0xFF,
         Field::Data16 | Field::Addr16 | Field::Addr11 | Field::Rel => true,
     }

@@ -3,3 +3,4 @@ pub mod Flagged
 pub mod Walking
 pub mod Placing
 pub mod Written
+pub mod Leading

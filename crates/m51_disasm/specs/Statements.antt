@@ -1,6 +1,6 @@
 -- The statements of a part: which of its bytes are written as an instruction, and where control goes from it. A part is
 -- a row of bytes of the image, and ends where its unit does.
-use Rattle.std.specs.Prelude.{ℕ, zero, suc, ◌+◌, ◌-◌, ◌*◌, ◌/◌, ◌%◌, Bool, true, ◌&&◌, nat_lt, nat_le}
+use Rattle.std.specs.Prelude.{ℕ, zero, suc, ◌+◌, ◌-◌, ◌%◌, Bool, true, ◌&&◌, nat_lt, nat_le}
 use Rattle.std.specs.Prelude.{if◌then◌else◌, List, [], ◌∷◌, Option, Some, None, slice_index}
 use Rattle.std.specs.Option.{option_or}
 use Rattle.m51_isa.specs.declared.instr.Instr.{Instr}

@@ -1,14 +1,17 @@
 //! Instructions at addresses: which can be written, and where they lead.
 ghost use Rattle.std.specs.Prelude.{◌≡◌, ◌<◌, ◌≤◌, ◌+◌, ◌%◌, length, slice_index, true, IfSome};
 ghost use Rattle.m51_isa.specs.Table.{length_of};
+ghost use Rattle.m51_isa.specs.Targets.{target_of as target_by_row};
 ghost use Rattle.m51_isa.specs.Spelling.{text_in, text_of, field_in};
 ghost use Rattle.m51_disasm.specs.Statements.{instr_at, ends_inside, leads_inside};
-ghost use Rattle.m51_isa.specs.Targets.{relative, near};
 ghost use Rattle.m51_disasm.specs.Statements.{stays_inside, all_inside, can_stand};
-ghost use Rattle.m51_disasm.specs.Statements.{address_by, address_in, address_of, target_of};
+ghost use Rattle.m51_disasm.specs.Statements.{target_of};
 
 use crate::statement::{Content, Statement};
-use m51_isa::{Field, FieldSlot, Instr, Slot, Spelling, decode, length, spelling_of};
+use m51_isa::{
+    Field, FieldSlot, Instr, Slot, Spelling, decode, length, spelling_of,
+    target_of as target_of_row,
+};
 
 // The addresses of program memory.
 const ADDRESSES: u32 = 65536;
@@ -98,62 +101,19 @@ pub(crate) fn can_stand(end: u32, at: u16, instr: &Instr) -> bool
     next <= end && all_inside(next, &spelling_of(instr))
 }
 
-// The address that a rel leads to.
-fn relative(next: u32, rel: u32) -> u16
-    requires next { next ≤ 65538 }
-    requires rel { rel < 65536 }
-    ensures { result ≡ relative next rel }
+// The address after the instruction there.
+fn next_of(instr: &Instr, at: u16) -> u16
+    ensures { result ≡ (at + length_of instr.now) % 65536 }
 {
-    if rel < 128 {
-        ((next + rel) % ADDRESSES) as u16
-    } else {
-        ((next + 0xFF00 + rel) % ADDRESSES) as u16
-    }
+    at.wrapping_add(u16::from(length(instr)))
 }
 
-// The address that an addr11 leads to.
-fn near(next: u32, address: u32) -> u16
-    requires next { next ≤ 65538 }
-    requires address { address < 65536 }
-    ensures { result ≡ near next address % 65536 }
+// The target of an instruction with this next address.
+fn target_after(instr: &Instr, next: u16) -> Option<u16>
+    ensures value { result ≡ target_by_row instr.now next }
+    ensures fits { IfSome result (λ target. target < 65536) }
 {
-    ((next / 2048 * 2048 + address) % ADDRESSES) as u16
-}
-
-// The address that a field leads to, if it is one of a jump, branch or call.
-#[tactic(auto, unfolding(crate::specs::Statements::address_by))]
-fn address_by(next: u32, field: &FieldSlot) -> Option<u16>
-    requires { next ≤ 65538 }
-    ensures { result ≡ address_by next field.now.field field.now.number }
-{
-    let number = u32::from(field.number);
-    match field.field {
-        Field::Rel => Some(relative(next, number)),
-        Field::Addr11 => Some(near(next, number)),
-        Field::Addr16 => Some(field.number),
-        Field::Data | Field::Data16 | Field::Direct | Field::Bit => None,
-    }
-}
-
-// The same of an operand, where it has a field.
-fn address_in(next: u32, slot: &Slot) -> Option<u16>
-    requires { next ≤ 65538 }
-    ensures { result ≡ address_in next (field_in slot.now) }
-{
-    match slot.field() {
-        Some(field) => address_by(next, &field),
-        None => None,
-    }
-}
-
-// The same of the first operand that has such a field.
-fn address_of(next: u32, spelling: &Spelling) -> Option<u16>
-    requires { next ≤ 65538 }
-    ensures { result ≡ address_of next (text_in spelling.now) }
-{
-    address_in(next, &spelling.first)
-        .or(address_in(next, &spelling.second))
-        .or(address_in(next, &spelling.third))
+    target_of_row(instr, next)
 }
 
 /// The target of a statement; a byte has none.
@@ -164,8 +124,8 @@ pub(crate) fn target_of(statement: &Statement) -> Option<u16>
     match &statement.content {
         Content::Byte(_) => None,
         Content::Code(instr) => {
-            let next = u32::from(statement.at) + length_of(instr);
-            address_of(next, &spelling_of(instr))
+            let next = next_of(instr, statement.at);
+            target_after(instr, next)
         }
     }
 }

@@ -1,9 +1,10 @@
 -- Values of expressions: what parts and bit addresses are (this project's rules of values).
-use Rattle.std.specs.Prelude.{ℕ, ◌+◌, ◌-◌, ◌*◌, ◌/◌, ◌%◌, ◌==◌, Bool, true, false, ◌&&◌, nat_lt, nat_le, if◌then◌else◌}
-use Rattle.std.specs.Prelude.{Option, Some, None, Result, Err, unwrap_or}
+use Rattle.std.specs.Prelude.{ℕ, ◌/◌, ◌%◌, Bool, true, false}
+use Rattle.std.specs.Prelude.{Result, Err, unwrap_or}
 use Rattle.m51_cells.specs.declared.kind.Base.{Base}
 use Rattle.m51_cells.specs.declared.kind.Base.TheVariants as base
 use Rattle.m51_cells.specs.declared.kind.Kind.{Kind}
+pub use Rattle.m51_isa.specs.Targets.{bit_address}
 use Rattle.m51_expr.specs.declared.value.Part.{Part}
 use Rattle.m51_expr.specs.declared.value.Part.TheVariants.{Whole, High, Low, Bit}
 use Rattle.m51_expr.specs.declared.value.Value.{Value}
@@ -29,14 +30,6 @@ plain n class = whole n class base.None
 abbrev pub is_whole : Part → Bool
 is_whole Whole = true
 is_whole part = false
-
--- The bits 0 to 7 of the bytes 20H to 2FH, and of multiples of 8 from 80H to 0F8H, have addresses.
-abbrev pub bit_address : ℕ → ℕ → Option ℕ
-bit_address byte bit =
-    if nat_lt 7 bit then None
-    else if nat_le 0x20 byte && nat_le byte 0x2F then Some ((byte - 0x20) * 8 + bit)
-    else if (nat_le 0x80 byte && nat_le byte 0xF8) && byte % 8 == 0 then Some (byte + bit)
-    else None
 
 -- A number under HIGH, LOW or the dot. A byte without a bit address is never asked: a value under the dot that has no
 -- base, or an absolute one, was made of a byte with bits.

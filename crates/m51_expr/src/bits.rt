@@ -5,8 +5,9 @@ ghost use Rattle.m51_expr.specs.Bits.{has_bits, keeps_base, bit_of, dot};
 use crate::fault::ExprError;
 use crate::lookup::{Lookup, as_number, is_unplaced};
 use crate::operators::same_base;
-use crate::value::{Part, Value, bit_address, counted, is_whole, plain};
+use crate::value::{Part, Value, counted, is_whole, plain};
 use m51_cells::{BASE_NOT_ALLOWED, Base, Kind, NO_BIT};
+use m51_isa::bit_address;
 
 // Whether a base that the link places has bits with addresses.
 fn has_bits<L: Lookup>(names: &L, base: Base, class: Kind) -> bool

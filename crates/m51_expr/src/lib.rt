@@ -27,5 +27,5 @@ pub use ranks::{is_close, is_open};
 pub use reading::read_expr;
 pub use symbol::{Symbol, symbols};
 pub use tree::{Binary, Expr, Unary};
-pub use value::{Part, Value, bit_address, counted, is_whole, plain, whole};
+pub use value::{Part, Value, counted, is_whole, plain, whole};
 pub use words::{BANK_REGISTERS, is_reserved};

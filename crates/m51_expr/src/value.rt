@@ -1,8 +1,9 @@
 //! Values of expressions.
 ghost use Rattle.std.specs.Prelude.{◌≡◌};
-ghost use Rattle.m51_expr.specs.Value.{whole, plain, is_whole, bit_address, counted};
+ghost use Rattle.m51_expr.specs.Value.{whole, plain, is_whole, counted};
 
 use m51_cells::{Base, Kind};
+use m51_isa::bit_address;
 
 /// The operator that is over the number of a value with a base.
 ///
@@ -64,24 +65,6 @@ pub fn is_whole(part: Part) -> bool
     match part {
         Part::Whole => true,
         Part::High | Part::Low | Part::Bit(_) => false,
-    }
-}
-
-/// The bit address, from 0 to 255, of a bit of a byte: the bits 0 to 7 of the bytes 20H to 2FH, and of the multiples of
-/// 8 from 80H to 0F8H. `None` for each other byte or bit.
-///
-/// Source: family manual.
-pub fn bit_address(byte: u16, bit: u16) -> Option<u16>
-    ensures { result ≡ bit_address byte bit }
-{
-    if bit > 7 {
-        None
-    } else if 0x20 <= byte && byte <= 0x2F {
-        Some((byte - 0x20) * 8 + bit)
-    } else if 0x80 <= byte && byte <= 0xF8 && byte % 8 == 0 {
-        Some(byte + bit)
-    } else {
-        None
     }
 }
 

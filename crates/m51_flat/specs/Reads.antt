@@ -40,6 +40,11 @@ abbrev pub answer : {A : Type 0} → States → Reads A → Result A Missing
 answer s (Ends a) = Ok a
 answer s (Read x go) = and_then (value_or_missing (access_seen s x)) (λ v. answer s (go v))
 
+-- how reads that may fail went, and the value after them
+abbrev pub with_effect : {A B : Type 0} → Result A Missing → B → Result B Missing
+with_effect (Ok a) b = Ok b
+with_effect (Err e) b = Err e
+
 -- a map that gives each cell a value: those of internal RAM by 8 * byte + bit, and those of external memory by address
 pub record CellMap : Type 0 where
   pub ram : ℕ → ℕ

@@ -1,105 +1,20 @@
--- The special function registers, from the family manual: their addresses, what a read finds and what a write changes.
-use Rattle.std.specs.Prelude.{ℕ, ◌-◌, ◌^◌, Bool, true, false, ◌||◌, ◌==◌, if◌then◌else◌, Option, Some, None, List, []}
-use Rattle.std.specs.Prelude.{◌∷◌, slice_index, slice_set, bit_and, bit_or}
+-- The special function registers, from the family manual: what a read finds and what a write changes.
+use Rattle.std.specs.Prelude.{ℕ, ◌-◌, ◌^◌, Bool, true, false, ◌||◌, ◌==◌, if◌then◌else◌, Option, Some, None, List}
+use Rattle.std.specs.Prelude.{slice_index, slice_set, bit_and, bit_or}
 use Rattle.std.specs.Option.{option_or}
 use Rattle.std.specs.Int.{bit_at}
 use Rattle.m51_alu.specs.Arithmetic.{parity_of}
 use Rattle.m51_flat.specs.declared.state.Cpu.{Cpu}
 use Rattle.m51_flat.specs.declared.state.Pins.{Pins}
 use Rattle.m51_flat.specs.declared.state.Effect.{Effect}
-
--- the addresses
-abbrev pub p0 : ℕ
-p0 = 0x80
-
-abbrev pub sp : ℕ
-sp = 0x81
-
-abbrev pub dpl : ℕ
-dpl = 0x82
-
-abbrev pub dph : ℕ
-dph = 0x83
-
-abbrev pub pcon : ℕ
-pcon = 0x87
-
-abbrev pub tcon : ℕ
-tcon = 0x88
-
-abbrev pub tmod : ℕ
-tmod = 0x89
-
-abbrev pub tl0 : ℕ
-tl0 = 0x8A
-
-abbrev pub tl1 : ℕ
-tl1 = 0x8B
-
-abbrev pub th0 : ℕ
-th0 = 0x8C
-
-abbrev pub th1 : ℕ
-th1 = 0x8D
-
-abbrev pub p1 : ℕ
-p1 = 0x90
-
-abbrev pub scon : ℕ
-scon = 0x98
-
-abbrev pub sbuf : ℕ
-sbuf = 0x99
-
-abbrev pub p2 : ℕ
-p2 = 0xA0
-
-abbrev pub ie : ℕ
-ie = 0xA8
-
-abbrev pub p3 : ℕ
-p3 = 0xB0
-
-abbrev pub ip : ℕ
-ip = 0xB8
-
-abbrev pub t2con : ℕ
-t2con = 0xC8
-
-abbrev pub rcap2l : ℕ
-rcap2l = 0xCA
-
-abbrev pub rcap2h : ℕ
-rcap2h = 0xCB
-
-abbrev pub tl2 : ℕ
-tl2 = 0xCC
-
-abbrev pub th2 : ℕ
-th2 = 0xCD
-
-abbrev pub psw : ℕ
-psw = 0xD0
-
-abbrev pub acc : ℕ
-acc = 0xE0
-
-abbrev pub breg : ℕ
-breg = 0xF0
-
--- all of them, in the order of their addresses
-abbrev pub sfr_addresses : List ℕ
-sfr_addresses =
-    p0 ∷ sp ∷ dpl ∷ dph ∷ pcon ∷ tcon ∷ tmod ∷ tl0 ∷ tl1 ∷ th0 ∷ th1 ∷ p1 ∷ scon ∷ sbuf ∷ p2 ∷ ie ∷ p3 ∷ ip
-    ∷ t2con ∷ rcap2l ∷ rcap2h ∷ tl2 ∷ th2 ∷ psw ∷ acc ∷ breg ∷ []
-
-abbrev pub is_one_of : List ℕ → ℕ → Bool
-is_one_of [] a = false
-is_one_of (x ∷ xs) a = a == x || is_one_of xs a
-
--- a register stands at this address
-unfoldable pub has_register : ℕ → Bool
-has_register a = is_one_of sfr_addresses a
+pub use Rattle.m51_sfr.specs.declared.addresses.TheConstants.{P0 as p0, SP as sp, DPL as dpl, DPH as dph, PCON as pcon}
+pub use Rattle.m51_sfr.specs.declared.addresses.TheConstants.{TCON as tcon, TMOD as tmod, TL0 as tl0, TL1 as tl1}
+pub use Rattle.m51_sfr.specs.declared.addresses.TheConstants.{TH0 as th0, TH1 as th1, P1 as p1, SCON as scon}
+pub use Rattle.m51_sfr.specs.declared.addresses.TheConstants.{SBUF as sbuf, P2 as p2, IE as ie, P3 as p3, IP as ip}
+pub use Rattle.m51_sfr.specs.declared.addresses.TheConstants.{T2CON as t2con, RCAP2L as rcap2l, RCAP2H as rcap2h}
+pub use Rattle.m51_sfr.specs.declared.addresses.TheConstants.{TL2 as tl2, TH2 as th2, PSW as psw, ACC as acc, B as breg}
+unfoldable pub use Rattle.m51_sfr.specs.Registers.{has_register}
+pub use Rattle.m51_sfr.specs.Registers.{is_one_of}
 
 -- the number of the port whose latch stands there
 unfoldable pub port_of : ℕ → Option ℕ

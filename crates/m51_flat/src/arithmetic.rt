@@ -3,15 +3,16 @@ ghost use Rattle.std.specs.Prelude.{◌≡◌, ◌+◌, ◌*◌, ◌/◌, ◌%�
 ghost use Rattle.m51_flat.specs.Causes.{IsMissing};
 ghost use Rattle.m51_flat.specs.Arithmetic.{assigned, summed, combined, changed, with_turn, exchanged};
 ghost use Rattle.m51_flat.specs.Arithmetic.{digits_exchanged, sum_by, logic_of, stepped, turned};
-ghost use Rattle.m51_flat.specs.Reads.{answer};
+ghost use Rattle.m51_flat.specs.Reads.{answer, with_effect};
 
 use crate::actions::{Addition, ByteOperand, Count, Logic, Place, Turning};
 use crate::operands::{find_at, locate, read_latch_at, read_operand, write_location};
-use crate::sfr::{ACC, write_sfr};
+use crate::sfr::write_sfr;
 use crate::state::{Effect, Missing, Pins};
 use crate::store::CellStore;
 use crate::writing::{read_auxiliary_carry, read_carry, write_carry, write_sum};
 use m51_alu::{Sum, da, subb};
+use m51_sfr::addresses::ACC;
 
 /// The sum or difference of A and an operand.
 fn add_by(op: Addition, a: u8, value: u8, carry: bool) -> Sum
@@ -65,16 +66,17 @@ fn turn_by(by: Turning, a: u8, carry: bool, auxiliary: bool) -> (u8, bool)
 pub(crate) fn assign<M: CellStore>(
     store: &M,
     ext: &Pins,
-    effect: Effect,
+    effect: &mut Effect,
     place: Place,
     from: ByteOperand,
-) -> Result<Effect, Missing>
-    ensures value { result ≡ answer (M.cells store.now) (assigned ext.now effect place from) }
+) -> Result<(), Missing>
+    ensures value { with_effect result effect.new ≡ answer (M.cells store.now) (assigned ext.now effect.old place from) }
     ensures missing { IfErr result (IsMissing (M.cells store.now)) }
 {
     let location = locate(store, &effect.cpu, place)?;
     let value = read_operand(store, &effect.cpu, ext, from)?;
-    Ok(write_location(effect, location, value))
+    write_location(effect, location, value);
+    Ok(())
 }
 
 /// ADD, ADDC, SUBB: A and the flags become a sum.
@@ -82,16 +84,17 @@ pub(crate) fn assign<M: CellStore>(
 pub(crate) fn accumulate<M: CellStore>(
     store: &M,
     ext: &Pins,
-    effect: Effect,
+    effect: &mut Effect,
     op: Addition,
     from: ByteOperand,
-) -> Result<Effect, Missing>
-    ensures value { result ≡ answer (M.cells store.now) (summed ext.now effect op from) }
+) -> Result<(), Missing>
+    ensures value { with_effect result effect.new ≡ answer (M.cells store.now) (summed ext.now effect.old op from) }
     ensures missing { IfErr result (IsMissing (M.cells store.now)) }
 {
     let value = read_operand(store, &effect.cpu, ext, from)?;
     let sum = add_by(op, effect.cpu.latch(ACC), value, read_carry(&effect.cpu));
-    Ok(write_sum(effect, sum))
+    write_sum(effect, sum);
+    Ok(())
 }
 
 /// ORL, ANL, XRL: an operand, of a port its latch, is combined with another.
@@ -99,49 +102,51 @@ pub(crate) fn accumulate<M: CellStore>(
 pub(crate) fn combine<M: CellStore>(
     store: &M,
     ext: &Pins,
-    effect: Effect,
+    effect: &mut Effect,
     op: Logic,
     place: Place,
     from: ByteOperand,
-) -> Result<Effect, Missing>
-    ensures value { result ≡ answer (M.cells store.now) (combined ext.now effect op place from) }
+) -> Result<(), Missing>
+    ensures value { with_effect result effect.new ≡ answer (M.cells store.now) (combined ext.now effect.old op place from) }
     ensures missing { IfErr result (IsMissing (M.cells store.now)) }
 {
     let location = locate(store, &effect.cpu, place)?;
     let value = read_latch_at(store, &effect.cpu, location)?;
     let mask = read_operand(store, &effect.cpu, ext, from)?;
-    Ok(write_location(effect, location, logic_by(op, value, mask)))
+    write_location(effect, location, logic_by(op, value, mask));
+    Ok(())
 }
 
 /// INC and DEC: an operand, of a port its latch, is counted up or down.
 #[tactic(auto, using(crate::proofs::Readings::answer_then), unfolding(crate::specs::Arithmetic::changed))]
 pub(crate) fn change<M: CellStore>(
     store: &M,
-    effect: Effect,
+    effect: &mut Effect,
     count: Count,
     place: Place,
-) -> Result<Effect, Missing>
-    ensures value { result ≡ answer (M.cells store.now) (changed effect count place) }
+) -> Result<(), Missing>
+    ensures value { with_effect result effect.new ≡ answer (M.cells store.now) (changed effect.old count place) }
     ensures missing { IfErr result (IsMissing (M.cells store.now)) }
 {
     let location = locate(store, &effect.cpu, place)?;
     let value = read_latch_at(store, &effect.cpu, location)?;
-    Ok(write_location(effect, location, count_by(count, value)))
+    write_location(effect, location, count_by(count, value));
+    Ok(())
 }
 
 /// A and CY turned.
 #[tactic(auto, unfolding(crate::specs::Arithmetic::with_turn))]
-pub(crate) fn turn(effect: Effect, by: Turning) -> Effect
-    ensures { result ≡ with_turn by effect }
+pub(crate) fn turn(effect: &mut Effect, by: Turning)
+    ensures { effect.new ≡ with_turn by effect.old }
 {
-    let cpu = &effect.cpu;
     let (a, carry) = turn_by(
         by,
-        cpu.latch(ACC),
-        read_carry(cpu),
-        read_auxiliary_carry(cpu),
+        effect.cpu.latch(ACC),
+        read_carry(&effect.cpu),
+        read_auxiliary_carry(&effect.cpu),
     );
-    write_sfr(write_carry(effect, carry), ACC, a)
+    write_carry(effect, carry);
+    write_sfr(effect, ACC, a);
 }
 
 /// XCH: A is exchanged with an operand.
@@ -149,16 +154,18 @@ pub(crate) fn turn(effect: Effect, by: Turning) -> Effect
 pub(crate) fn exchange<M: CellStore>(
     store: &M,
     ext: &Pins,
-    effect: Effect,
+    effect: &mut Effect,
     place: Place,
-) -> Result<Effect, Missing>
-    ensures value { result ≡ answer (M.cells store.now) (exchanged ext.now effect place) }
+) -> Result<(), Missing>
+    ensures value { with_effect result effect.new ≡ answer (M.cells store.now) (exchanged ext.now effect.old place) }
     ensures missing { IfErr result (IsMissing (M.cells store.now)) }
 {
     let location = locate(store, &effect.cpu, place)?;
     let value = find_at(store, &effect.cpu, ext, location)?;
     let a = effect.cpu.latch(ACC);
-    Ok(write_location(write_sfr(effect, ACC, value), location, a))
+    write_sfr(effect, ACC, value);
+    write_location(effect, location, a);
+    Ok(())
 }
 
 /// The high digit of one byte before the low digit of another.
@@ -173,15 +180,16 @@ fn digits(high: u8, low: u8) -> u8
 pub(crate) fn exchange_digit<M: CellStore>(
     store: &M,
     ext: &Pins,
-    effect: Effect,
+    effect: &mut Effect,
     place: Place,
-) -> Result<Effect, Missing>
-    ensures value { result ≡ answer (M.cells store.now) (digits_exchanged ext.now effect place) }
+) -> Result<(), Missing>
+    ensures value { with_effect result effect.new ≡ answer (M.cells store.now) (digits_exchanged ext.now effect.old place) }
     ensures missing { IfErr result (IsMissing (M.cells store.now)) }
 {
     let location = locate(store, &effect.cpu, place)?;
     let value = find_at(store, &effect.cpu, ext, location)?;
     let a = effect.cpu.latch(ACC);
-    let effect = write_sfr(effect, ACC, digits(a, value));
-    Ok(write_location(effect, location, digits(value, a)))
+    write_sfr(effect, ACC, digits(a, value));
+    write_location(effect, location, digits(value, a));
+    Ok(())
 }

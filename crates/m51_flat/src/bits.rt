@@ -4,7 +4,7 @@ ghost use Rattle.m51_flat.specs.Causes.{IsMissing};
 ghost use Rattle.m51_flat.specs.Bits.{passes, changed_carry, merged_carry, bit_from, carry_merged, bit_flipped};
 ghost use Rattle.m51_flat.specs.Bits.{branched_on_bit, tested_and_cleared};
 ghost use Rattle.m51_flat.specs.Operands.{bit_latch_at, bit_found_at, with_bit_at};
-ghost use Rattle.m51_flat.specs.Reads.{answer};
+ghost use Rattle.m51_flat.specs.Reads.{answer, with_effect};
 
 use crate::actions::{BitSource, BitTest, CarryChange, CarryMerge};
 use crate::operands::read_bit;
@@ -28,21 +28,19 @@ pub(crate) fn read_bit_latch<M: CellStore>(store: &M, cpu: &Cpu, bit: u8) -> Res
 
 /// Writes a bit: in internal RAM its cell, in a register the whole byte.
 #[tactic(auto, unfolding(crate::specs::Operands::with_bit_at))]
-pub(crate) fn write_bit(effect: Effect, bit: u8, value: bool) -> Effect
-    ensures { result ≡ with_bit_at bit value effect }
+pub(crate) fn write_bit(effect: &mut Effect, bit: u8, value: bool)
+    ensures { effect.new ≡ with_bit_at bit value effect.old }
 {
     if bit < 128 {
-        return Effect {
-            first: Put::Bit {
-                address: bit,
-                value,
-            },
-            ..effect
+        effect.first = Put::Bit {
+            address: bit,
+            value,
         };
+    } else {
+        let address = bit - bit % 8;
+        let byte = replace_bit(effect.cpu.latch(address), bit % 8, value);
+        write_sfr(effect, address, byte);
     }
-    let address = bit - bit % 8;
-    let byte = replace_bit(effect.cpu.latch(address), bit % 8, value);
-    write_sfr(effect, address, byte)
 }
 
 /// What a read finds in a bit: at a port the level of its pin.
@@ -98,26 +96,28 @@ pub(crate) fn bit_of_source(from: BitSource, cpu: &Cpu) -> bool
 pub(crate) fn carry_with<M: CellStore>(
     store: &M,
     ext: &Pins,
-    effect: Effect,
+    effect: &mut Effect,
     by: CarryMerge,
     bit: u8,
-) -> Result<Effect, Missing>
-    ensures value { result ≡ answer (M.cells store.now) (carry_merged ext.now effect by bit) }
+) -> Result<(), Missing>
+    ensures value { with_effect result effect.new ≡ answer (M.cells store.now) (carry_merged ext.now effect.old by bit) }
     ensures missing { IfErr result (IsMissing (M.cells store.now)) }
 {
     let value = find_bit(store, &effect.cpu, ext, bit)?;
     let carry = merge_carry(by, read_carry(&effect.cpu), value == 1);
-    Ok(write_carry(effect, carry))
+    write_carry(effect, carry);
+    Ok(())
 }
 
 /// CPL bit: of a port the latch is read.
 #[tactic(auto, using(crate::proofs::Readings::answer_then), unfolding(crate::specs::Bits::bit_flipped))]
-pub(crate) fn flip_bit<M: CellStore>(store: &M, effect: Effect, bit: u8) -> Result<Effect, Missing>
-    ensures value { result ≡ answer (M.cells store.now) (bit_flipped effect bit) }
+pub(crate) fn flip_bit<M: CellStore>(store: &M, effect: &mut Effect, bit: u8) -> Result<(), Missing>
+    ensures value { with_effect result effect.new ≡ answer (M.cells store.now) (bit_flipped effect.old bit) }
     ensures missing { IfErr result (IsMissing (M.cells store.now)) }
 {
     let value = read_bit_latch(store, &effect.cpu, bit)?;
-    Ok(write_bit(effect, bit, value != 1))
+    write_bit(effect, bit, value != 1);
+    Ok(())
 }
 
 /// A bit is 1, or it is 0.
@@ -135,33 +135,34 @@ fn is_passed(test: BitTest, bit: bool) -> bool
 pub(crate) fn branch_on_bit<M: CellStore>(
     store: &M,
     ext: &Pins,
-    effect: Effect,
+    effect: &mut Effect,
     test: BitTest,
     bit: u8,
     rel: u8,
-) -> Result<Effect, Missing>
-    ensures value { result ≡ answer (M.cells store.now) (branched_on_bit ext.now effect test bit rel) }
+) -> Result<(), Missing>
+    ensures value { with_effect result effect.new ≡ answer (M.cells store.now) (branched_on_bit ext.now effect.old test bit rel) }
     ensures missing { IfErr result (IsMissing (M.cells store.now)) }
 {
     let value = find_bit(store, &effect.cpu, ext, bit)?;
-    Ok(branch_if(effect, is_passed(test, value == 1), rel))
+    branch_if(effect, is_passed(test, value == 1), rel);
+    Ok(())
 }
 
 /// JBC: where the bit is 1 it is cleared and the branch is taken; else nothing is written.
 #[tactic(auto, using(crate::proofs::Readings::answer_then), unfolding(crate::specs::Bits::tested_and_cleared))]
 pub(crate) fn test_and_clear<M: CellStore>(
     store: &M,
-    effect: Effect,
+    effect: &mut Effect,
     bit: u8,
     rel: u8,
-) -> Result<Effect, Missing>
-    ensures value { result ≡ answer (M.cells store.now) (tested_and_cleared effect bit rel) }
+) -> Result<(), Missing>
+    ensures value { with_effect result effect.new ≡ answer (M.cells store.now) (tested_and_cleared effect.old bit rel) }
     ensures missing { IfErr result (IsMissing (M.cells store.now)) }
 {
     let value = read_bit_latch(store, &effect.cpu, bit)?;
     if value == 1 {
-        Ok(branch_if(write_bit(effect, bit, false), true, rel))
-    } else {
-        Ok(effect)
+        write_bit(effect, bit, false);
+        branch_if(effect, true, rel);
     }
+    Ok(())
 }

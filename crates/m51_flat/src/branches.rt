@@ -1,15 +1,15 @@
 //! Conditional branches.
 ghost use Rattle.std.specs.Prelude.{◌≡◌, IfErr};
 ghost use Rattle.m51_flat.specs.Causes.{IsMissing};
-ghost use Rattle.m51_flat.specs.Reads.{answer};
+ghost use Rattle.m51_flat.specs.Reads.{answer, with_effect};
 ghost use Rattle.m51_flat.specs.Transfers.{compared, counted_down, is_met};
 
 use crate::actions::{ByteOperand, Condition, Place};
 use crate::operands::{locate, read_latch_at, read_operand, write_location};
-use crate::sfr::ACC;
 use crate::state::{Cpu, Effect, Missing, Pins};
 use crate::store::CellStore;
 use crate::writing::{branch_if, read_carry, write_carry};
+use m51_sfr::addresses::ACC;
 
 /// The condition of JC, JNC, JZ and JNZ.
 #[tactic(auto, unfolding(crate::specs::Transfers::is_met))]
@@ -29,31 +29,35 @@ pub(crate) fn meets(condition: Condition, cpu: &Cpu) -> bool
 pub(crate) fn compare<M: CellStore>(
     store: &M,
     ext: &Pins,
-    effect: Effect,
+    effect: &mut Effect,
     first: ByteOperand,
     second: ByteOperand,
     rel: u8,
-) -> Result<Effect, Missing>
-    ensures value { result ≡ answer (M.cells store.now) (compared ext.now effect first second rel) }
+) -> Result<(), Missing>
+    ensures value { with_effect result effect.new ≡ answer (M.cells store.now) (compared ext.now effect.old first second rel) }
     ensures missing { IfErr result (IsMissing (M.cells store.now)) }
 {
     let a = read_operand(store, &effect.cpu, ext, first)?;
     let b = read_operand(store, &effect.cpu, ext, second)?;
-    Ok(branch_if(write_carry(effect, a < b), a != b, rel))
+    write_carry(effect, a < b);
+    branch_if(effect, a != b, rel);
+    Ok(())
 }
 
 /// DJNZ: an operand, of a port its latch, is counted down, and the branch is taken where it is not 0.
 #[tactic(auto, using(crate::proofs::Readings::answer_then), unfolding(crate::specs::Transfers::counted_down))]
 pub(crate) fn count_down<M: CellStore>(
     store: &M,
-    effect: Effect,
+    effect: &mut Effect,
     place: Place,
     rel: u8,
-) -> Result<Effect, Missing>
-    ensures value { result ≡ answer (M.cells store.now) (counted_down effect place rel) }
+) -> Result<(), Missing>
+    ensures value { with_effect result effect.new ≡ answer (M.cells store.now) (counted_down effect.old place rel) }
     ensures missing { IfErr result (IsMissing (M.cells store.now)) }
 {
     let location = locate(store, &effect.cpu, place)?;
     let value = read_latch_at(store, &effect.cpu, location)?.wrapping_sub(1);
-    Ok(branch_if(write_location(effect, location, value), value != 0, rel))
+    write_location(effect, location, value);
+    branch_if(effect, value != 0, rel);
+    Ok(())
 }

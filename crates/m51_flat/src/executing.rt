@@ -12,13 +12,13 @@ ghost use Rattle.m51_flat.specs.Sfr.{latch, sp};
 ghost use Rattle.m51_flat.specs.States.{shut_of};
 
 use crate::action_table::action_for;
-use crate::flags::PD;
 use crate::performing::perform;
-use crate::sfr::{P0, P1, P2, P3, PCON, SP};
 use crate::state::{Cpu, Effect, Missing, Outcome, Pins, Put, Transfer};
 use crate::store::CellStore;
 use m51_cells::Cell;
 use m51_isa::{Instr, cycles, length};
+use m51_sfr::addresses::{P0, P1, P2, P3, PCON, SP};
+use m51_sfr::bits::PD;
 
 /// The registers after a reset: SP is 07H, the latches of the ports are FFH, and all else is 0.
 fn reset_registers() -> [u8; 128]
@@ -50,6 +50,7 @@ pub fn reset() -> Cpu
 }
 
 /// The effect of an instruction that only goes on to the next.
+#[inline(always)]
 fn start(cpu: &Cpu, instr: &Instr) -> Effect
     ensures { result ≡ started cpu.now instr.now }
 {
@@ -71,6 +72,7 @@ fn start(cpu: &Cpu, instr: &Instr) -> Effect
 ///
 /// Source: own choice ("Stores of cells").
 #[tactic(auto, using(crate::proofs::Causes::shut_barred))]
+#[inline(always)]
 pub fn shut_cell<M: CellStore>(store: &M, put: Put) -> Option<Cell>
     ensures value { result ≡ shut_of (M.barred store.now) put }
     ensures barred { IfSome result (IsBarred (M.barred store.now)) }
@@ -80,6 +82,7 @@ pub fn shut_cell<M: CellStore>(store: &M, put: Put) -> Option<Cell>
 
 /// An outcome, where both puts of an effect may be written; else the lowest cell of the first that may not be
 /// written, then of the second.
+#[inline(always)]
 fn unless_shut<M: CellStore>(store: &M, effect: &Effect, outcome: Outcome) -> Outcome
     requires { IsCause (M.cells store.now) (M.barred store.now) outcome }
     ensures value { result ≡ unless_barred (M.barred store.now) effect.now outcome }
@@ -98,6 +101,7 @@ fn unless_shut<M: CellStore>(store: &M, effect: &Effect, outcome: Outcome) -> Ou
 /// then of the second, that may not be written, and else `Done`. PCON is not asked.
 ///
 /// Source: own choice ("Effects").
+#[inline(always)]
 pub fn conclude<M: CellStore>(store: &M, effect: Effect) -> Outcome
     ensures value { result ≡ unless_barred (M.barred store.now) effect (Done effect) }
     ensures cause { IsCause (M.cells store.now) (M.barred store.now) result }
@@ -106,6 +110,7 @@ pub fn conclude<M: CellStore>(store: &M, effect: Effect) -> Outcome
 }
 
 /// The effect, where its puts may be written and it does not power down.
+#[inline(always)]
 fn allow<M: CellStore>(store: &M, effect: Effect) -> Outcome
     ensures value { result ≡ allowed (M.barred store.now) effect }
     ensures cause { IsCause (M.cells store.now) (M.barred store.now) result }
@@ -119,13 +124,15 @@ fn allow<M: CellStore>(store: &M, effect: Effect) -> Outcome
 
 // What an instruction comes to over a store.
 #[tactic(auto, unfolding(crate::specs::Meaning::outcome_of))]
+#[inline(always)]
 fn run<M: CellStore>(cpu: &Cpu, store: &M, instr: &Instr, image: &[u8], ext: &Pins) -> Outcome
     requires { length image.now ≡ 65536 }
     ensures value { result ≡ outcome_of cpu.now (M.cells store.now) (M.barred store.now) instr.now image.now ext.now }
     ensures cause { IsCause (M.cells store.now) (M.barred store.now) result }
 {
-    match perform(store, image, ext, start(cpu, instr), action_for(instr)) {
-        Ok(effect) => allow(store, effect),
+    let mut effect = start(cpu, instr);
+    match perform(store, image, ext, &mut effect, action_for(instr)) {
+        Ok(()) => allow(store, effect),
         Err(Missing::Outside(cell)) => Outcome::Outside(cell),
         Err(Missing::Unset(cell)) => Outcome::Unset(cell),
     }
@@ -139,6 +146,7 @@ fn run<M: CellStore>(cpu: &Cpu, store: &M, instr: &Instr, image: &[u8], ext: &Pi
 /// - `Done`, else, with the whole effect.
 ///
 /// Source: family manual; own choice ("Effects").
+#[inline(always)]
 pub fn exec<M: CellStore>(cpu: &Cpu, store: &M, instr: &Instr, image: &[u8], ext: &Pins) -> Outcome
     requires { length image.now ≡ 65536 }
     ensures outcome { result ≡ outcome_of cpu.now (M.cells store.now) (M.barred store.now) instr.now image.now ext.now }

@@ -3,13 +3,11 @@
 
 mod action_table;
 mod actions;
-pub mod addresses;
 mod arithmetic;
 mod bits;
 mod branches;
 mod calls;
 mod executing;
-pub mod flags;
 mod laws;
 mod moves;
 mod operands;

@@ -3,14 +3,15 @@ ghost use Rattle.std.specs.Prelude.{◌≡◌, length, IfErr};
 ghost use Rattle.m51_flat.specs.Causes.{IsMissing};
 ghost use Rattle.m51_flat.specs.Moves.{external_address, code_base, external_loaded, external_stored, code_loaded};
 ghost use Rattle.m51_flat.specs.Moves.{pushed, popped};
-ghost use Rattle.m51_flat.specs.Reads.{answer};
+ghost use Rattle.m51_flat.specs.Reads.{answer, with_effect};
 
 use crate::actions::{ByteOperand, CodeBase, ExternalAt, Location, Place};
 use crate::operands::{bank_base, locate, read_byte, read_operand, read_xbyte, write_location};
-use crate::sfr::{ACC, P2, SP, write_sfr};
+use crate::sfr::write_sfr;
 use crate::state::{Cpu, Effect, Missing, Pins, Put};
 use crate::store::CellStore;
 use crate::writing::read_dptr;
+use m51_sfr::addresses::{ACC, P2, SP};
 
 /// An address in external memory: DPTR, or the latch of P2 and a register.
 #[tactic(auto, unfolding(crate::specs::Moves::external_address))]
@@ -41,43 +42,42 @@ fn code_start(cpu: &Cpu, base: CodeBase) -> u16
 #[tactic(auto, using(crate::proofs::Readings::answer_then), unfolding(crate::specs::Moves::external_loaded))]
 pub(crate) fn load_external<M: CellStore>(
     store: &M,
-    effect: Effect,
+    effect: &mut Effect,
     from: ExternalAt,
-) -> Result<Effect, Missing>
-    ensures value { result ≡ answer (M.cells store.now) (external_loaded effect from) }
+) -> Result<(), Missing>
+    ensures value { with_effect result effect.new ≡ answer (M.cells store.now) (external_loaded effect.old from) }
     ensures missing { IfErr result (IsMissing (M.cells store.now)) }
 {
     let address = locate_external(store, &effect.cpu, from)?;
     let value = read_xbyte(store, address)?;
-    Ok(write_sfr(effect, ACC, value))
+    write_sfr(effect, ACC, value);
+    Ok(())
 }
 
 /// MOVX with A: A is stored in external memory.
 #[tactic(auto, using(crate::proofs::Readings::answer_then), unfolding(crate::specs::Moves::external_stored))]
 pub(crate) fn store_external<M: CellStore>(
     store: &M,
-    effect: Effect,
+    effect: &mut Effect,
     to: ExternalAt,
-) -> Result<Effect, Missing>
-    ensures value { result ≡ answer (M.cells store.now) (external_stored effect to) }
+) -> Result<(), Missing>
+    ensures value { with_effect result effect.new ≡ answer (M.cells store.now) (external_stored effect.old to) }
     ensures missing { IfErr result (IsMissing (M.cells store.now)) }
 {
     let address = locate_external(store, &effect.cpu, to)?;
     let value = effect.cpu.latch(ACC);
-    Ok(Effect {
-        first: Put::Xbyte { address, value },
-        ..effect
-    })
+    effect.first = Put::Xbyte { address, value };
+    Ok(())
 }
 
 /// MOVC: A is loaded from program memory.
 #[tactic(auto, unfolding(crate::specs::Moves::code_loaded))]
-pub(crate) fn load_code(image: &[u8], effect: Effect, base: CodeBase) -> Effect
+pub(crate) fn load_code(image: &[u8], effect: &mut Effect, base: CodeBase)
     requires { length image.now ≡ 65536 }
-    ensures { result ≡ code_loaded image.now effect base }
+    ensures { effect.new ≡ code_loaded image.now effect.old base }
 {
     let address = code_start(&effect.cpu, base).wrapping_add(u16::from(effect.cpu.latch(ACC)));
-    write_sfr(effect, ACC, image[usize::from(address)])
+    write_sfr(effect, ACC, image[usize::from(address)]);
 }
 
 /// PUSH: SP is raised, then the operand is read and stored.
@@ -85,27 +85,29 @@ pub(crate) fn load_code(image: &[u8], effect: Effect, base: CodeBase) -> Effect
 pub(crate) fn push<M: CellStore>(
     store: &M,
     ext: &Pins,
-    effect: Effect,
+    effect: &mut Effect,
     place: Place,
-) -> Result<Effect, Missing>
-    ensures value { result ≡ answer (M.cells store.now) (pushed ext.now effect place) }
+) -> Result<(), Missing>
+    ensures value { with_effect result effect.new ≡ answer (M.cells store.now) (pushed ext.now effect.old place) }
     ensures missing { IfErr result (IsMissing (M.cells store.now)) }
 {
     let sp = effect.cpu.latch(SP).wrapping_add(1);
-    let raised = write_sfr(effect, SP, sp);
-    let value = read_operand(store, &raised.cpu, ext, ByteOperand::At(place))?;
-    Ok(write_location(raised, Location::Ram(sp), value))
+    write_sfr(effect, SP, sp);
+    let value = read_operand(store, &effect.cpu, ext, ByteOperand::At(place))?;
+    write_location(effect, Location::Ram(sp), value);
+    Ok(())
 }
 
 /// POP: the stack is read and SP lowered, then the operand is written.
 #[tactic(auto, using(crate::proofs::Readings::answer_then), unfolding(crate::specs::Moves::popped))]
-pub(crate) fn pop<M: CellStore>(store: &M, effect: Effect, place: Place) -> Result<Effect, Missing>
-    ensures value { result ≡ answer (M.cells store.now) (popped effect place) }
+pub(crate) fn pop<M: CellStore>(store: &M, effect: &mut Effect, place: Place) -> Result<(), Missing>
+    ensures value { with_effect result effect.new ≡ answer (M.cells store.now) (popped effect.old place) }
     ensures missing { IfErr result (IsMissing (M.cells store.now)) }
 {
     let sp = effect.cpu.latch(SP);
     let location = locate(store, &effect.cpu, place)?;
     let value = read_byte(store, sp)?;
-    let lowered = write_sfr(effect, SP, sp.wrapping_sub(1));
-    Ok(write_location(lowered, location, value))
+    write_sfr(effect, SP, sp.wrapping_sub(1));
+    write_location(effect, location, value);
+    Ok(())
 }

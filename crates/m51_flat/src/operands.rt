@@ -6,9 +6,10 @@ ghost use Rattle.m51_flat.specs.Reads.{answer, value_or_missing};
 ghost use Rattle.m51_flat.specs.States.{byte_seen, bit_seen, xbyte_seen};
 
 use crate::actions::{ByteOperand, Location, Place};
-use crate::sfr::{ACC, PSW, write_sfr};
+use crate::sfr::write_sfr;
 use crate::state::{Cpu, Effect, Missing, Pins, Put, Seen};
 use crate::store::CellStore;
+use m51_sfr::addresses::{ACC, PSW};
 
 /// The value that is seen, or why there is none.
 fn value(seen: Seen) -> Result<u8, Missing>
@@ -23,6 +24,7 @@ fn value(seen: Seen) -> Result<u8, Missing>
 
 /// A byte of internal RAM.
 #[tactic(auto, using(crate::proofs::Causes::byte_missing))]
+#[inline(always)]
 pub(crate) fn read_byte<M: CellStore>(store: &M, address: u8) -> Result<u8, Missing>
     ensures value { result ≡ value_or_missing (byte_seen (M.cells store.now) address) }
     ensures missing { IfErr result (IsMissing (M.cells store.now)) }
@@ -50,6 +52,7 @@ pub(crate) fn bank_base(cpu: &Cpu) -> u8
 
 /// Where a place is: for an indirect one its register is read.
 #[tactic(auto, unfolding(crate::specs::Operands::location_of))]
+#[inline(always)]
 pub(crate) fn locate<M: CellStore>(store: &M, cpu: &Cpu, place: Place) -> Result<Location, Missing>
     ensures value { result ≡ answer (M.cells store.now) (location_of cpu.now place) }
     ensures missing { IfErr result (IsMissing (M.cells store.now)) }
@@ -89,6 +92,7 @@ pub(crate) fn read_latch_at<M: CellStore>(
 
 /// What a read finds there: at a port the levels of its pins.
 #[tactic(auto, unfolding(crate::specs::Operands::found_at))]
+#[inline(always)]
 pub(crate) fn find_at<M: CellStore>(
     store: &M,
     cpu: &Cpu,
@@ -106,6 +110,7 @@ pub(crate) fn find_at<M: CellStore>(
 
 /// The value of an operand that is only read.
 #[tactic(auto, using(crate::proofs::Readings::answer_then), unfolding(crate::specs::Operands::operand_value))]
+#[inline(always)]
 pub(crate) fn read_operand<M: CellStore>(
     store: &M,
     cpu: &Cpu,
@@ -126,14 +131,11 @@ pub(crate) fn read_operand<M: CellStore>(
 
 /// Writes to a location.
 #[tactic(auto, unfolding(crate::specs::Operands::with_location))]
-pub(crate) fn write_location(effect: Effect, location: Location, value: u8) -> Effect
-    ensures { result ≡ with_location location value effect }
+pub(crate) fn write_location(effect: &mut Effect, location: Location, value: u8)
+    ensures { effect.new ≡ with_location location value effect.old }
 {
     match location {
-        Location::Ram(address) => Effect {
-            first: Put::Byte { address, value },
-            ..effect
-        },
+        Location::Ram(address) => effect.first = Put::Byte { address, value },
         Location::Sfr(address) => write_sfr(effect, address, value),
     }
 }

@@ -1,7 +1,7 @@
 //! What each action comes to.
 ghost use Rattle.std.specs.Prelude.{◌≡◌, length, IfErr};
 ghost use Rattle.m51_flat.specs.Causes.{IsMissing};
-ghost use Rattle.m51_flat.specs.Reads.{answer};
+ghost use Rattle.m51_flat.specs.Reads.{answer, with_effect};
 ghost use Rattle.m51_flat.specs.Meaning.{plan};
 
 use crate::actions::Action;
@@ -12,64 +12,115 @@ use crate::bits::{
 use crate::branches::{compare, count_down, meets};
 use crate::calls::{call, return_from};
 use crate::moves::{load_code, load_external, pop, push, store_external};
-use crate::sfr::{ACC, B};
 use crate::state::{Effect, Missing, Pins, Transfer};
 use crate::store::CellStore;
-use crate::writing::{
-    branch_if, jump, near_address, read_carry, read_dptr, write_carry, write_dptr, write_pair,
-};
+use crate::writing::{branch_if, jump, read_carry, read_dptr, write_carry, write_dptr, write_pair};
 use m51_alu::{div, mul};
+use m51_isa::block_target;
+use m51_sfr::addresses::{ACC, B};
 
-/// What an action comes to over a store, from the effect of an instruction that only goes on to the next.
+/// What an action comes to over a store, from the effect of an instruction that only goes on to the next. An effect
+/// after a read without a value is of no meaning.
+#[inline(always)]
 pub(crate) fn perform<M: CellStore>(
     store: &M,
     image: &[u8],
     ext: &Pins,
-    effect: Effect,
+    effect: &mut Effect,
     action: Action,
-) -> Result<Effect, Missing>
+) -> Result<(), Missing>
     requires { length image.now ≡ 65536 }
-    ensures value { result ≡ answer (M.cells store.now) (plan image.now ext.now effect action) }
+    ensures value { with_effect result effect.new
+        ≡ answer (M.cells store.now) (plan image.now ext.now effect.old action) }
     ensures missing { IfErr result (IsMissing (M.cells store.now)) }
 {
-    let cpu = &effect.cpu;
     match action {
-        Action::Skip => Ok(effect),
+        Action::Skip => Ok(()),
         Action::Assign(place, from) => assign(store, ext, effect, place, from),
         Action::Accumulate(op, from) => accumulate(store, ext, effect, op, from),
         Action::Combine(op, place, from) => combine(store, ext, effect, op, place, from),
         Action::Change(count, place) => change(store, effect, count, place),
-        Action::Turn(by) => Ok(turn(effect, by)),
-        Action::Multiply => Ok(write_pair(effect, mul(cpu.latch(ACC), cpu.latch(B)))),
-        Action::Divide => Ok(write_pair(effect, div(cpu.latch(ACC), cpu.latch(B)))),
+        Action::Turn(by) => {
+            turn(effect, by);
+            Ok(())
+        }
+        Action::Multiply => {
+            let pair = mul(effect.cpu.latch(ACC), effect.cpu.latch(B));
+            write_pair(effect, pair);
+            Ok(())
+        }
+        Action::Divide => {
+            let pair = div(effect.cpu.latch(ACC), effect.cpu.latch(B));
+            write_pair(effect, pair);
+            Ok(())
+        }
         Action::Exchange(place) => exchange(store, ext, effect, place),
         Action::ExchangeDigit(place) => exchange_digit(store, ext, effect, place),
-        Action::LoadDptr(word) => Ok(write_dptr(effect, word)),
-        Action::AdvanceDptr => Ok(write_dptr(effect, read_dptr(cpu).wrapping_add(1))),
+        Action::LoadDptr(word) => {
+            write_dptr(effect, word);
+            Ok(())
+        }
+        Action::AdvanceDptr => {
+            let word = read_dptr(&effect.cpu).wrapping_add(1);
+            write_dptr(effect, word);
+            Ok(())
+        }
         Action::LoadExternal(from) => load_external(store, effect, from),
         Action::StoreExternal(to) => store_external(store, effect, to),
-        Action::LoadCode(base) => Ok(load_code(image, effect, base)),
+        Action::LoadCode(base) => {
+            load_code(image, effect, base);
+            Ok(())
+        }
         Action::Push(place) => push(store, ext, effect, place),
         Action::Pop(place) => pop(store, effect, place),
-        Action::ChangeCarry(by) => Ok(write_carry(effect, change_carry(by, read_carry(cpu)))),
+        Action::ChangeCarry(by) => {
+            let carry = change_carry(by, read_carry(&effect.cpu));
+            write_carry(effect, carry);
+            Ok(())
+        }
         Action::CarryWith(by, bit) => carry_with(store, ext, effect, by, bit),
-        Action::StoreBit(from, bit) => Ok(write_bit(effect, bit, bit_of_source(from, cpu))),
+        Action::StoreBit(from, bit) => {
+            let value = bit_of_source(from, &effect.cpu);
+            write_bit(effect, bit, value);
+            Ok(())
+        }
         Action::FlipBit(bit) => flip_bit(store, effect, bit),
-        Action::JumpTo(target) => Ok(jump(effect, target, Transfer::Jump)),
-        Action::JumpNear(address) => Ok(jump(effect, near_address(cpu, address), Transfer::Jump)),
-        Action::JumpBy(rel) => Ok(branch_if(effect, true, rel)),
-        Action::JumpIndirect => Ok(jump(
-            effect,
-            read_dptr(cpu).wrapping_add(u16::from(cpu.latch(ACC))),
-            Transfer::Jump,
-        )),
-        Action::BranchOn(condition, rel) => Ok(branch_if(effect, meets(condition, cpu), rel)),
+        Action::JumpTo(target) => {
+            jump(effect, target, Transfer::Jump);
+            Ok(())
+        }
+        Action::JumpNear(address) => {
+            let target = block_target(effect.cpu.pc, address);
+            jump(effect, target, Transfer::Jump);
+            Ok(())
+        }
+        Action::JumpBy(rel) => {
+            branch_if(effect, true, rel);
+            Ok(())
+        }
+        Action::JumpIndirect => {
+            let target = read_dptr(&effect.cpu).wrapping_add(u16::from(effect.cpu.latch(ACC)));
+            jump(effect, target, Transfer::Jump);
+            Ok(())
+        }
+        Action::BranchOn(condition, rel) => {
+            let taken = meets(condition, &effect.cpu);
+            branch_if(effect, taken, rel);
+            Ok(())
+        }
         Action::BranchOnBit(test, bit, rel) => branch_on_bit(store, ext, effect, test, bit, rel),
         Action::TestAndClear(bit, rel) => test_and_clear(store, effect, bit, rel),
         Action::Compare(first, second, rel) => compare(store, ext, effect, first, second, rel),
         Action::CountDown(place, rel) => count_down(store, effect, place, rel),
-        Action::CallTo(target) => Ok(call(effect, target)),
-        Action::CallNear(address) => Ok(call(effect, near_address(cpu, address))),
+        Action::CallTo(target) => {
+            call(effect, target);
+            Ok(())
+        }
+        Action::CallNear(address) => {
+            let target = block_target(effect.cpu.pc, address);
+            call(effect, target);
+            Ok(())
+        }
         Action::Return(from) => return_from(store, effect, from),
     }
 }

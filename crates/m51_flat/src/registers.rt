@@ -2,8 +2,9 @@
 ghost use Rattle.std.specs.Prelude.{◌≡◌, ◌<◌};
 ghost use Rattle.m51_flat.specs.Sfr.{flag, found, latch, with_flag, with_latch};
 
-use crate::sfr::{index, is_named, port_at, replace_bit};
+use crate::sfr::{index, port_at, replace_bit};
 use crate::state::{Cpu, Pins};
+use m51_sfr::is_register;
 
 impl Cpu {
     /// What the register at an address holds: of a port its latch, of SBUF the received byte; 0 where there is no
@@ -14,7 +15,7 @@ impl Cpu {
     pub fn latch(&self, address: u8) -> u8
         ensures { result ≡ latch self.now address }
     {
-        if is_named(address) {
+        if is_register(address) {
             self.regs[index(address)]
         } else {
             0
@@ -54,7 +55,7 @@ impl Cpu {
     pub fn set_latch(&mut self, address: u8, value: u8)
         ensures { self.new ≡ with_latch self.old address value }
     {
-        if is_named(address) {
+        if is_register(address) {
             self.regs[index(address)] = value;
         }
     }

@@ -1,59 +1,43 @@
 //! Parts of an effect: flags, DPTR and the program counter.
 ghost use Rattle.std.specs.Prelude.{◌≡◌};
 ghost use Rattle.m51_flat.specs.Parts.{auxiliary_carry, branched, with_flags, with_carry, with_sum, jumped};
-ghost use Rattle.m51_isa.specs.Targets.{near, relative};
 ghost use Rattle.m51_flat.specs.Parts.{carry, dptr_of, with_dptr, with_pair};
 
-use crate::sfr::{AC, ACC, B, CY, DPH, DPL, OV, PSW, replace_bit, write_sfr};
+use crate::sfr::{replace_bit, write_sfr};
 use crate::state::{Cpu, Effect, Transfer};
 use m51_alu::Sum;
-use m51_isa::Address11;
+use m51_isa::relative_target;
+use m51_sfr::addresses::{ACC, B, DPH, DPL, PSW};
+use m51_sfr::bits::{AC, CY, OV};
 
 /// Control goes to a target: an instruction's, or the handler of an interrupt.
 ///
 /// Source: own choice ("Effects").
-pub fn jump(effect: Effect, target: u16, transfer: Transfer) -> Effect
-    ensures { result ≡ jumped target transfer effect }
+pub fn jump(effect: &mut Effect, target: u16, transfer: Transfer)
+    ensures { effect.new ≡ jumped target transfer effect.old }
 {
-    let mut cpu = effect.cpu;
-    cpu.pc = target;
-    Effect {
-        cpu,
-        transfer,
-        ..effect
-    }
-}
-
-/// An address and a signed byte.
-pub(crate) fn relative_to(pc: u16, rel: u8) -> u16
-    ensures { result ≡ relative pc rel }
-{
-    if rel < 128 {
-        pc.wrapping_add(u16::from(rel))
-    } else {
-        pc.wrapping_add(0xFF00 + u16::from(rel))
-    }
+    effect.cpu.pc = target;
+    effect.transfer = transfer;
 }
 
 /// A branch by a signed byte, where it is taken.
 #[tactic(auto, unfolding(crate::specs::Parts::branched))]
-pub(crate) fn branch_if(effect: Effect, taken: bool, rel: u8) -> Effect
-    ensures { result ≡ branched taken rel effect }
+pub(crate) fn branch_if(effect: &mut Effect, taken: bool, rel: u8)
+    ensures { effect.new ≡ branched taken rel effect.old }
 {
     if taken {
-        jump(effect, relative_to(effect.cpu.pc, rel), Transfer::Jump)
-    } else {
-        effect
+        let target = relative_target(effect.cpu.pc, rel);
+        jump(effect, target, Transfer::Jump);
     }
 }
 
 /// Sets or clears CY.
 #[tactic(auto, unfolding(crate::specs::Parts::with_carry))]
-pub(crate) fn write_carry(effect: Effect, carry: bool) -> Effect
-    ensures { result ≡ with_carry carry effect }
+pub(crate) fn write_carry(effect: &mut Effect, carry: bool)
+    ensures { effect.new ≡ with_carry carry effect.old }
 {
     let psw = replace_bit(effect.cpu.latch(PSW), CY, carry);
-    write_sfr(effect, PSW, psw)
+    write_sfr(effect, PSW, psw);
 }
 
 /// PSW with the three flags of a sum.
@@ -68,11 +52,12 @@ fn replace_flags(psw: u8, sum: Sum) -> u8
 
 /// Writes A and the flags after a sum.
 #[tactic(auto, unfolding(crate::specs::Parts::with_sum))]
-pub(crate) fn write_sum(effect: Effect, sum: Sum) -> Effect
-    ensures { result ≡ with_sum sum effect }
+pub(crate) fn write_sum(effect: &mut Effect, sum: Sum)
+    ensures { effect.new ≡ with_sum sum effect.old }
 {
     let psw = replace_flags(effect.cpu.latch(PSW), sum);
-    write_sfr(write_sfr(effect, PSW, psw), ACC, sum.value)
+    write_sfr(effect, PSW, psw);
+    write_sfr(effect, ACC, sum.value);
 }
 
 /// The carry flag.
@@ -99,27 +84,21 @@ pub(crate) fn read_dptr(cpu: &Cpu) -> u16
 
 /// Writes DPTR.
 #[tactic(auto, unfolding(crate::specs::Parts::with_dptr))]
-pub(crate) fn write_dptr(effect: Effect, word: u16) -> Effect
-    ensures { result ≡ with_dptr word effect }
+pub(crate) fn write_dptr(effect: &mut Effect, word: u16)
+    ensures { effect.new ≡ with_dptr word effect.old }
 {
-    let effect = write_sfr(effect, DPH, (word / 256) as u8);
-    write_sfr(effect, DPL, (word % 256) as u8)
+    write_sfr(effect, DPH, (word / 256) as u8);
+    write_sfr(effect, DPL, (word % 256) as u8);
 }
 
 /// Writes A, B and OV after a product or a quotient, and clears CY.
 #[tactic(auto, unfolding(crate::specs::Parts::with_pair))]
-pub(crate) fn write_pair(effect: Effect, pair: (u8, u8, bool)) -> Effect
-    ensures { result ≡ with_pair pair effect }
+pub(crate) fn write_pair(effect: &mut Effect, pair: (u8, u8, bool))
+    ensures { effect.new ≡ with_pair pair effect.old }
 {
     let (a, b, overflow) = pair;
     let psw = replace_bit(effect.cpu.latch(PSW), CY, false);
-    let effect = write_sfr(effect, PSW, replace_bit(psw, OV, overflow));
-    write_sfr(write_sfr(effect, B, b), ACC, a)
-}
-
-/// An address in the block of the next instruction.
-pub(crate) fn near_address(cpu: &Cpu, address: Address11) -> u16
-    ensures { result ≡ near cpu.now.pc address }
-{
-    cpu.pc / 2048 * 2048 + address.number()
+    write_sfr(effect, PSW, replace_bit(psw, OV, overflow));
+    write_sfr(effect, B, b);
+    write_sfr(effect, ACC, a);
 }

@@ -4,3 +4,4 @@ pub mod Levels
 pub mod Kept
 pub mod Taken
 pub mod Holding
+pub mod Disabled

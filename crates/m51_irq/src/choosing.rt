@@ -6,6 +6,8 @@ ghost use Rattle.m51_irq.specs.Choice.{asks_at, chosen, first_asking};
 
 use crate::sources::{asks, level_of};
 use m51_flat::{Cpu, Level, Source};
+use m51_sfr::addresses::IE;
+use m51_sfr::bits::EA;
 
 // The sources, in their order.
 const SOURCES: [Source; 6] = [
@@ -50,13 +52,9 @@ fn first_low(cpu: &Cpu) -> Option<Source>
     }
 }
 
-/// The interrupt that is to be taken: of the sources that ask and that the levels in progress allow, the first of those
-/// with the higher level. It is none while interrupts are held off, which they are for the step after RETI and after a
-/// write of IE or IP.
-///
-/// Source: family manual.
+// The interrupt that is to be taken, where all may be enabled.
 #[tactic(auto, unfolding(crate::specs::Choice::chosen))]
-pub fn choose(cpu: &Cpu) -> Option<Source>
+fn choose_enabled(cpu: &Cpu) -> Option<Source>
     ensures { result ≡ chosen cpu.now }
 {
     if cpu.held {
@@ -68,5 +66,21 @@ pub fn choose(cpu: &Cpu) -> Option<Source>
     match first_asking(cpu, Level::High) {
         Some(source) => Some(source),
         None => first_low(cpu),
+    }
+}
+
+/// The interrupt that is to be taken: of the sources that ask and that the levels in progress allow, the first of those
+/// with the higher level. It is none while interrupts are held off, which they are for the step after RETI and after a
+/// write of IE or IP.
+///
+/// Source: family manual.
+#[tactic(auto, using(crate::proofs::Disabled::none_enabled))]
+pub fn choose(cpu: &Cpu) -> Option<Source>
+    ensures { result ≡ chosen cpu.now }
+{
+    if cpu.flag(IE, EA) {
+        choose_enabled(cpu)
+    } else {
+        None
     }
 }

@@ -2,9 +2,9 @@
 ghost use Rattle.std.specs.Prelude.{◌≡◌, ◌<◌};
 ghost use Rattle.m51_irq.specs.Sources.{asks, has_flag, is_enabled, level_of, number_of};
 
-use m51_flat::addresses::{IE, IP, SCON, T2CON, TCON};
-use m51_flat::flags::{EA, EXF2, IE0, IE1, RI, TF0, TF1, TF2, TI};
 use m51_flat::{Cpu, Level, Source};
+use m51_sfr::addresses::{IE, IP, SCON, T2CON, TCON};
+use m51_sfr::bits::{EA, EXF2, IE0, IE1, RI, TF0, TF1, TF2, TI};
 
 // The bit of IE that enables a source, and of IP that gives it the high level.
 fn number(source: Source) -> u8

@@ -8,9 +8,9 @@ ghost use Rattle.m51_irq.specs.Vectoring.{IsVectoring, acknowledged, cleared, ed
 ghost use Rattle.m51_irq.specs.Vectoring.{vectored, vectoring};
 
 use crate::sources::level_of;
-use m51_flat::addresses::{PCON, TCON};
-use m51_flat::flags::{IDL, IE0, IE1, IT0, IT1, TF0, TF1};
 use m51_flat::{CellStore, Cpu, Effect, Level, Outcome, Put, Source, Transfer, conclude, stack_pc};
+use m51_sfr::addresses::{PCON, TCON};
+use m51_sfr::bits::{IDL, IE0, IE1, IT0, IT1, TF0, TF1};
 
 // Clears a flag of TCON where the bit that makes it an edge's is 1.
 fn clear_edge(cpu: &mut Cpu, flag: u8, edge: u8)
@@ -84,14 +84,11 @@ fn vectoring_effect(cpu: &Cpu, source: Source) -> Effect
     ensures value { result ≡ vectoring cpu.now source }
     ensures registers { length (interrupted cpu.now source).cpu.regs ≡ 128 }
 {
-    let stacked = stack_pc(interrupt(cpu, source));
-    let mut cpu = stacked.cpu;
-    cpu.pc = source.vector();
-    Effect {
-        cpu,
-        transfer: Transfer::Vector(source),
-        ..stacked
-    }
+    let mut effect = interrupt(cpu, source);
+    stack_pc(&mut effect);
+    effect.cpu.pc = source.vector();
+    effect.transfer = Transfer::Vector(source);
+    effect
 }
 
 /// What taking an interrupt comes to over a store. It changes nothing: the caller puts `first` and then `second`.

@@ -19,6 +19,7 @@ mod operand;
 mod searching;
 mod slot;
 mod spelling;
+mod targets;
 
 pub use columns::{cycles, kind_of, length};
 pub use decoding::decode;
@@ -36,3 +37,7 @@ pub use operand::{Address11, Pointer, Register};
 pub use searching::{has_row, row_for, search};
 pub use slot::{Field, FieldSlot, Slot};
 pub use spelling::{Spelling, spelling_of};
+pub use targets::{
+    bit_address, block_target, distance, fits_byte, in_one_block, is_near, relative_target,
+    target_of,
+};

@@ -1,7 +1,8 @@
 -- What each form of fixup writes: target is the address T to which it refers, place the address P of its field, and
 -- first the byte of content at P. None where the rule of the form fails.
-use Rattle.std.specs.Prelude.{ℕ, ◌+◌, ◌-◌, ◌*◌, ◌/◌, ◌%◌, Bool, ◌&&◌, ◌||◌, nat_eq, nat_le, if◌then◌else◌, List, []}
-use Rattle.std.specs.Prelude.{◌∷◌, Option, Some, None}
+use Rattle.std.specs.Prelude.{ℕ, ◌+◌, ◌*◌, ◌/◌, ◌%◌, Bool, nat_le, if◌then◌else◌, List, [], ◌∷◌, Option, Some, None}
+use Rattle.std.specs.Prelude.{option_map}
+use Rattle.m51_isa.specs.Targets.{bit_address, distance, fits_byte, in_one_block, is_near}
 use Rattle.m51_module.specs.declared.content.Form.{Form}
 use Rattle.m51_module.specs.declared.content.Form.TheVariants.{Low, Byte, Relative, High, Word, Inblock, Bit, Conv}
 use Rattle.m51_linker.specs.declared.fields.Field.{Field}
@@ -30,36 +31,27 @@ abbrev pub high_field : ℕ → Option Field
 high_field target = Some (One (high_of target))
 
 -- BYTE: T is at most 00FFH or at least FF00H; its low byte
-abbrev pub is_byte : ℕ → Bool
-is_byte target = nat_le target 0xFF || nat_le 0xFF00 target
-
 abbrev pub byte_field : ℕ → Option Field
-byte_field target = one_if (is_byte target) (low_of target)
+byte_field target = one_if (fits_byte target) (low_of target)
 
 -- WORD: T, the high byte first
 abbrev pub word_field : ℕ → Option Field
 word_field target = Some (Two (high_of target) (low_of target))
 
 -- RELATIVE: T minus P + 1, modulo 65,536, is a signed number from -128 to 127, that is 0000H to 007FH or FF80H to FFFFH
-abbrev pub distance : ℕ → ℕ → ℕ
-distance target place = (target + 65536 - (place + 1) % 65536) % 65536
-
-abbrev pub is_near : ℕ → Bool
-is_near far = nat_le far 0x7F || nat_le 0xFF80 far
+abbrev pub far_of : ℕ → ℕ → ℕ
+far_of target place = distance ((place + 1) % 65536) target
 
 abbrev pub relative_field : ℕ → ℕ → Option Field
-relative_field target place = one_if (is_near (distance target place)) (low_of (distance target place))
+relative_field target place = one_if (is_near (far_of target place)) (low_of (far_of target place))
 
 -- INBLOCK: T and P + 2, modulo 65,536, agree in the upper five bits; bits 10 to 8 of T go to the top of the first byte,
 -- whose low five bits stay, and the low byte follows
-abbrev pub in_one_block : ℕ → ℕ → Bool
-in_one_block target place = nat_eq (target / 2048) ((place + 2) % 65536 / 2048)
-
 abbrev pub block_field : ℕ → ℕ → Field
 block_field target first = Two (high_of target % 8 * 32 + first % 32) (low_of target)
 
 abbrev pub inblock_field : ℕ → ℕ → ℕ → Option Field
-inblock_field target place first = if in_one_block target place then Some (block_field target first) else None
+inblock_field target place first = if in_one_block target ((place + 2) % 65536) then Some (block_field target first) else None
 
 -- BIT: T is at most 00FFH
 abbrev pub bit_field : ℕ → Option Field
@@ -67,18 +59,8 @@ bit_field target = one_if (nat_le target 0xFF) (low_of target)
 
 -- CONV: T is a byte from 20H to 2FH, whose bits have the addresses from 8 * (T - 20H) on, or a byte from 80H to FFH
 -- that is a multiple of 8, whose bits have the addresses from T on
-abbrev pub is_low_bits : ℕ → Bool
-is_low_bits target = nat_le 0x20 target && nat_le target 0x2F
-
-abbrev pub is_high_bits : ℕ → Bool
-is_high_bits target = (nat_le 0x80 target && nat_le target 0xFF) && nat_eq (target % 8) 0
-
-abbrev pub high_bits_field : ℕ → ℕ → Option Field
-high_bits_field target bit = one_if (is_high_bits target) (target + bit)
-
 abbrev pub conv_field : ℕ → ℕ → Option Field
-conv_field target bit =
-    if is_low_bits target then Some (One (8 * (target - 0x20) + bit)) else high_bits_field target bit
+conv_field target bit = option_map (λ address. One address) (bit_address target bit)
 
 -- The field of a fixup of that form and bit.
 abbrev pub field_of : Form → ℕ → ℕ → ℕ → ℕ → Option Field

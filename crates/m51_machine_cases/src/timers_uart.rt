@@ -1,8 +1,8 @@
 //! Worked cycles, with values that a separate model of the devices gave.
-use m51_flat::addresses::{
+use m51_flat::{Cpu, Pins, reset};
+use m51_sfr::addresses::{
     PCON, RCAP2H, RCAP2L, SBUF, SCON, T2CON, TCON, TH0, TH1, TH2, TL0, TL1, TL2, TMOD,
 };
-use m51_flat::{Cpu, Pins, reset};
 use m51_timers_uart::{Frame, Periph, Sent};
 
 /// All levels are 1.

@@ -10,7 +10,7 @@ use Rattle.m51_module.specs.Library.{IsLibrary, unless, add_refusal, added_each}
 use Rattle.m51_module.specs.Edits.{after_edit, after_edits}
 use Rattle.m51_module.proofs.Held.{add_keeps}
 
-none_is_library : IsLibrary []
+pub none_is_library : IsLibrary []
 none_is_library = record {
   few = omega arith;
   names = λ i j d below inside. absurd (omega (arith, inside));

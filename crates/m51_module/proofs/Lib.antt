@@ -18,3 +18,4 @@ pub mod SamplePublic
 pub mod Units
 pub mod EdgeTests
 pub mod FieldLengths
+pub mod Beside

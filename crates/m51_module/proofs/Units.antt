@@ -67,8 +67,15 @@ module _ (l : LayoutParts) (sound : IsSound l) where
       let some : 0 < h.is.size = fit.absolute h.absolute in
       subst (λ k. Covers (extent_of k h.is.base h.is.size) (code_cell vector)) (sym h.code) (record { space = refl; from = omega (arith, h.base); below = omega (arith, h.base, some) })
 
+  -- so it is the unit that covers the vector
+  pub root_at : (vector u : ℕ) → IsRootAt l vector u → IsUnitAt l vector u
+  root_at vector u h = record { is = h.is; unit_is = h.unit_is; covers = root_covers vector u h }
+
+  pub root_is : (vector u v : ℕ) → IsUnitAt l vector u → IsRootAt l vector v → u ≡ v
+  root_is vector u v h k = one_unit vector u v h (root_at vector v k)
+
   pub one_root : (vector u v : ℕ) → IsRootAt l vector u → IsRootAt l vector v → u ≡ v
-  one_root vector u v h k = one_cell u v h.is k.is (code_cell vector) h.unit_is k.unit_is (root_covers vector u h) (root_covers vector v k)
+  one_root vector u v h = root_is vector u v (root_at vector u h)
 
 pub unit_below : (l : LayoutParts) (address u : ℕ) → IsUnitAt l address u → u < length l.units
 unit_below l address u h = is_unit_below l u h.is h.unit_is

@@ -141,21 +141,32 @@ impl Layout {
         is_vector(vector) && placed.mark == Mark::Absolute && placed.base == vector
     }
 
+    // The unit that covers the vector, if it is the root there.
+    fn if_root(&self, unit: u16, vector: u16) -> Option<u16>
+        requires sound { IsSound self.now }
+        requires at { IsUnitAt self.now vector unit }
+        ensures some { IfSome result (λ unit. IsRootAt self.now vector unit) }
+        ensures only { (unit : ℕ) → IsRootAt self.now vector unit → result ≡ Some unit }
+    {
+        if self.is_root(usize::from(unit), vector) {
+            return Some(unit);
+        }
+        None
+    }
+
     /// The unit that is the root at this vector, if there is one: an absolute segment of program memory that begins
     /// there. No root is at another address than the vectors of the reset and of the six interrupts.
     ///
     /// Source: own choice ("Roots").
-    #[tactic(auto, using(crate::proofs::Units::one_root, crate::proofs::Units::root_below))]
     pub fn root(&self, vector: u16) -> Option<u16>
         ensures some { IfSome result (λ unit. IsRootAt self.now vector unit) }
         ensures only { (unit : ℕ) → IsRootAt self.now vector unit → result ≡ Some unit }
     {
-        for unit in 0..self.parts.units.len() {
-            if self.is_root(unit, vector) {
-                return Some(unit as u16);
-            }
+        let _ = self.units();
+        match self.unit_at(vector) {
+            Some(unit) => self.if_root(unit, vector),
+            None => None,
         }
-        None
     }
 
     /// The units that own the extent: its own unit first, then the others, ascending; none unless it is overlaid.

@@ -4,9 +4,7 @@ ghost use Rattle.m51_cells.specs.Outcome.{Gives};
 ghost use Rattle.m51_module.specs.Library.{IsLibrary, is_named, refusal_of, clash, unless, others_than, with_replaced};
 ghost use Rattle.m51_module.specs.Library.{added, deleted, replaced, raised_in, extracted, built};
 
-use crate::members::{
-    add_refusal, add_refusal_by, clash_with_others, index_of, raise_at, take_out,
-};
+use crate::members::{add_refusal_by, clash_with_others, index_of, raise_at, take_out};
 use crate::public_names::PublicNames;
 use crate::{LibError, Module};
 use m51_cells::Name;
@@ -20,18 +18,20 @@ use std::marker::Model;
 #[derive(Drop)]
 pub struct Library {
     members: Vec<Module>,
+    // Those of the publics, which one addition hands to the next.
+    names: PublicNames,
 }
 
 impl Model for Library {
     ghost use Rattle.std.specs.Prelude.{List};
     ghost use Rattle.m51_module.specs.declared.parts.ModuleParts.{ModuleParts};
-    ghost use Rattle.m51_module.specs.Library.{IsLibrary};
+    ghost use Rattle.m51_module.specs.WorkNames.{AreMembers};
 
     ghost Value = { List ModuleParts };
 
     ghost view = { λ l. l.members.items };
 
-    ghost invariant = { λ l. IsLibrary l.members.items };
+    ghost invariant = { λ l. AreMembers l.members.items l.names };
 }
 
 /// The library of these modules. It is refused as if they were added one by one to none: at the first that can't be
@@ -50,7 +50,10 @@ pub fn build(alloc: Global, modules: Vec<Module>) -> Result<Library, LibError>
             None => names = names.with(&modules[index]),
         }
     }
-    Ok(Library { members: modules })
+    Ok(Library {
+        members: modules,
+        names: PublicNames::unknown(),
+    })
 }
 
 impl Library {
@@ -62,6 +65,7 @@ impl Library {
     {
         Library {
             members: Vec::new(alloc),
+            names: PublicNames::unknown(),
         }
     }
 
@@ -85,9 +89,18 @@ impl Library {
         ensures kept { OnErr result (self.new ≡ self.old) }
     {
         let alloc = *self.members.allocator();
-        match add_refusal(alloc, &self.members, &incoming) {
-            Some(refusal) => Err(refusal),
-            None => Ok(self.members.push(incoming)?),
+        let names = self.names.take(alloc, &self.members);
+        match add_refusal_by(&names, &self.members, &incoming) {
+            Some(refusal) => {
+                self.names = names;
+                Err(refusal)
+            }
+            None => {
+                let more = names.with(&incoming);
+                self.members.push(incoming)?;
+                self.names = more;
+                Ok(())
+            }
         }
     }
 
@@ -101,7 +114,10 @@ impl Library {
         ensures kept { OnErr result (self.new ≡ self.old) }
     {
         match index_of(&self.members, name) {
-            Some(index) => Ok(take_out(&mut self.members, index)),
+            Some(index) => {
+                self.names = PublicNames::unknown();
+                Ok(take_out(&mut self.members, index))
+            }
             None => Err(LibError::B2 { name: *name }),
         }
     }
@@ -133,7 +149,10 @@ impl Library {
         ensures kept { OnErr result (self.new ≡ self.old) }
     {
         match index_of(&self.members, name) {
-            Some(index) => raise_at(&mut self.members, index),
+            Some(index) => {
+                self.names = PublicNames::unknown();
+                raise_at(&mut self.members, index);
+            }
             None => return Err(LibError::B2 { name: *name }),
         }
         Ok(())
@@ -159,9 +178,15 @@ impl Library {
         ensures kept { OnErr result (self.new ≡ self.old) }
     {
         let alloc = *self.members.allocator();
-        match clash_with_others(alloc, &self.members, index, &incoming) {
-            Some(refusal) => Err(refusal),
+        let names = self.names.take(alloc, &self.members);
+        let others = names.without(&self.members[index]);
+        match clash_with_others(&others, &self.members, index, &incoming) {
+            Some(refusal) => {
+                self.names = others.with(&self.members[index]);
+                Err(refusal)
+            }
             None => {
+                self.names = others.with(&incoming);
                 self.members[index] = incoming;
                 Ok(())
             }

@@ -72,22 +72,22 @@ fn clash(
         .map(|public| LibError::B3 { name: public.name })
 }
 
-// What refuses the module beside all of these but the one at that index: B3 with its first public that one of them
-// has.
+// What refuses the module beside all of these but the one at that index, the names of whose publics are given: B3 with
+// its first public that one of them has.
 #[tactic(auto, using(crate::proofs::Held::around))]
 pub(crate) fn clash_with_others(
-    alloc: Global,
+    names: &PublicNames,
     members: &[Module],
     index: usize,
     incoming: &Module,
 ) -> Option<LibError>
-    requires { index < length members.now }
+    requires index { index < length members.now }
+    requires names { AreNames (remove members.now index) names.now }
     ensures { result ≡ clash (remove members.now index) incoming.now }
 {
     let before = &members[..index];
     let after = &members[index + 1..];
-    let names = PublicNames::of(alloc, before, after);
-    clash(&names, before, after, incoming)
+    clash(names, before, after, incoming)
 }
 
 /// Takes out the module at that index, and closes up the list.
@@ -128,12 +128,4 @@ pub(crate) fn add_refusal_by(
         return Some(LibError::Full);
     }
     clash(names, members, &[], incoming)
-}
-
-// What refuses to add the module to these: B1, then Full, then B3.
-pub(crate) fn add_refusal(alloc: Global, members: &[Module], incoming: &Module) -> Option<LibError>
-    ensures { result ≡ add_refusal members.now incoming.now }
-{
-    let names = PublicNames::of(alloc, members, &[]);
-    add_refusal_by(&names, members, incoming)
 }

@@ -1,8 +1,8 @@
 //! The names of the publics of modules, in a table where there is memory for one.
-ghost use Rattle.std.specs.Prelude.{◌≡◌, [], ◌∷◌, ◌++◌, List, OnOk, IfSome};
+ghost use Rattle.std.specs.Prelude.{◌≡◌, [], ◌∷◌, ◌++◌, List, OnOk, IfSome, None};
 ghost use Rattle.m51_module.specs.declared.parts.ModuleParts.{ModuleParts};
 ghost use Rattle.m51_module.specs.Library.{defines};
-ghost use Rattle.m51_module.specs.WorkNames.{AreNames, NotesNames};
+ghost use Rattle.m51_module.specs.WorkNames.{AreNames, IsBeside, LacksNames, NotesNames};
 
 use crate::members::defines_either;
 use crate::{Module, Public};
@@ -35,6 +35,23 @@ fn note(names: &mut IndexSet<Name>, publics: &[Public]) -> Result<(), NoMemory>
     Ok(())
 }
 
+// Takes the names of the publics out.
+fn take_out(names: &mut IndexSet<Name>, publics: &[Public])
+    ensures { LacksNames (λ p. p.name) names.old.keys publics.now names.new.keys }
+{
+    for public in publics {
+        names.swap_remove(&public.name);
+    }
+}
+
+// The names without those of the publics.
+fn lacking(mut names: IndexSet<Name>, publics: &[Public]) -> IndexSet<Name>
+    ensures { LacksNames (λ p. p.name) names.keys publics.now result.keys }
+{
+    take_out(&mut names, publics);
+    names
+}
+
 // The names with those of the publics, where there is memory for them.
 fn noted(mut names: IndexSet<Name>, publics: &[Public]) -> Option<IndexSet<Name>>
     ensures { IfSome result (λ more. NotesNames (λ p. p.name) names.keys publics.now more.keys) }
@@ -55,6 +72,25 @@ impl PublicNames {
         }
     }
 
+    // No table.
+    pub(crate) fn unknown() -> PublicNames
+        ensures { (modules : List ModuleParts) → AreNames modules result }
+    {
+        PublicNames { names: None }
+    }
+
+    // The table, or where there is none that of these modules; no table is left.
+    pub(crate) fn take(&mut self, alloc: Global, members: &[Module]) -> PublicNames
+        requires { AreNames members.now self.old }
+        ensures taken { AreNames members.now result }
+        ensures left { self.new ≡ None }
+    {
+        match self.names.take() {
+            Some(names) => PublicNames { names: Some(names) },
+            None => PublicNames::of(alloc, members, &[]),
+        }
+    }
+
     // With those of one module more.
     pub(crate) fn with(self, member: &Module) -> PublicNames
         ensures { (modules : List ModuleParts) → AreNames modules self → AreNames (modules ++ member.now ∷ []) result }
@@ -62,6 +98,19 @@ impl PublicNames {
         match self.names {
             Some(names) => PublicNames {
                 names: noted(names, member.publics()),
+            },
+            None => PublicNames { names: None },
+        }
+    }
+
+    // Without those of a module, which no other module has.
+    pub(crate) fn without(self, member: &Module) -> PublicNames
+        ensures { (modules others : List ModuleParts) → IsBeside modules others member.now → AreNames modules self
+            → AreNames others result }
+    {
+        match self.names {
+            Some(names) => PublicNames {
+                names: Some(lacking(names, member.publics())),
             },
             None => PublicNames { names: None },
         }

@@ -7,7 +7,7 @@ use Rattle.m51_cells.proofs.Fronts.{front_at_end}
 use Rattle.m51_cells.specs.Outside.{AppendsFront}
 use Rattle.m51_cells.specs.declared.event.Entry.{Entry}
 use Rattle.m51_print.specs.Lines.{entry_line}
-use Rattle.m51_sim.specs.Writing.{StopsWithin}
+use Rattle.m51_shelf.specs.Writing.{StopsWithin}
 use Rattle.m51_sim.proofs.Tellings.{front_of_stop}
 use Rattle.m51_party.specs.Seats.{entry_text}
 use Rattle.m51_party.specs.Steps.{head_text}

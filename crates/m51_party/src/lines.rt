@@ -4,14 +4,15 @@ ghost use Rattle.std.specs.Fmt.{decimal};
 ghost use Rattle.std.specs.Io.KnownBytes.{Appends};
 ghost use Rattle.m51_cells.specs.Outside.{AppendsFront, HasCause};
 ghost use Rattle.m51_print.specs.Lines.{entry_line};
-ghost use Rattle.m51_sim.specs.Writing.{StopsWithin};
+ghost use Rattle.m51_shelf.specs.Writing.{StopsWithin};
 ghost use Rattle.m51_party.specs.Text.{front_of};
 ghost use Rattle.m51_party.specs.Seats.{HasEventText, end_text, ends_text, entry_text, last_text, told_text};
 
 use crate::seat::Seat;
 use m51_cells::Entry;
 use m51_print::{end_line, trace_line};
-use m51_sim::{Failed, Sink, Told, write_whole};
+use m51_shelf::{Failed, Sink, write_whole};
+use m51_sim::Told;
 
 // Writes the first line: how many boards there are.
 pub(crate) fn write_head<S: Sink>(out: &mut S, count: usize) -> Result<(), Failed>

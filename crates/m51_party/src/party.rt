@@ -10,7 +10,8 @@ ghost use Rattle.m51_party.specs.Seats.{new_seat};
 use crate::running::{some_event, write_all};
 use crate::seat::Seat;
 use m51_cells::NoMemory;
-use m51_sim::{Board, Failed, Sink};
+use m51_shelf::{Failed, Sink};
+use m51_sim::Board;
 use std::alloc::{AllocError, Global};
 use std::marker::Model;
 

@@ -12,7 +12,8 @@ use crate::choosing::next;
 use crate::handing::kept_for;
 use crate::lines::{write_ends, write_head, write_told};
 use crate::seat::Seat;
-use m51_sim::{Failed, Sink, Told};
+use m51_shelf::{Failed, Sink};
+use m51_sim::Told;
 
 // One step of the board at this index, with what the others sent last.
 fn step_at(seats: &mut [Seat], index: usize) -> Told

@@ -1,3 +1,4 @@
 mod Rows
 mod RowLaws
 mod ByteLaws
+mod NameLaws

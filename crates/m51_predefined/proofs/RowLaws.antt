@@ -1,10 +1,10 @@
--- What the two tables promise of their names and addresses.
-use Rattle.std.proofs.Common.{◌≡◌, ◌≢◌, ℕ, ◌<◌, ◌≤◌, Bool, true, false, not, ◌&&◌, ◌==◌, ltb, leb, cond, List, ◌++◌, map, Some, None, refl, sym, ap, ◌∙◌}
+-- What the names of the tables are, and mean.
+use Rattle.std.proofs.Common.{◌≡◌, ℕ, Bool, true, false, not, ◌&&◌, ◌==◌, cond, List, ◌++◌, map, Some, None, refl, sym, ap, ◌∙◌}
 use Rattle.std.specs.Prelude.{Option, option_map, is_some}
 use Rattle.std.specs.Char.{to_ascii_uppercase}
 use Rattle.std.specs.List.{list_all, slice_index_or}
 use Rattle.std.specs.Str.{bytes_eq}
-use Rattle.std.proofs.lemmas.Bool.{and_parts, both_ways, eqb-true, false≢true, leb-true, ltb-true, not-true}
+use Rattle.std.proofs.lemmas.Bool.{and_parts, eqb-true, false≢true, not-true}
 use Rattle.std.proofs.lemmas.List.Folds.{list_all-append}
 use Rattle.std.proofs.lemmas.List.Sums.{AllPass-from_list_all}
 use Rattle.std.proofs.lemmas.Slice.Eq.{bytes_eq-Decides}
@@ -12,68 +12,21 @@ use Rattle.m51_cells.specs.Name.{is_name, IsWritten}
 use Rattle.m51_cells.specs.declared.kind.Kind.TheVariants as kind
 use Rattle.m51_expr.specs.Value.{plain}
 use Rattle.m51_expr.specs.Words.{is_reserved, is_language_word}
-use Rattle.m51_predefined.specs.Registers.{Row, address_in, registers}
-use Rattle.m51_predefined.specs.Bits.{named_bytes, bits}
+use Rattle.m51_sfr.specs.Registers.{Row, address_in, bits, registers, table}
 use Rattle.m51_predefined.specs.Predefined.{register_or_bit, predefined_of}
-use Rattle.m51_predefined.specs.Laws.{NamesDiffer, AddressesDiffer, IsFree, NamesAreFree, RowsAreRead, ReservedStandForNothing}
-use Rattle.m51_predefined.proofs.Rows.{pairs_pass, pairs, absent}
-
--- two names differ
-abbrev has_other_name : Row → Row → Bool
-has_other_name r s = not (bytes_eq r.name s.name)
-
-rows_differ : pairs_pass has_other_name (registers ++ bits) ≡ true
-unfolding registers bits named_bytes
-rows_differ = refl
-
-name_differs : (r s : Row) → has_other_name r s ≡ true → r.name ≢ s.name
-name_differs r s h = λ e. both_ways (bytes_eq r.name s.name) (not-true (bytes_eq r.name s.name) h) ((bytes_eq-Decides r.name s.name).1 e)
-
-pub names_differ : NamesDiffer
-names_differ = pairs (λ r s. r.name ≢ s.name) has_other_name name_differs (registers ++ bits) rows_differ
-
--- the first address is below the second
-abbrev is_before : Row → Row → Bool
-is_before r s = ltb r.address s.address
-
-registers_ascend : pairs_pass is_before registers ≡ true
-unfolding registers
-registers_ascend = refl
-
-bits_ascend : pairs_pass is_before bits ≡ true
-unfolding bits named_bytes
-bits_ascend = refl
-
--- the address is one of a special function register, or of a bit of one
-abbrev is_special : Row → Bool
-is_special r = leb 0x80 r.address && leb r.address 0xFF
-
-all_special : list_all is_special (registers ++ bits) ≡ true
-unfolding registers bits named_bytes
-all_special = refl
-
-special : (r : Row) → is_special r ≡ true → (0x80 ≤ r.address) × (r.address ≤ 0xFF)
-special r h =
-    let parts = and_parts (leb 0x80 r.address) (leb r.address 0xFF) h in
-    (leb-true 0x80 r.address parts.0, leb-true r.address 0xFF parts.1)
-
-pub addresses_differ : AddressesDiffer
-addresses_differ = record {
-  register = pairs (λ r s. r.address < s.address) is_before (λ r s h. ltb-true r.address s.address h) registers registers_ascend;
-  bit = pairs (λ r s. r.address < s.address) is_before (λ r s h. ltb-true r.address s.address h) bits bits_ascend;
-  special = λ k d within. special (slice_index_or (registers ++ bits) k d) (AllPass-from_list_all is_special (registers ++ bits) all_special k d within);
-}
+use Rattle.m51_predefined.specs.Laws.{IsFree, NamesAreFree, RowsAreRead, ReservedStandForNothing}
+use Rattle.m51_predefined.proofs.Rows.{absent}
 
 -- the name is in upper case, and a source can write it
 abbrev is_written : List ℕ → Bool
 is_written name = is_name name && bytes_eq (map to_ascii_uppercase name) name
 
 all_written : list_all (λ (r : Row). is_written r.name) (registers ++ bits) ≡ true
-unfolding registers bits named_bytes
+unfolding registers bits table
 all_written = refl
 
 none_reserved : list_all (λ (r : Row). not (is_reserved r.name)) (registers ++ bits) ≡ true
-unfolding registers bits named_bytes is_reserved is_language_word
+unfolding registers bits table is_reserved is_language_word
 none_reserved = refl
 
 written_step : (b : Bool) (upper name : List ℕ) → b ≡ true → upper ≡ name → cond b (Some upper) None ≡ Some name
@@ -123,11 +76,11 @@ bit_step None p n h e = ap (λ p. option_map (λ address. plain address kind.Bit
 bit_step (Some m) p n h e = absurd (cc h)
 
 registers_read : list_all (λ (r : Row). is_address (address_in registers r.name) r.address) registers ≡ true
-unfolding registers
+unfolding registers table
 registers_read = refl
 
 bits_read : list_all (λ (r : Row). not (is_some (address_in registers r.name)) && is_address (address_in bits r.name) r.address) bits ≡ true
-unfolding registers bits named_bytes
+unfolding registers bits table
 bits_read = refl
 
 register_row : (r : Row) → is_address (address_in registers r.name) r.address ≡ true → predefined_of r.name ≡ Some (plain r.address kind.Direct)

@@ -1,26 +1,14 @@
 -- What the tables of predefined names promise.
-use Rattle.std.specs.Prelude.{◌≡◌, ◌≢◌, ℕ, ◌+◌, ◌<◌, ◌≤◌, true, false, List, ◌++◌, length, All, Some, None, Ok, map}
-use Rattle.std.specs.Prelude.{Contains}
-use Rattle.std.specs.List.{AllPairs}
+use Rattle.std.specs.Prelude.{◌≡◌, ℕ, ◌+◌, ◌-◌, ◌%◌, ◌<◌, true, false, List, ◌++◌, All, Some}
+use Rattle.std.specs.Prelude.{None, Ok}
 use Rattle.m51_cells.specs.Name.{IsWritten}
 use Rattle.m51_cells.specs.declared.kind.Kind.TheVariants as kind
 use Rattle.m51_expr.specs.Words.{is_reserved}
 use Rattle.m51_expr.specs.Value.{plain, bit_address}
 use Rattle.m51_expr.specs.Meanings.{Meanings}
 use Rattle.m51_expr.specs.Bits.{bit_of}
-use Rattle.m51_predefined.specs.Registers.{Row, registers}
-use Rattle.m51_predefined.specs.Bits.{NamedByte, named_bytes, bits}
+use Rattle.m51_sfr.specs.Registers.{Register, Row, bits, has_register, registers, table}
 use Rattle.m51_predefined.specs.Predefined.{predefined_of}
-
--- no two rows have the same name
-abbrev pub NamesDiffer : Type 0
-NamesDiffer = AllPairs (λ r s. r.name ≢ s.name) (registers ++ bits)
-
--- No two registers have the same address, and no two bits: the tables go by ascending addresses, from 80H to 0FFH.
-pub record AddressesDiffer : Type 0 where
-  pub register : AllPairs (λ (r s : Row). r.address < s.address) registers
-  pub bit : AllPairs (λ (r s : Row). r.address < s.address) bits
-  pub special : All (λ r. (0x80 ≤ r.address) × (r.address ≤ 0xFF)) (registers ++ bits)
 
 -- a source can write the name, and a module may define it
 pub record IsFree (name : List ℕ) : Type 0 where
@@ -40,15 +28,22 @@ pub record RowsAreRead : Type 0 where
 abbrev pub ReservedStandForNothing : Type 0
 ReservedStandForNothing = (word : List ℕ) → is_reserved word ≡ true → predefined_of word ≡ None
 
--- A byte with named bits is a register, and its eight bits have the addresses from its own upward. The dot gives the
--- value that the name of the bit stands for.
-pub record HasBits (b : NamedByte) : Type 0 where
-  pub register : Contains (map (λ (r : Row). r.address) registers) b.address
-  pub eight : length b.names ≡ 8
-  pub addresses : (bit : ℕ) → bit < 8 → bit_address b.address bit ≡ Some (b.address + bit)
+-- A register at a multiple of 8 has eight bits with the addresses from its own upward. The dot gives the value that the
+-- name of the bit means.
+pub record HasBits (r : Register) : Type 0 where
+  pub named : All (λ (b : Row). b.address < 8) r.bits
+  pub addresses : (bit : ℕ) → bit < 8 → bit_address r.address bit ≡ Some (r.address + bit)
   pub dot : (names : Meanings) (bit : ℕ) → bit < 8
-      → bit_of names (plain b.address kind.Direct) bit ≡ Ok (plain (b.address + bit) kind.Bits)
+      → bit_of names (plain r.address kind.Direct) bit ≡ Ok (plain (r.address + bit) kind.Bits)
 
--- all bytes with named bits
+-- all such registers
 abbrev pub BytesHaveBits : Type 0
-BytesHaveBits = All HasBits named_bytes
+BytesHaveBits = All (λ r. r.address % 8 ≡ 0 → HasBits r) table
+
+-- the assembler knows the registers of the machine, and no others
+pub record NamesAreRegisters : Type 0 where
+  -- the machine has a register at the address of each name, and at that of the byte of each named bit
+  pub register : (name : List ℕ) (a : ℕ) → predefined_of name ≡ Some (plain a kind.Direct) → has_register a ≡ true
+  pub bit : (name : List ℕ) (a : ℕ) → predefined_of name ≡ Some (plain a kind.Bits) → has_register (a - a % 8) ≡ true
+  -- each register of the machine has a name
+  pub named : (a : ℕ) → has_register a ≡ true → (name : List ℕ) × predefined_of name ≡ Some (plain a kind.Direct)

@@ -1,4 +1,2 @@
-pub mod Registers
-pub mod Bits
 pub mod Predefined
 pub mod Laws

@@ -5,8 +5,7 @@ use Rattle.m51_cells.specs.declared.kind.Kind.TheVariants as kind
 use Rattle.m51_expr.specs.Words.{bank_registers}
 use Rattle.m51_expr.specs.declared.value.Value.{Value}
 use Rattle.m51_expr.specs.Value.{plain}
-use Rattle.m51_predefined.specs.Registers.{address_in, registers}
-use Rattle.m51_predefined.specs.Bits.{bits}
+use Rattle.m51_sfr.specs.Registers.{address_in, bits, registers}
 
 -- a register has the class DATA, a bit the class BIT; both are numbers without a base
 abbrev pub register_or_bit : Option ℕ → Option ℕ → Option Value

@@ -1,20 +1,6 @@
 //! What the tables of predefined names promise. Each law is the contract of a function that does nothing.
-ghost use Rattle.m51_predefined.specs.Laws.{NamesDiffer, AddressesDiffer, NamesAreFree, RowsAreRead};
-ghost use Rattle.m51_predefined.specs.Laws.{ReservedStandForNothing, BytesHaveBits};
-
-/// No two predefined names are the same.
-///
-/// Source: family manual.
-pub fn names_differ()
-    ensures { NamesDiffer }
-{}
-
-/// No two registers have the same direct address, and no two named bits the same bit address; all are from 80H to 0FFH.
-///
-/// Source: family manual.
-pub fn addresses_differ()
-    ensures { AddressesDiffer }
-{}
+ghost use Rattle.m51_predefined.specs.Laws.{NamesAreFree, RowsAreRead};
+ghost use Rattle.m51_predefined.specs.Laws.{ReservedStandForNothing, BytesHaveBits, NamesAreRegisters};
 
 /// Each predefined name is one that a source can write, and no reserved word, so that a module may define it.
 ///
@@ -37,10 +23,18 @@ pub fn reserved_words_stand_for_nothing()
     ensures { ReservedStandForNothing }
 {}
 
-/// Each byte with named bits is a register whose eight bits have addresses, from its own upward; and the name of a bit
-/// is what the dot gives.
+/// Each register at a multiple of 8 has eight bits with addresses, from its own upward; the numbers of its named bits are
+/// below 8, and the name of a bit is what the dot gives.
 ///
 /// Source: family manual.
 pub fn bytes_have_bits()
     ensures { BytesHaveBits }
+{}
+
+/// The machine has a register at the address of each predefined name, and at that of the byte of each named bit; and
+/// each register of the machine has a predefined name.
+///
+/// Source: family manual.
+pub fn names_are_registers()
+    ensures { NamesAreRegisters }
 {}

@@ -4,11 +4,10 @@
 mod bank;
 mod laws;
 mod names;
-mod tables;
 
 pub use bank::{absolute_register, register_value};
 pub use laws::{
-    addresses_differ, bytes_have_bits, names_are_free, names_differ,
-    reserved_words_stand_for_nothing, rows_are_read,
+    bytes_have_bits, names_are_free, names_are_registers, reserved_words_stand_for_nothing,
+    rows_are_read,
 };
 pub use names::predefined;

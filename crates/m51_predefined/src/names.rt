@@ -2,9 +2,9 @@
 ghost use Rattle.std.specs.Prelude.{◌≡◌};
 ghost use Rattle.m51_predefined.specs.Predefined.{predefined_of};
 
-use crate::tables::{bit_named, register_named};
 use m51_cells::{Kind, Name};
 use m51_expr::{Value, plain};
+use m51_sfr::{bit_named, register_named};
 
 /// What a name means before any definition of the module: a special function register of the 8052 is its direct
 /// address, from 80H, of class DATA; a named bit is its bit address, of class BIT; both are numbers without a base.
@@ -16,6 +16,6 @@ pub fn predefined(name: &Name) -> Option<Value>
 {
     match register_named(name.bytes()) {
         Some(address) => Some(plain(u16::from(address), Kind::Direct)),
-        None => bit_named(name.bytes()).map(|address| plain(u16::from(address), Kind::Bits)),
+        None => bit_named(name.bytes()).map(|address| plain(address, Kind::Bits)),
     }
 }

@@ -14,7 +14,7 @@ use Rattle.m51_module.specs.Library.{defines, has_public}
 use Rattle.m51_resolve.specs.declared.definitions.Defined.{Defined}
 use Rattle.m51_resolve.specs.declared.publics.Definition.{Definition}
 use Rattle.m51_resolve.specs.Publics.{definition_among, definition_from, definition_of}
-use Rattle.m51_resolve.specs.WorkNames.{again, AreDefinitions, defined_by, definition_at, definition_in, first_defined, is_shared, noted, Notes, shared_in, two_define, value_in}
+use Rattle.m51_resolve.specs.WorkNames.{AreAskedFor, NotesAsked, wanted_in, again, AreDefinitions, defined_by, definition_at, definition_in, first_defined, is_shared, noted, Notes, shared_in, two_define, value_in}
 use Rattle.m51_resolve.proofs.Entries.{definition_number}
 
 -- with the mark that another module defines the name, where it has one of these publics
@@ -114,7 +114,7 @@ some_by true any d later h = refl
 some_by false any d later h = h
 
 -- a module has a public of the name where there is a definition among its publics
-among_some : (number index : ℕ) (name : List ℕ) (ps : List Public) → is_some (definition_among number index name ps) ≡ list_any (λ z. bytes_eq z.name name) ps
+pub among_some : (number index : ℕ) (name : List ℕ) (ps : List Public) → is_some (definition_among number index name ps) ≡ list_any (λ z. bytes_eq z.name name) ps
 among_some number index name [] = refl
 among_some number index name (p ∷ more) =
     some_by (bytes_eq p.name name) (list_any (λ z. bytes_eq z.name name) more) (definition_at number index p) (definition_among number (index + 1) name more)
@@ -163,6 +163,28 @@ pushed_by ms m name (Some d) is =
     ∙ ap (λ b. Some (record { first = d; shared = two_define ms name || (not b && has_public name m) })) other
     ∙ ap (λ s. Some (record { first = d; shared = s })) (sym two)
 
+-- of one name: the value with the publics of one module more
+push_at : (ms : List ModuleParts) (m : ModuleParts) (name : List ℕ) (old new : Option Defined) (number : ℕ) (ps : List Public) → old ≡ defined_by ms name → new ≡ noted old number 0 name ps
+    → number ≡ length ms → ps ≡ m.publics → new ≡ defined_by (ms ++ m ∷ []) name
+push_at ms m name old new number ps are notes number_is ps_are =
+    notes ∙ ap (λ k. noted k number 0 name ps) are ∙ ap (λ n. noted (defined_by ms name) n 0 name ps) number_is
+    ∙ ap (λ xs. noted (defined_by ms name) (length ms) 0 name xs) ps_are
+    ∙ pushed_by ms m name (definition_of ms name) refl
+    ∙ ap (option_map (λ d. record { first = d; shared = two_define (ms ++ m ∷ []) name })) (sym (definition_push 0 name ms m ∙ ap (λ n. option_or (definition_of ms name) (definition_among n 0 name m.publics)) (none_plus (length ms))))
+  where
+    none_plus : (n : ℕ) → 0 + n ≡ n
+    none_plus n = omega arith
+
+-- of the names that are asked for
+pub asked_push : (asked : List (List ℕ)) (ms : List ModuleParts) (m : ModuleParts) (old new : List (List ℕ × Defined)) (number : ℕ) (ps : List Public)
+    → AreAskedFor asked ms old → NotesAsked asked old number ps new → number ≡ length ms → ps ≡ m.publics → AreAskedFor asked (ms ++ m ∷ []) new
+asked_push asked ms m old new number ps are notes number_is ps_are = record {
+  each = λ name is. push_at ms m name (value_in old name) (value_in new name) number ps (are.each name is) (notes.each name is) number_is ps_are;
+}
+
+pub none_asked_for : (asked : List (List ℕ)) → AreAskedFor asked [] []
+none_asked_for asked = record { each = λ name is. refl }
+
 -- the table has the publics of one module more
 pub definitions_push : (ms : List ModuleParts) (m : ModuleParts) (old new : List (List ℕ × Defined)) (number : ℕ) (ps : List Public)
     → AreDefinitions ms old → Notes old number ps new → number ≡ length ms → ps ≡ m.publics → AreDefinitions (ms ++ m ∷ []) new
@@ -182,6 +204,10 @@ no_definitions = record { each = λ name. refl }
 first_is : (o : Option Definition) (s : Bool) → first_defined (option_map (λ d. record { first = d; shared = s }) o) ≡ o
 first_is None s = refl
 first_is (Some d) s = refl
+
+pub asked_at : (asked : List (List ℕ)) (ms : List ModuleParts) (table : List (List ℕ × Defined)) → AreAskedFor asked ms table → (name : List ℕ) → wanted_in asked name ≡ true
+    → definition_in table name ≡ definition_of ms name
+asked_at asked ms table are name is = ap first_defined (are.each name is) ∙ first_is (definition_of ms name) (two_define ms name)
 
 pub found_at : (ms : List ModuleParts) (table : List (List ℕ × Defined)) → AreDefinitions ms table → (name : List ℕ) → definition_in table name ≡ definition_of ms name
 found_at ms table are name = ap first_defined (are.each name) ∙ first_is (definition_of ms name) (two_define ms name)
@@ -232,3 +258,40 @@ pub note_all : (old now : List (List ℕ × Defined)) (number : ℕ) (publics : 
 note_all old now number publics index notes past = record {
   each = λ name. sym (ap (λ xs. noted (value_in now name) number index name xs) (drop_all index publics past)) ∙ notes.each name;
 }
+
+-- the same of the names that are asked for
+pub record AsksFrom (asked : List (List ℕ)) (old : List (List ℕ × Defined)) (number : ℕ) (publics : List Public) (index : ℕ) (now : List (List ℕ × Defined)) : Type 0 where
+  pub each : (name : List ℕ) → wanted_in asked name ≡ true → noted (value_in now name) number index name (drop index publics) ≡ noted (value_in old name) number 0 name publics
+
+pub ask_first : (asked : List (List ℕ)) (old : List (List ℕ × Defined)) (number : ℕ) (publics : List Public) → AsksFrom asked old number publics 0 old
+ask_first asked old number publics = record { each = λ name a. refl }
+
+pub ask_more : (asked : List (List ℕ)) (old now new : List (List ℕ × Defined)) (number : ℕ) (publics : List Public) (index : ℕ) (p : Public) (d : Definition)
+    → AsksFrom asked old number publics index now → index < length publics → p ≡ get_or publics index p → d ≡ definition_at number index p
+    → ((name : List ℕ) → wanted_in asked name ≡ true → value_in new name ≡ cond (bytes_eq p.name name) (Some (again (value_in now p.name) d)) (value_in now name))
+    → AsksFrom asked old number publics (index + 1) new
+ask_more asked old now new number publics index p d notes below is d_is puts = record {
+  each = λ name a.
+      let rest = drop (index + 1) publics in
+      ap (λ k. noted k number (index + 1) name rest)
+      (puts name a ∙ ap (λ e. cond (bytes_eq p.name name) (Some (again (value_in now p.name) e)) (value_in now name)) d_is
+      ∙ same_again (bytes_eq p.name name) name p.name now (definition_at number index p) (value_in now name) refl)
+      ∙ ap (λ x. noted (value_in now name) number index name (x ∷ rest)) is
+      ∙ sym (at_drop_more (λ xs. noted (value_in now name) number index name xs) publics index p below)
+      ∙ notes.each name a;
+}
+
+pub ask_all : (asked : List (List ℕ)) (old now : List (List ℕ × Defined)) (number : ℕ) (publics : List Public) (index : ℕ) → AsksFrom asked old number publics index now → length publics ≤ index
+    → NotesAsked asked old number publics now
+ask_all asked old now number publics index notes past = record {
+  each = λ name a. sym (ap (λ xs. noted (value_in now name) number index name xs) (drop_all index publics past)) ∙ notes.each name a;
+}
+
+-- a name that is not asked for
+pub puts_nothing : (asked : List (List ℕ)) (name : List ℕ) (table : List (List ℕ × Defined)) (d : Definition) → wanted_in asked name ≡ false
+    → (other : List ℕ) → wanted_in asked other ≡ true → value_in table other ≡ cond (bytes_eq name other) (Some (again (value_in table name) d)) (value_in table other)
+puts_nothing asked name table d none other some = by (bytes_eq name other) refl
+  where
+    by : (b : Bool) → bytes_eq name other ≡ b → value_in table other ≡ cond b (Some (again (value_in table name) d)) (value_in table other)
+    by false e = refl
+    by true e = absurd (cc (none, some, (bytes_eq-Decides name other).0 e))

@@ -105,7 +105,7 @@ among_by : (b : Bool) (number index : ℕ) (p : Public) (d : Definition) (later 
 among_by true number index p d later h k = let same : record { number = number; index = index; kind = p.kind } ≡ d = cc in ap (λ (x : Definition). x.number) (sym same)
 among_by false number index p d later h k = k h
 
-among_number : (number index : ℕ) (name : List ℕ) (publics : List Public) (d : Definition) → definition_among number index name publics ≡ Some d → d.number ≡ number
+pub among_number : (number index : ℕ) (name : List ℕ) (publics : List Public) (d : Definition) → definition_among number index name publics ≡ Some d → d.number ≡ number
 among_number number index name [] d h = cc
 among_number number index name (p ∷ more) d h =
     among_by (bytes_eq p.name name) number index p d (definition_among number (index + 1) name more) h (among_number number (index + 1) name more d)

@@ -13,6 +13,7 @@ pub mod Sharing
 pub mod Starts
 pub mod Stopping
 pub mod Tables
-pub mod Taking
+pub mod Earliest
+pub mod Skipping
 pub mod WantedNames
 pub mod Within

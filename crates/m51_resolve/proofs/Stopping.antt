@@ -1,17 +1,17 @@
 -- The choice may stop where more modules are chosen than a link takes: the answer is known.
-use Rattle.std.proofs.Common.{◌≡◌, ℕ, zero, suc, ◌≤◌, Bool, true, false, cond, List, [], ◌∷◌, ◌++◌, length, map, refl, sym, ap, ◌∙◌, length-append, arith, Option, Some, None}
-use Rattle.std.specs.Prelude.{nat_lt, option_map, position, Err}
+use Rattle.std.proofs.Common.{◌≡◌, ℕ, zero, suc, ◌≤◌, true, false, cond, List, [], ◌∷◌, ◌++◌, length, sym, ap, ◌∙◌, length-append, arith, Option, Some, None, inl, inr}
+use Rattle.std.specs.Prelude.{nat_lt, option_map, Err}
 use Rattle.std.specs.Option.{option_map_or, option_or}
 use Rattle.std.proofs.lemmas.Bool.Decides.{nat_tests}
 use Rattle.m51_cells.specs.declared.limits.TheConstants.{MOST_MODULES}
 use Rattle.m51_module.specs.declared.linked.Quantity.TheVariants.{Modules}
 use Rattle.m51_module.specs.declared.linked.Refusal.TheVariants.{L1, Limit}
 use Rattle.m51_module.specs.declared.parts.ModuleParts.{ModuleParts}
-use Rattle.m51_resolve.specs.Choice.{choice, first_needed, is_needed}
+use Rattle.m51_resolve.specs.Choice.{choice, chosen_of, first_needed}
 use Rattle.m51_resolve.specs.Rules.{answer_of, shared_public, unless_refused}
-use Rattle.m51_resolve.specs.WorkRules.{next_of}
+use Rattle.m51_resolve.specs.WorkChoice.{IsNext}
 use Rattle.m51_resolve.proofs.Answering.{publics_refused}
-use Rattle.m51_resolve.proofs.Taking.{last_turn}
+use Rattle.m51_resolve.proofs.Skipping.{choosing_done, IsChoosing}
 
 grows_by : (turns : ℕ) (chosen : List ModuleParts) (o : Option (ModuleParts × List ModuleParts))
     → ((left' chosen' : List ModuleParts) → length chosen' ≤ length (choice turns left' chosen'))
@@ -33,20 +33,12 @@ too_many modules h =
     ap (unless_refused modules) (publics_refused modules (Limit Modules)
     (ap (λ b. option_or (cond b (Some (Limit Modules)) None) (option_or (option_map L1 (shared_public modules)) None)) h))
 
--- what is chosen next is needed
-pub next_taken : (many : Bool) (needed : Option ℕ) (index : ℕ) → Some index ≡ cond many None needed → Some index ≡ needed
-next_taken true needed index h = absurd (cc h)
-next_taken false needed index h = h
+pub few_is : (count : ℕ) → nat_lt MOST_MODULES count ≡ false → count ≤ MOST_MODULES
+few_is count h = grind (arith, nat_tests, h)
 
-module _ {X : Type 0} (f : X → ModuleParts) where
-  stopped_by : (many : Bool) (chosen : List ModuleParts) (left : List X) (all : List ModuleParts) → nat_lt MOST_MODULES (length chosen) ≡ many
-      → None ≡ cond many None (position (λ m. is_needed chosen (f m)) left) → choice (length left) (map f left) chosen ≡ all → answer_of chosen ≡ answer_of all
-  stopped_by true chosen left all many none h =
-      too_many chosen many
-      ∙ sym (too_many all (above MOST_MODULES (length chosen) (length all) many (omega (arith, grows (length left) (map f left) chosen, ap length h))))
-  stopped_by false chosen left all few none h = ap answer_of (last_turn f chosen left all none h)
-
-  -- where none is chosen next, the answer is that of the whole choice
-  pub stopped : (chosen : List ModuleParts) (left : List X) (all : List ModuleParts) → None ≡ next_of chosen (position (λ m. is_needed chosen (f m)) left)
-      → choice (length left) (map f left) chosen ≡ all → answer_of chosen ≡ answer_of all
-  stopped chosen left all none h = stopped_by (nat_lt MOST_MODULES (length chosen)) chosen left all refl none h
+-- where none is chosen next, the answer is that of the whole choice
+pub stopped : (given members chosen : List ModuleParts) → IsChoosing given members chosen → IsNext chosen members None → answer_of chosen ≡ answer_of (chosen_of given members)
+stopped given members chosen h (inl many) =
+    too_many chosen many
+    ∙ sym (too_many (chosen_of given members) (above MOST_MODULES (length chosen) (length (chosen_of given members)) many (omega (arith, grows (length h.left) h.left chosen, ap length h.goes))))
+stopped given members chosen h (inr none) = ap answer_of (choosing_done given members chosen h none)

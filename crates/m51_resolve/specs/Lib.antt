@@ -3,6 +3,7 @@ pub mod Joining
 pub mod Kept
 pub mod Publics
 pub mod Rules
+pub mod WorkChoice
 pub mod WorkJoining
 pub mod WorkNames
 pub mod WorkRules

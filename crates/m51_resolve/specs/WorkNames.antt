@@ -1,5 +1,5 @@
 -- Of the code: the tables of names that modules define and want, as they are filled module by module.
-use Rattle.std.specs.Prelude.{◌≡◌, ℕ, ◌+◌, ◌==◌, Bool, false, not, ◌||◌, is_none, if◌then◌else◌, List, [], ◌∷◌, Option}
+use Rattle.std.specs.Prelude.{◌≡◌, ℕ, ◌+◌, ◌==◌, Bool, true, false, not, ◌||◌, is_none, if◌then◌else◌, List, [], ◌∷◌, Option}
 use Rattle.std.specs.Prelude.{Some, None, option_map, unwrap_or}
 use Rattle.std.specs.List.{list_any}
 use Rattle.std.specs.Map.{lookup}
@@ -55,6 +55,12 @@ pub record Notes (old : List (List ℕ × Defined)) (number : ℕ) (publics : Li
     : Type 0 where
   pub each : (name : List ℕ) → value_in new name ≡ noted (value_in old name) number 0 name publics
 
+-- of the names that are asked for the table has these publics of the module of that number too
+pub record NotesAsked (asked : List (List ℕ)) (old : List (List ℕ × Defined)) (number : ℕ) (publics : List Public)
+    (new : List (List ℕ × Defined)) : Type 0 where
+  pub each : (name : List ℕ) → wanted_in asked name ≡ true
+      → value_in new name ≡ noted (value_in old name) number 0 name publics
+
 -- two of the modules define the name
 abbrev pub two_define : List ModuleParts → List ℕ → Bool
 two_define [] name = false
@@ -81,6 +87,11 @@ pub record AreNamed (modules : List ModuleParts) (definitions : List (List ℕ �
     : Type 0 where
   pub definitions_are : AreDefinitions modules definitions
   pub wanted_are : AreWanted modules wanted
+
+-- of the names that are asked for the table has the publics of these modules
+pub record AreAskedFor (asked : List (List ℕ)) (modules : List ModuleParts) (table : List (List ℕ × Defined))
+    : Type 0 where
+  pub each : (name : List ℕ) → wanted_in asked name ≡ true → value_in table name ≡ defined_by modules name
 
 -- what externals are, by where each name is defined
 abbrev pub undefined_by : (List ℕ → Option Definition) → External → Bool

@@ -1,5 +1,5 @@
 -- Of the code: the rules as its steps test them.
-use Rattle.std.specs.Prelude.{◌≡◌, ℕ, nat_lt, if◌then◌else◌, List, [], ◌∷◌, length, filter, find, Option, Some, None}
+use Rattle.std.specs.Prelude.{◌≡◌, ℕ, List, [], ◌∷◌, length, filter, find, Option, Some, None}
 use Rattle.std.specs.Prelude.{option_map, Result, Ok, Err}
 use Rattle.m51_cells.specs.declared.limits.TheConstants.{MOST_MODULES, MOST_SEGMENTS, MOST_UNITS}
 use Rattle.m51_module.specs.declared.linked.Quantity.TheVariants.{Modules, Segments, Units}
@@ -45,7 +45,3 @@ rules_of_growing growing = first_of (
 abbrev pub Tells : {A : Type 0} → Option Refusal → Result A Refusal → Type 0
 Tells rule (Ok _) = rule ≡ None
 Tells rule (Err refusal) = rule ≡ Some refusal
-
--- what is chosen next, where not more modules are chosen than a link takes
-abbrev pub next_of : List ModuleParts → Option ℕ → Option ℕ
-next_of chosen needed = if nat_lt MOST_MODULES (length chosen) then None else needed

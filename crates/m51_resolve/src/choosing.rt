@@ -1,40 +1,33 @@
 //! Chooses modules.
-ghost use Rattle.std.specs.Prelude.{◌≡◌, map, position, IfOk};
-ghost use Rattle.m51_resolve.specs.Choice.{is_needed, chosen_of, members_of};
+ghost use Rattle.std.specs.Prelude.{◌≡◌, ℕ, true, List, map, IfOk};
+ghost use Rattle.m51_resolve.specs.Choice.{chosen_of, members_of};
 ghost use Rattle.m51_resolve.specs.Rules.{answer_of, resolved_of};
-ghost use Rattle.m51_resolve.specs.WorkRules.{next_of};
+ghost use Rattle.m51_resolve.specs.WorkChoice.{IsNext, IsWanted};
+ghost use Rattle.m51_resolve.specs.WorkNames.{AreAskedFor, wanted_in};
 
 use crate::chosen::Chosen;
-use m51_cells::{MOST_MODULES, NoMemory};
+use crate::definitions::{Definitions, note_asked};
+use indexmap::{IndexMap, IndexSet};
+use m51_cells::{MOST_MODULES, Name, NoMemory};
 use m51_module::{Library, Module};
 use std::alloc::Global;
 
-// Whether the member has a public of a name that is missing.
-fn is_needed(chosen: &Chosen, member: &Module) -> bool
-    ensures { result ≡ is_needed chosen.now member.now }
-{
-    member
-        .publics()
-        .iter()
-        .any(|public| chosen.is_missing(&public.name))
-}
-
-// The index of the first of these members that is needed.
-fn first_needed(chosen: &Chosen, members: &[&Module]) -> Option<usize>
-    ensures { result ≡ position (λ m. is_needed chosen.now m.now) members.now }
-{
-    members.iter().position(|member| is_needed(chosen, member))
-}
-
-// The index of the member that is chosen next. There is none where more modules are chosen already than a link takes:
-// the link is refused then, whatever else is chosen.
-fn next_needed(chosen: &Chosen, members: &[&Module]) -> Option<usize>
-    ensures { result ≡ next_of chosen.now (position (λ m. is_needed chosen.now m.now) members.now) }
+// The index of the member that is chosen next, of those with these definitions: the first that is needed. There is none
+// where more modules are chosen already than a link takes: the link is refused then, whatever else is chosen.
+fn next_needed(
+    chosen: &Chosen,
+    definitions: &Definitions,
+    asked: &IndexSet<Name>,
+    members: &[&Module],
+) -> Option<usize>
+    requires definitions { AreAskedFor asked.now.keys (map (λ m. m.now) members.now) definitions.now.entries }
+    requires asked { (name : List ℕ) → IsWanted chosen.now name → wanted_in asked.now.keys name ≡ true }
+    ensures { IsNext chosen.now (map (λ m. m.now) members.now) result }
 {
     if chosen.count() > MOST_MODULES {
         return None;
     }
-    first_needed(chosen, members)
+    chosen.first_supplier(definitions)
 }
 
 // The members of libraries, in order of library and member.
@@ -50,15 +43,31 @@ fn members<'a>(alloc: Global, libraries: &'a [Library]) -> Result<Vec<&'a Module
     Ok(members)
 }
 
+// Of the names that are asked for those that the members define.
+fn definitions_of(
+    alloc: Global,
+    asked: &IndexSet<Name>,
+    members: &[&Module],
+) -> Result<Definitions, NoMemory>
+    ensures { IfOk result (λ table. AreAskedFor asked.now.keys (map (λ m. m.now) members.now) table.entries) }
+{
+    let mut definitions = IndexMap::new(alloc);
+    for (number, member) in members.iter().enumerate() {
+        note_asked(&mut definitions, asked, number, member.publics())?;
+    }
+    Ok(definitions)
+}
+
 // The given modules and those chosen of the members, as far as the answer of a link is known by them.
-fn choose_of(alloc: Global, given: Chosen, members: Vec<&Module>) -> Result<Chosen, NoMemory>
-    ensures { let left = map (λ m. m.now) members.entry.items in
+fn choose_of(alloc: Global, given: Chosen, members: &[&Module]) -> Result<Chosen, NoMemory>
+    ensures { let left = map (λ m. m.now) members.now in
         IfOk result (λ chosen. answer_of chosen ≡ answer_of (chosen_of given left)) }
 {
+    let asked = given.asked(alloc, members)?;
+    let definitions = definitions_of(alloc, &asked, members)?;
     let mut chosen = given;
-    let mut left = members;
-    while let Some(index) = next_needed(&chosen, &left) {
-        let member = left.remove(index).copy(alloc)?;
+    while let Some(index) = next_needed(&chosen, &definitions, &asked, members) {
+        let member = members[index].copy(alloc)?;
         chosen = chosen.with(member)?;
     }
     Ok(chosen)
@@ -76,5 +85,5 @@ pub(crate) fn choose(
 {
     let given = Chosen::of(alloc, given)?;
     let members = members(alloc, libraries)?;
-    choose_of(alloc, given, members)
+    choose_of(alloc, given, &members)
 }

@@ -1,9 +1,10 @@
 //! Modules that are chosen, and the names that they define and want.
-ghost use Rattle.std.specs.Prelude.{◌≡◌, [], ◌∷◌, ◌++◌, length, IfOk, OnOk};
-ghost use Rattle.m51_resolve.specs.Choice.{is_missing};
-ghost use Rattle.m51_resolve.specs.WorkNames.{AreNamed, Wants};
+ghost use Rattle.std.specs.Prelude.{◌≡◌, [], ◌∷◌, ◌++◌, length, map, IfOk, OnOk};
+ghost use Rattle.m51_resolve.specs.WorkChoice.{earlier, IsEarliest, IsWanted, number_of, supplier};
+ghost use Rattle.m51_resolve.specs.WorkNames.{AreNamed, AreWanted, definition_in, Wants};
 
 use crate::definitions::{Definitions, definition_of, note_publics};
+use crate::publics::Definition;
 use indexmap::{IndexMap, IndexSet};
 use m51_cells::{Name, NoMemory};
 use m51_module::{External, Module};
@@ -31,13 +32,37 @@ impl Model for Chosen {
 }
 
 // Notes the names of the externals. Out of memory is the one error.
-fn want_externals(names: &mut IndexSet<Name>, externals: &[External]) -> Result<(), NoMemory>
+pub(crate) fn want_externals(
+    names: &mut IndexSet<Name>,
+    externals: &[External],
+) -> Result<(), NoMemory>
     ensures { OnOk result (Wants names.old.keys externals.now names.new.keys) }
 {
     for external in externals {
         names.insert(external.name)?;
     }
     Ok(())
+}
+
+// The number of the module of a definition.
+fn number_of(definition: Option<Definition>) -> Option<usize>
+    ensures { result ≡ number_of definition }
+{
+    match definition {
+        Some(found) => Some(found.number),
+        None => None,
+    }
+}
+
+// The lesser of two numbers, if there is one.
+fn earlier(one: Option<usize>, two: Option<usize>) -> Option<usize>
+    ensures { result ≡ earlier one two }
+{
+    match (one, two) {
+        (Some(one), Some(two)) => Some(one.min(two)),
+        (Some(one), None) => Some(one),
+        (None, two) => two,
+    }
 }
 
 // The names that these modules define and want. Out of memory is the one error.
@@ -66,6 +91,22 @@ impl Chosen {
         })
     }
 
+    // The names that the chosen modules or these members want. Out of memory is the one error.
+    pub(crate) fn asked(
+        &self,
+        alloc: Global,
+        members: &[&Module],
+    ) -> Result<IndexSet<Name>, NoMemory>
+        ensures { IfOk result (λ names. AreWanted (self.now ++ map (λ m. m.now) members.now) names.keys) }
+    {
+        let (_, wanted) = names_of(alloc, &self.modules)?;
+        let mut names = wanted;
+        for member in members {
+            want_externals(&mut names, member.externals())?;
+        }
+        Ok(names)
+    }
+
     // How many modules are chosen.
     pub(crate) fn count(&self) -> usize
         ensures { result ≡ length self.now }
@@ -92,10 +133,25 @@ impl Chosen {
         })
     }
 
-    // Whether one of the chosen modules wants the name, and none defines it.
-    pub(crate) fn is_missing(&self, name: &Name) -> bool
-        ensures { result ≡ is_missing self.now name.now }
+    // The number of the member that has the name first, where none of the chosen modules defines it.
+    fn supplier(&self, members: &Definitions, name: &Name) -> Option<usize>
+        ensures { result ≡ supplier self.now (definition_in members.now.entries) name.now }
     {
-        self.wanted.contains(name) && definition_of(&self.definitions, name).is_none()
+        match definition_of(&self.definitions, name) {
+            Some(_) => None,
+            None => number_of(definition_of(members, name)),
+        }
+    }
+
+    // The least number of a member that has, first of all members, a name that the chosen modules want and do not define.
+    pub(crate) fn first_supplier(&self, members: &Definitions) -> Option<usize>
+        ensures { let supplier = supplier self.now (definition_in members.now.entries) in
+            IsEarliest supplier (IsWanted self.now) result }
+    {
+        let mut least = None;
+        for name in self.wanted.as_slice() {
+            least = earlier(least, self.supplier(members, name));
+        }
+        least
     }
 }

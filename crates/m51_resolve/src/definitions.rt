@@ -1,10 +1,11 @@
 //! The names that modules define.
-ghost use Rattle.std.specs.Prelude.{◌≡◌, bytes_eq, Some, OnOk};
+ghost use Rattle.std.specs.Prelude.{◌≡◌, ℕ, bytes_eq, if◌then◌else◌, true, List, Some, OnOk};
 ghost use Rattle.indexmap.specs.IndexMap.{Updates};
 ghost use Rattle.m51_resolve.specs.WorkNames.{again, definition_at, definition_in, shared_in, value_in, Notes};
+ghost use Rattle.m51_resolve.specs.WorkNames.{NotesAsked, wanted_in};
 
 use crate::publics::Definition;
-use indexmap::IndexMap;
+use indexmap::{IndexMap, IndexSet};
 use m51_cells::{Name, NoMemory};
 use m51_module::Public;
 
@@ -67,6 +68,39 @@ pub(crate) fn note_publics(
     for (index, public) in publics.iter().enumerate() {
         let definition = definition_at(number, index, public);
         note(table, &public.name, definition)?;
+    }
+    Ok(())
+}
+
+// Notes a definition of the name, if the name is asked for.
+fn note_if(
+    table: &mut Definitions,
+    asked: &IndexSet<Name>,
+    name: &Name,
+    definition: Definition,
+) -> Result<(), NoMemory>
+    ensures { OnOk result ((other : List ℕ) → wanted_in asked.now.keys other ≡ true
+        → value_in table.new.entries other ≡ (if bytes_eq name.now other
+        then Some (again (value_in table.old.entries name.now) definition) else value_in table.old.entries other)) }
+{
+    if !asked.contains(name) {
+        return Ok(());
+    }
+    note(table, name, definition)
+}
+
+// Notes the publics of the module of that number whose names are asked for. Out of memory is the one error.
+pub(crate) fn note_asked(
+    table: &mut Definitions,
+    asked: &IndexSet<Name>,
+    number: usize,
+    publics: &[Public],
+) -> Result<(), NoMemory>
+    ensures { OnOk result (NotesAsked asked.now.keys table.old.entries number publics.now table.new.entries) }
+{
+    for (index, public) in publics.iter().enumerate() {
+        let definition = definition_at(number, index, public);
+        note_if(table, asked, &public.name, definition)?;
     }
     Ok(())
 }

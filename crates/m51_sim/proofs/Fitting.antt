@@ -27,7 +27,7 @@ use Rattle.m51_flat.specs.States.{shut_of}
 use Rattle.m51_cells.specs.declared.cell.Cell.{Cell}
 use Rattle.std.proofs.lemmas.Bool.{le-ltb}
 use Rattle.m51_sim.specs.Effects.{idle_effect}
-use Rattle.m51_monitor.specs.Transfers.{Answers, Judges, is_busy, is_by, judged, as_event, is_sp_below, is_at, jump_or_call, interrupts_to, judged_as, move_to, moved, return_move, returns_to, unless, within}
+use Rattle.m51_monitor.specs.Transfers.{Answers, Judges, is_busy, is_by, as_event, is_sp_below, is_at, jump_or_call, interrupts_to, judged_as, move_to, moved, return_move, returns_to, unless, within}
 use Rattle.m51_monitor.proofs.CurrentUnit.{covers_is_kept}
 use Rattle.m51_monitor.proofs.Finding.{is_number}
 use Rattle.m51_monitor.proofs.Levels.{levels_are_kept, stack_is_kept}

@@ -9,7 +9,7 @@ use Rattle.std.specs.Io.KnownBytes.{Appends}
 use Rattle.std.proofs.KnownBytes.{Appends-nil, Appends-trans}
 use Rattle.m51_cells.specs.declared.event.Event.{Event}
 use Rattle.m51_sim.specs.declared.runs.Entries.{Entries}
-use Rattle.m51_sim.specs.Writing.{StopsWithin}
+use Rattle.m51_shelf.specs.Writing.{StopsWithin}
 use Rattle.m51_print.specs.Lines.{entry_line, last_line}
 use Rattle.m51_sim.specs.Runs.{State, Machine, Record, entries_of, no_step, with_step, record_of}
 use Rattle.m51_sim.specs.Run.{IsAdvance, IsCut, IsWhole, entry_lines, lines_after, record_text}

@@ -18,3 +18,4 @@ pub mod FurtherFrames
 pub mod RowCycles
 pub mod StepCycles
 pub mod TakenTypes
+pub mod Alone

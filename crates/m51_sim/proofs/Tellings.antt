@@ -10,7 +10,7 @@ use Rattle.m51_cells.specs.Outside.{AppendsFront}
 use Rattle.m51_print.specs.Lines.{entry_line}
 use Rattle.m51_sim.specs.declared.runs.Entries.{Entries}
 use Rattle.m51_sim.specs.Runs.{entries_of}
-use Rattle.m51_sim.specs.Writing.{StopsWithin}
+use Rattle.m51_shelf.specs.Writing.{StopsWithin}
 
 -- bytes that lack their last one are a front
 pub front_of_stop : (a b : Option (List ℕ)) (xs : List ℕ) → StopsWithin a b xs → AppendsFront a b xs

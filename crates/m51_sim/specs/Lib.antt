@@ -1,4 +1,3 @@
-pub mod Writing
 pub mod Runs
 pub mod Cycles
 pub mod Effects

@@ -20,11 +20,11 @@ use crate::chip::Chip;
 use crate::cycles::Timed;
 use crate::judging::{commit, judge, stand};
 use crate::runs::{Entries, RunEnd, Step, Steps, Told, count_run, run};
-use crate::sink::Sink;
 use m51_cells::{Event, NoMemory};
 use m51_module::{Image, Layout, Placed, Tally};
 use m51_monitor::Monitor;
 use m51_script::Script;
+use m51_shelf::Sink;
 use std::alloc::Global;
 use std::marker::Model;
 

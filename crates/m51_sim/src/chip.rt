@@ -11,13 +11,13 @@ use crate::attempt::Attempt;
 use crate::cycles::{Passing, Timed, pass_cycles};
 use crate::runs::Entries;
 use m51_cells::Entry;
-use m51_flat::addresses::{P0, P1, P2, P3, PCON};
-use m51_flat::flags::IDL;
 use m51_flat::{Cpu, Effect, Pins, Put, Source, Transfer, reset};
 use m51_irq::choose;
 use m51_isa::{Instr, decode};
 use m51_module::Image;
 use m51_script::Script;
+use m51_sfr::addresses::{P0, P1, P2, P3, PCON};
+use m51_sfr::bits::IDL;
 use m51_timers_uart::Periph;
 use std::marker::Model;
 
@@ -26,9 +26,7 @@ use std::marker::Model;
 pub(crate) struct Chip {
     image: Image,
     script: Script,
-    cpu: Cpu,
-    periph: Periph,
-    cycle: u64,
+    passing: Passing,
 }
 
 impl Model for Chip {
@@ -39,9 +37,9 @@ impl Model for Chip {
     ghost view = { λ c. record {
       image = c.image;
       script = c.script;
-      cpu = c.cpu;
-      periph = c.periph;
-      cycle = c.cycle;
+      cpu = c.passing.cpu;
+      periph = c.passing.periph;
+      cycle = c.passing.cycle;
     } };
 }
 
@@ -60,9 +58,12 @@ impl Chip {
         Chip {
             image,
             script,
-            cpu: reset(),
-            periph,
-            cycle: 0,
+            passing: Passing {
+                cpu: reset(),
+                periph,
+                cycle: 0,
+                sent: None,
+            },
         }
     }
 
@@ -70,21 +71,21 @@ impl Chip {
     pub(crate) fn cpu(&self) -> &Cpu
         ensures { result.now ≡ self.now.cpu }
     {
-        &self.cpu
+        &self.passing.cpu
     }
 
     // The address of the next instruction.
     pub(crate) fn pc(&self) -> u16
         ensures { result ≡ self.now.cpu.pc }
     {
-        self.cpu.pc
+        self.passing.cpu.pc
     }
 
     // The number of the machine cycle.
     pub(crate) fn cycle(&self) -> u64
         ensures { result ≡ self.now.cycle }
     {
-        self.cycle
+        self.passing.cycle
     }
 
     // The bytes of the image.
@@ -99,25 +100,27 @@ impl Chip {
     pub(crate) fn pins(&self) -> Pins
         ensures { result ≡ (inputs_of self.now.script).pins self.now.cycle }
     {
-        self.script.pins_at(self.cycle)
+        self.script.pins_at(self.passing.cycle)
     }
 
     // What the next step is.
     #[tactic(auto, unfolding(crate::specs::Effects::attempt_of))]
+    #[inline(always)]
     pub(crate) fn attempt(&self) -> Attempt
         ensures { result ≡ attempt_of self.now.image self.now.cpu }
     {
-        self.attempt_by(choose(&self.cpu))
+        self.attempt_by(choose(&self.passing.cpu))
     }
 
     // The same, where it is known which interrupt is to be taken.
+    #[inline(always)]
     fn attempt_by(&self, taken: Option<Source>) -> Attempt
         ensures { result ≡ attempt_by self.now.image self.now.cpu taken }
     {
         match taken {
             Some(source) => Attempt::Vectoring(source),
             None => {
-                if self.cpu.flag(PCON, IDL) {
+                if self.passing.cpu.flag(PCON, IDL) {
                     Attempt::Idling
                 } else {
                     self.fetch()
@@ -128,10 +131,11 @@ impl Chip {
 
     // The instruction at the program counter, or the reserved opcode.
     #[tactic(auto, unfolding(crate::specs::Effects::instr_at))]
+    #[inline(always)]
     fn fetch(&self) -> Attempt
         ensures { result ≡ executing (instr_at self.now.image self.now.cpu.pc) }
     {
-        let pc = self.cpu.pc;
+        let pc = self.passing.cpu.pc;
         match decode([
             self.byte(pc),
             self.byte(pc.wrapping_add(1)),
@@ -150,6 +154,7 @@ impl Chip {
     }
 
     // Performs the step of an effect, but for its puts: its changes, and then its cycles.
+    #[inline(always)]
     pub(crate) fn pass(&mut self, effect: &Effect, extra: &[Timed]) -> Entries
         requires { AreFew extra.now }
         ensures image { self.new.image ≡ self.old.image }
@@ -163,24 +168,15 @@ impl Chip {
         } ≡ cycles_passed (with_extra extra.now (inputs_of self.old.script)) effect.now.cycles
             (changed_by self.old.cycle self.old.periph effect.now) }
     {
-        let mut passing = Passing {
-            cpu: effect.cpu,
-            periph: begun(self.periph, effect),
-            cycle: self.cycle,
-            sent: None,
-        };
-        pass_cycles(&self.script, extra, effect.cycles, &mut passing);
-        let port = port_entry(self.cycle, effect);
-        let Passing {
-            cpu,
-            periph,
-            cycle,
-            sent,
-        } = passing;
-        self.cpu = cpu;
-        self.periph = periph;
-        self.cycle = cycle;
-        Entries { port, sent }
+        let port = port_entry(self.passing.cycle, effect);
+        self.passing.cpu = effect.cpu;
+        self.passing.periph = begun(self.passing.periph, effect);
+        self.passing.sent = None;
+        pass_cycles(&self.script, extra, effect.cycles, &mut self.passing);
+        Entries {
+            port,
+            sent: self.passing.sent,
+        }
     }
 }
 

@@ -2,6 +2,7 @@
 ghost use Rattle.std.specs.Prelude.{◌≡◌, ◌≤◌, ◌+◌, [], ◌∷◌, ◌++◌, length, take};
 ghost use Rattle.m51_sim.specs.Cycles.{AreFew, cycle_passed, cycles_passed, first_sent, frames_in, inputs_of};
 ghost use Rattle.m51_sim.specs.Cycles.{next_cycle, sent_in, with_extra};
+ghost use Rattle.m51_timers_uart.specs.Tick.{ticked};
 
 use m51_cells::Entry;
 use m51_flat::Cpu;
@@ -53,6 +54,7 @@ fn add(batch: &mut Batch, timed: Timed, cycle: u64)
 }
 
 // The frames among these that arrive in a cycle.
+#[inline(always)]
 fn batch_at(extra: &[Timed], cycle: u64) -> Batch
     requires { AreFew extra.now }
     ensures within { result.count ≤ 7 }
@@ -73,6 +75,7 @@ fn batch_at(extra: &[Timed], cycle: u64) -> Batch
 }
 
 // The number of the next cycle.
+#[inline(always)]
 fn next_cycle(cycle: u64) -> u64
     ensures { result ≡ next_cycle cycle }
 {
@@ -80,6 +83,7 @@ fn next_cycle(cycle: u64) -> u64
 }
 
 // The entry of a byte whose sending ends with this cycle.
+#[inline(always)]
 fn sent_in(cycle: u64, sent: Option<Sent>) -> Option<Entry>
     ensures { result ≡ sent_in cycle sent }
 {
@@ -94,6 +98,7 @@ fn sent_in(cycle: u64, sent: Option<Sent>) -> Option<Entry>
 }
 
 // The first of two that is there.
+#[inline(always)]
 fn first_sent(earlier: Option<Entry>, later: Option<Entry>) -> Option<Entry>
     ensures { result ≡ first_sent earlier later }
 {
@@ -103,26 +108,45 @@ fn first_sent(earlier: Option<Entry>, later: Option<Entry>) -> Option<Entry>
     }
 }
 
+// A tick with the frames of the script and then with the others of its cycle.
+#[tactic(auto, using(crate::proofs::Alone::none_arrive))]
+#[inline(always)]
+fn tick(
+    script: &Script,
+    extra: &[Timed],
+    cycle: u64,
+    cpu: &mut Cpu,
+    periph: &mut Periph,
+) -> Option<Sent>
+    requires { AreFew extra.now }
+    ensures { record { cpu = cpu.new; periph = periph.new; sent = result } ≡ ticked cpu.old
+        ((inputs_of script.now).pins cycle) ((inputs_of script.now).frames cycle ++ frames_in cycle extra.now) periph.old }
+{
+    let pins = script.pins_at(cycle);
+    let frames = script.frames_at(cycle);
+    if extra.is_empty() {
+        return periph.tick(cpu, &pins, frames, &[]);
+    }
+    let batch = batch_at(extra, cycle);
+    periph.tick(cpu, &pins, frames, &batch.frames[..batch.count])
+}
+
 // One machine cycle, with the frames of the script and then with the others of the cycle that it ends with.
 #[tactic(auto, unfolding(crate::specs::Cycles::cycle_passed))]
+#[inline(always)]
 fn pass_cycle(script: &Script, extra: &[Timed], passing: &mut Passing)
     requires { AreFew extra.now }
     ensures { passing.new ≡ cycle_passed (with_extra extra.now (inputs_of script.now)) passing.old }
 {
     let cycle = next_cycle(passing.cycle);
-    let batch = batch_at(extra, cycle);
-    let sent = passing.periph.tick(
-        &mut passing.cpu,
-        &script.pins_at(cycle),
-        script.frames_at(cycle),
-        &batch.frames[..batch.count],
-    );
+    let sent = tick(script, extra, cycle, &mut passing.cpu, &mut passing.periph);
     passing.cycle = cycle;
     passing.sent = first_sent(passing.sent, sent_in(cycle, sent));
 }
 
 // So many machine cycles.
 #[tactic(auto, unfolding(crate::specs::Cycles::cycles_passed))]
+#[inline(always)]
 pub(crate) fn pass_cycles(script: &Script, extra: &[Timed], count: u8, passing: &mut Passing)
     requires { AreFew extra.now }
     ensures { passing.new ≡ cycles_passed (with_extra extra.now (inputs_of script.now)) count passing.old }

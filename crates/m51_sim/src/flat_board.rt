@@ -15,13 +15,13 @@ ghost use Rattle.m51_irq.specs.Vectoring.{vectoring};
 use crate::attempt::Attempt;
 use crate::chip::{Chip, idle};
 use crate::runs::{Entries, RunEnd, Steps, run};
-use crate::sink::Sink;
 use m51_cells::{Event, NoMemory};
 use m51_flat::{CellStore, Cpu, Effect, FlatRam, Outcome, Put, Source, exec};
 use m51_irq::vector;
 use m51_isa::Instr;
 use m51_module::{Image, Placed};
 use m51_script::Script;
+use m51_shelf::Sink;
 use std::alloc::Global;
 use std::marker::Model;
 

@@ -100,6 +100,7 @@ fn unwritten(monitor: &Monitor, cell: Cell, at: u16) -> Event
 }
 
 // An effect whose puts may be written is judged.
+#[inline(always)]
 fn judge_effect(monitor: &Monitor, cpu: &Cpu, effect: Effect) -> Result<Allowed, Event>
     requires { IsPrepared monitor.now cpu.now effect }
     ensures value { result ≡ with_move effect (judge_of monitor.now.layout monitor.now.records cpu.now effect) }
@@ -113,6 +114,7 @@ fn judge_effect(monitor: &Monitor, cpu: &Cpu, effect: Effect) -> Result<Allowed,
 }
 
 // What a step comes to whose reads and puts came to this.
+#[inline(always)]
 fn conclude(monitor: &Monitor, cpu: &Cpu, outcome: Outcome) -> Result<Allowed, Event>
     requires { IsReady monitor.now cpu.now outcome }
     ensures value { result ≡ concludes monitor.now.layout (memory_of monitor.now) cpu.now outcome }
@@ -128,6 +130,7 @@ fn conclude(monitor: &Monitor, cpu: &Cpu, outcome: Outcome) -> Result<Allowed, E
 }
 
 // What an instruction comes to over the memory.
+#[inline(always)]
 fn instr_outcome(monitor: &Monitor, chip: &Chip, instr: &Instr) -> Outcome
     ensures value { result ≡ instr_outcome monitor.now.layout (memory_of monitor.now) chip.now.cpu instr.now
         chip.now.image ((inputs_of chip.now.script).pins chip.now.cycle) }
@@ -144,6 +147,7 @@ fn instr_outcome(monitor: &Monitor, chip: &Chip, instr: &Instr) -> Outcome
 }
 
 // One instruction.
+#[inline(always)]
 fn execute(monitor: &Monitor, chip: &Chip, instr: &Instr) -> Result<Allowed, Event>
     ensures value { result ≡ unless_past_end monitor.now.layout (memory_of monitor.now) chip.now.cpu.pc
         (length_of instr.now) (concludes monitor.now.layout (memory_of monitor.now) chip.now.cpu
@@ -160,6 +164,7 @@ fn execute(monitor: &Monitor, chip: &Chip, instr: &Instr) -> Result<Allowed, Eve
 }
 
 // What a vectoring comes to over the memory.
+#[inline(always)]
 fn vector_outcome(monitor: &Monitor, cpu: &Cpu, source: Source) -> Outcome
     requires order { IsInOrder monitor.now cpu.now }
     requires taken { chosen cpu.now ≡ Some source }
@@ -198,6 +203,7 @@ fn idle_step(monitor: &Monitor, cpu: &Cpu) -> Allowed
 
 // The effect of the next step and how it changes the records, or the event that stops it.
 #[tactic(auto, unfolding(crate::specs::SeparateMachine::separate_effect))]
+#[inline(always)]
 pub(crate) fn judge(monitor: &Monitor, chip: &Chip) -> Result<Allowed, Event>
     requires { IsInOrder monitor.now chip.now.cpu }
     ensures value { result ≡ separate_effect monitor.now.layout chip.now.image chip.now.cpu (memory_of monitor.now)
@@ -218,6 +224,7 @@ pub(crate) fn judge(monitor: &Monitor, chip: &Chip) -> Result<Allowed, Event>
 }
 
 // Makes the puts of an effect that is allowed, and changes the records.
+#[inline(always)]
 pub(crate) fn commit(monitor: &mut Monitor, allowed: &Allowed)
     requires judged { WasJudged monitor.old allowed.now.effect allowed.now.step }
     requires opened { AreOpen (shared_barred monitor.old.store) allowed.now.effect }

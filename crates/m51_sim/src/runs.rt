@@ -8,12 +8,12 @@ ghost use Rattle.m51_module.specs.declared.placed.Placed.{Placed as Extent};
 ghost use Rattle.m51_print.specs.Lines.{entry_line, last_line, titles_of, HasText};
 ghost use Rattle.m51_sim.specs.Run.{Ended, IsAdvance, tally_of};
 ghost use Rattle.m51_sim.specs.Runs.{Machine, State, entries_of, record_of};
-ghost use Rattle.m51_sim.specs.Writing.{StopsWithin};
+ghost use Rattle.m51_shelf.specs.Writing.{StopsWithin};
 
-use crate::sink::{Failed, Sink, write_whole};
 use m51_cells::{Entry, Event};
 use m51_module::{Placed, Tally};
 use m51_print::{end_line, trace_line};
+use m51_shelf::{Failed, Sink, write_whole};
 
 /// What a step does.
 ///

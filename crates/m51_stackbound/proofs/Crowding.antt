@@ -1,5 +1,5 @@
 -- Different points that are among others are not more than these.
-use Rattle.std.proofs.Common.{◌≡◌, ◌≤◌, ℕ, true, List, [], ◌∷◌, length, subst, arith}
+use Rattle.std.proofs.Common.{◌≡◌, ◌≤◌, ℕ, true, List, length, subst, arith}
 use Rattle.std.specs.List.{Contains}
 use Rattle.std.proofs.lemmas.Map.Made.{IsDistinct-from_AllPairs, length-le_from_is_member}
 use Rattle.std.proofs.lemmas.Map.Views.{Contains-from_any, list_any-from_Contains}
@@ -7,11 +7,9 @@ use Rattle.m51_module.specs.declared.parts.LayoutParts.{LayoutParts}
 use Rattle.m51_stackbound.specs.declared.point.Point.{Point}
 use Rattle.m51_stackbound.specs.contracts.point.PointPartialEq.TheImpl.{eq-value as point_eq}
 use Rattle.m51_stackbound.specs.contracts.point.PointEq.TheImpl.Laws.{laws-law}
-use Rattle.m51_stackbound.specs.Points.{entry_at, IsPoint}
+use Rattle.m51_stackbound.specs.Points.{IsPoint, IsReached, First, After}
 use Rattle.m51_stackbound.specs.Search.{AreDifferent, ArePoints, AreTooMany}
-use Rattle.m51_stackbound.proofs.Cycles.{reached_point}
 use Rattle.m51_stackbound.proofs.Noting.{same_point}
-use Rattle.m51_stackbound.proofs.Stepping.{only_one}
 
 no_more : (xs ys : List Point) → AreDifferent xs → ((p : Point) → Contains xs p → Contains ys p) → length xs ≤ length ys
 no_more xs ys different among =
@@ -19,13 +17,15 @@ no_more xs ys different among =
     (IsDistinct-from_AllPairs (λ a b. (same_point a b, λ e. subst (λ (q : Point). point_eq.it a q ≡ true) e (laws-law.refl a))) xs different)
     (λ q h. list_any-from_Contains laws-law q ys (among q (Contains-from_any same_point q xs h)))
 
+-- what is reached from points of the program, is one of them
+reached_point : (l : LayoutParts) (image : List ℕ) (firsts : List Point) → ((p : Point) → Contains firsts p → IsPoint l image p) → (p : Point)
+    → IsReached l image firsts p → IsPoint l image p
+reached_point l image firsts all _ (First p first) = all p first
+reached_point l image firsts all _ (After p q is after) = After p q (reached_point l image firsts all p is) after
+
 module _ (l : LayoutParts) (image : List ℕ) (points : List Point) (are : ArePoints l image points) where
   -- what is reached from points of the program is not too much
   pub few_reached : (firsts : List Point) → ((p : Point) → Contains firsts p → IsPoint l image p) → AreTooMany l image firsts → ⊥
   few_reached firsts all many =
       let no = no_more many.points points many.different (λ p k. are.all p (reached_point l image firsts all p (many.only p k))) in
       omega (arith, no, are.few, many.many)
-
-  pub not_too_many : (a : ℕ) (firsts : List Point) → firsts ≡ entry_at a ∷ [] → IsPoint l image (entry_at a) → AreTooMany l image firsts → ⊥
-  not_too_many a firsts same entry many =
-      few_reached firsts (λ p k. subst (λ (q : Point). IsPoint l image q) (only_one (entry_at a) p (subst (λ fs. Contains fs p) same k)) entry) many

@@ -24,7 +24,7 @@ use Rattle.m51_stackbound.specs.Climb.{cap, depth_in, AreSettled, IsTaken}
 use Rattle.m51_stackbound.specs.Depths.{CallsThrough, HasHeight, IsDepth}
 use Rattle.m51_stackbound.specs.Listing.{is_noted, AreStarts, AreListed}
 use Rattle.m51_stackbound.specs.Nexts.{AreNexts, AreRows, IsRowAt}
-use Rattle.m51_stackbound.specs.Points.{entry_at, point_at, IsPoint}
+use Rattle.m51_stackbound.specs.Points.{entry_at, point_at}
 use Rattle.m51_stackbound.specs.Rules.{rank}
 use Rattle.m51_stackbound.specs.Search.{ArePoints}
 use Rattle.m51_stackbound.specs.Totals.{IsSum}
@@ -32,7 +32,7 @@ use Rattle.m51_stackbound.specs.Units.{handlers}
 use Rattle.m51_stackbound.proofs.Covering.{start_covered}
 use Rattle.m51_stackbound.proofs.Leading.{depth_is, path_is}
 use Rattle.m51_stackbound.proofs.Raised.{low_not_cyclic, settled_says}
-use Rattle.m51_stackbound.proofs.Rooted.{handler_first, of_taken, reset_first, taken_above, under}
+use Rattle.m51_stackbound.proofs.Rooted.{handler_first, reset_first, taken_above}
 use Rattle.m51_stackbound.proofs.Summing.{comes_total, is_total}
 
 -- the start with this index in a table
@@ -81,13 +81,6 @@ module _ (l : LayoutParts) (image : List ℕ) where
   pub above_by : (points : List Point) (depths : List ℕ) (s : AreSettled l image points depths) (r : Bool) → r ≡ list_any (λ depth. nat_lt 255 depth) depths → Keeps l image PushesAbove → IsAbove l image depths r
   above_by points depths s true e none = depth_above points depths s (sym e)
   above_by points depths s false e none = (none, all_low depths (sym e))
-
-  -- a start with a depth above 255 is one of the program
-  pub deep_entered : (points : List Point) (depths : List ℕ) (s : AreSettled l image points depths) (a : ℕ) → 255 < depth_in depths (At a) → IsPoint l image (entry_at a)
-  deep_entered points depths s a high =
-      let t = taken_by points depths s (At a) high in
-      let h = (of_taken l image (At a) t.path t.bytes t.takes).1 in
-      (under l image a h.point h.is_point h.start_is).entered
 
   -- the first start that calls itself
   pub first_is : (a : ℕ) → CallsThrough l image (At a) a → ((b : ℕ) → b < a → IsCyclic l image (At b) → ⊥) → IsFirstCyclic l image (At a)

@@ -10,7 +10,8 @@ pub mod Raised
 pub mod Stepping
 pub mod Rooted
 pub mod Crowding
-pub mod Cycles
+pub mod CallRows
+pub mod Walks
 pub mod Ways
 pub mod Leading
 pub mod Adding

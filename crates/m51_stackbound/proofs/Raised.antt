@@ -1,12 +1,13 @@
 -- Depths that are raised until no point comes to more.
-use Rattle.std.proofs.Common.{◌≡◌, ◌<◌, ◌≤◌, ◌+◌, ℕ, Bool, true, false, ◌||◌, List, [], ◌∷◌, length, get_or, set, take, sum, replicate, refl, sym, ap, subst, ◌∙◌, arith, ◌⊎◌, inl, inr, Option, Some, None}
-use Rattle.std.specs.Prelude.{if◌then◌else◌}
+use Rattle.std.proofs.Common.{◌≡◌, ◌<◌, ◌≤◌, ◌+◌, ℕ, Bool, cond, true, false, ◌||◌, List, [], ◌∷◌, length, get_or, set, take, sum, replicate, refl, sym, ap, subst, ◌∙◌, arith, ◌⊎◌, inl, inr, Option, Some, None}
+use Rattle.std.specs.Prelude.{filter, if◌then◌else◌, is_some}
 use Rattle.std.specs.List.{Contains}
 use Rattle.std.proofs.lemmas.Bool.{cases_lt}
 use Rattle.std.proofs.lemmas.Grind.{common_steps}
 use Rattle.std.proofs.lemmas.List.{length-replicate, get_or-set_same, get_or-set_other, length-set}
 use Rattle.std.proofs.lemmas.List.Sums.{sum_by-set}
 use Rattle.m51_cells.proofs.ListsAndOptions.{sum_most}
+use Rattle.m51_cells.proofs.Small.{contains_after, first_or_after}
 use Rattle.m51_isa.specs.declared.instr.Instr.{Instr}
 use Rattle.m51_isa.specs.declared.instr.Instr.TheVariants.{AcallAddr11, LcallAddr16}
 use Rattle.m51_module.specs.declared.parts.LayoutParts.{LayoutParts}
@@ -28,6 +29,31 @@ blank count depths is e = record {
   len = rw e (length-replicate {A = ℕ} count 0 ∙ is);
   each = λ i below. rw e (grind (arith, common_steps));
 }
+
+-- what passes stays
+filter_keeps : (test : Point → Bool) (ps : List Point) (p : Point) → Contains ps p → test p ≡ true → Contains (filter test ps) p
+filter_keeps test [] p k passes = k
+filter_keeps test (q ∷ ps) p k passes = elim (first_or_after q ps p k) as (λ _. Contains (filter test (q ∷ ps)) p) [
+  | inl here ↦
+      let first : test q ≡ true = ap test here ∙ passes in
+      subst (λ b. Contains (cond b (q ∷ filter test ps) (filter test ps)) p) (sym first) (0, omega arith, here)
+  | inr behind ↦ elim (test q) as (λ b. Contains (cond b (q ∷ filter test ps) (filter test ps)) p) [
+    | true ↦ contains_after q (filter test ps) p (filter_keeps test ps p behind passes)
+    | false ↦ filter_keeps test ps p behind passes
+  ]
+]
+
+-- and nothing comes in
+pub filter_from : (test : Point → Bool) (ps : List Point) (p : Point) → Contains (filter test ps) p → Contains ps p
+filter_from test [] p k = k
+filter_from test (q ∷ ps) p k = from (test q) k (filter_from test ps p)
+  where
+    from : (b : Bool) → Contains (cond b (q ∷ filter test ps) (filter test ps)) p → (Contains (filter test ps) p → Contains ps p) → Contains (q ∷ ps) p
+    from true k on = elim (first_or_after q (filter test ps) p k) as (λ _. Contains (q ∷ ps) p) [
+      | inl here ↦ (0, omega arith, here)
+      | inr behind ↦ contains_after q ps p (on behind)
+    ]
+    from false k on = contains_after q ps p (on k)
 
 -- a call does not end its point
 pub call_goes : (p : Point) (instr : Instr) → is_call instr ≡ true → ends_at p instr ≡ false
@@ -147,9 +173,26 @@ module _ (l : LayoutParts) (image : List ℕ) where
       let more : sum (set old (rank start) depth) + get_or old (rank start) 0 ≡ sum old + depth = sum_by-set (λ (x : ℕ). x) old (rank start) depth 0 below in
       subst (λ ds. sum old < sum ds) (sym h.1) (omega (arith, more, h.0))
 
+  -- no depth is less then
+  record HaveGrown (old new : List ℕ) (start : Start) (depth : ℕ) : Type 0 where
+    pub each : (s : Start) → depth_in old s ≤ depth_in new s
+    pub own : depth ≤ depth_in new start
+
+  raises_grow : (old new : List ℕ) (start : Start) (depth : ℕ) → rank start < length old → Raises start depth old new true → HaveGrown old new start depth
+  raises_grow old new start depth below h = subst (λ ds. HaveGrown old ds start depth) (sym h.1) (record {
+    each = λ s. elim (same_or_not (rank s) (rank start)) as (λ _. depth_in old s ≤ get_or (set old (rank start) depth) (rank s) 0) [
+      | inl e ↦
+          let now : get_or (set old (rank start) depth) (rank s) 0 ≡ depth = ap (λ k. get_or (set old (rank start) depth) k 0) e ∙ get_or-set_same old (rank start) depth 0 below in
+          let was : depth_in old s ≡ depth_in old start = ap (λ k. get_or old k 0) e in
+          omega (arith, now, was, h.0)
+      | inr other ↦ let now = get_or-set_other old (rank start) (rank s) depth 0 other in omega (arith, now)
+    ];
+    own = let now = get_or-set_same old (rank start) depth 0 below in omega (arith, now);
+  })
+
   -- none of no points
   pub raised_none : (depths : List ℕ) → AreTaken l image depths → IsRaised l image [] depths depths false
-  raised_none depths are = record { are = are; same = λ h. refl; high = λ h p k. absurd (omega (arith, k.1)); not_less = omega arith; more = λ h. absurd (cc h) }
+  raised_none depths are = record { are = are; grown = λ start. omega arith; own = λ p k. absurd (omega (arith, k.1)); same = λ h. refl; high = λ h p k. absurd (omega (arith, k.1)); not_less = omega arith; more = λ h. absurd (cc h) }
 
   -- the next point
   pub raised_next : (points : List Point) (i : ℕ) (d : Point) (old now new : List ℕ) (rose up : Bool) → i < length points → rank (get_or points i d).start < length now
@@ -161,8 +204,14 @@ module _ (l : LayoutParts) (image : List ℕ) where
       let p = get_or points i d in
       let taken = point_taken now p (call_of l image p) is refl h.are in
       let sums = raised_sum now new p.start (depth_by now p (call_of l image p)) inside up in
+      let more = raises_grow now new p.start (depth_by now p (call_of l image p)) inside up in
       record {
         are = raised now new p.start (depth_by now p (call_of l image p)) true inside few h.are taken up;
+        grown = λ s. let before = h.grown s in let after = more.each s in omega (arith, before, after);
+        own = λ q k. elim (front_cases points i d q below k) as (λ _. cap q.height ≤ depth_in new q.start) [
+          | inl before ↦ let low = h.own q before in let after = more.each q.start in omega (arith, low, after)
+          | inr here ↦ subst (λ (r : Point). cap r.height ≤ depth_in new r.start) here (at_least now p (call_of l image p) (depth_in new p.start) (omega (arith, more.own)))
+        ];
         same = λ e. absurd (cc e);
         high = λ e. absurd (cc e);
         not_less = omega (arith, sums, h.not_less);
@@ -172,6 +221,11 @@ module _ (l : LayoutParts) (image : List ℕ) where
       let p = get_or points i d in
       subst (λ ds. IsRaised l image (take (i + 1) points) old ds rose) (sym up.1) (record {
         are = h.are;
+        grown = h.grown;
+        own = λ q k. elim (front_cases points i d q below k) as (λ _. cap q.height ≤ depth_in now q.start) [
+          | inl before ↦ h.own q before
+          | inr here ↦ subst (λ (r : Point). cap r.height ≤ depth_in now r.start) here (at_least now p (call_of l image p) (depth_in now p.start) up.0)
+        ];
         same = h.same;
         high = λ e q k. elim (front_cases points i d q below k) as (λ _. depth_by now q (call_of l image q) ≤ depth_in now q.start) [
           | inl before ↦ h.high e q before
@@ -180,6 +234,31 @@ module _ (l : LayoutParts) (image : List ℕ) where
         not_less = h.not_less;
         more = h.more;
       })
+
+  -- the table while it climbs: no depth is less than the height of a point
+  pub record IsClimbing (points : List Point) (depths : List ℕ) : Type 0 where
+    pub are : AreTaken l image depths
+    pub own : (p : Point) → Contains points p → cap p.height ≤ depth_in depths p.start
+
+  -- the points that call are looked at
+  pub climbing_on : (points calling : List Point) (old new : List ℕ) (rose : Bool) → IsClimbing points old → IsRaised l image calling old new rose → IsClimbing points new
+  climbing_on points calling old new rose h r = record {
+    are = r.are;
+    own = λ p k. let low = h.own p k in let more = r.grown p.start in omega (arith, low, more);
+  }
+
+  -- where none of them raises a depth, the table is settled
+  pub climbed : (points calling : List Point) (old new : List ℕ) → calling ≡ filter (λ p. is_some (call_of l image p)) points → IsClimbing points old → IsRaised l image calling old new false
+      → AreSettled l image points new
+  unfolding depth_by
+  climbed points calling old new is h r = record {
+    are = r.are;
+    high = λ p k. by p k (call_of l image p) refl;
+  }
+    where
+      by : (p : Point) → Contains points p → (o : Option ℕ) → call_of l image p ≡ o → depth_by new p (call_of l image p) ≤ depth_in new p.start
+      by p k None e = let low = h.own p k in let more = r.grown p.start in rw e (omega (arith, low, more))
+      by p k (Some to) e = r.high refl p (subst (λ (ps : List Point). Contains ps p) (sym is) (filter_keeps (λ (q : Point). is_some (call_of l image q)) points p k (ap is_some e)))
 
   pub by_few : (depths : List ℕ) (p : Point) (o : Option ℕ) → depth_by depths p o ≤ 256
   unfolding depth_by

@@ -95,14 +95,6 @@ notes_grow (p ∷ ps) old new (middle, first, rest) =
       different = g.different;
     }
 
--- one point, noted in an empty list
-pub one_noted : (p : Point) (new : List Point) → Notes [] p new → new ≡ p ∷ []
-one_noted p new (inl (same, there)) = absurd (none_in_empty p there)
-one_noted p new (inr (is, absent)) = is
-
-pub one_differs : (p : Point) (new : List Point) → Notes [] p new → AreDifferent new
-one_differs p new h = subst (λ ps. AreDifferent ps) (sym (one_noted p new h)) (λ i j d less within. absurd (omega (arith, less, within)))
-
 -- the search: what is found are points, the first ones are found, and so are the successors of those that were looked at
 pub record IsSearching (l : LayoutParts) (image : List ℕ) (firsts : List Point) (points : List Point) (next : ℕ) : Type 0 where
   pub only : (p : Point) → Contains points p → IsReached l image firsts p

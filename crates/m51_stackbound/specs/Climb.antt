@@ -1,5 +1,5 @@
 -- Depths in a table by starts, none above 256, and how they are raised.
-use Rattle.std.specs.Prelude.{◌≡◌, ◌⊎◌, ℕ, ◌+◌, ◌<◌, ◌≤◌, min, nat_eq, Bool, true, false, List, length, sum}
+use Rattle.std.specs.Prelude.{◌≡◌, ◌⊎◌, ℕ, ◌+◌, ◌<◌, ◌≤◌, min, Bool, true, false, List, length, sum}
 use Rattle.std.specs.Prelude.{slice_set, slice_index, Option, Some, None}
 use Rattle.std.specs.List.{Contains}
 use Rattle.m51_module.specs.declared.parts.LayoutParts.{LayoutParts}
@@ -22,11 +22,6 @@ depth_in depths start = slice_index depths (rank start)
 unfoldable pub depth_by : List ℕ → Point → Option ℕ → ℕ
 depth_by depths p None = cap p.height
 depth_by depths p (Some to) = cap (p.height + 2 + depth_in depths (At to))
-
--- it is a call of the start at that address
-abbrev pub is_called : ℕ → Option ℕ → Bool
-is_called at None = false
-is_called at (Some to) = nat_eq to at
 
 -- the start and what it calls take so much
 pub record IsTaken (l : LayoutParts) (image : List ℕ) (start : Start) (depth : ℕ) : Type 0 where
@@ -51,11 +46,14 @@ abbrev pub Raises : Start → ℕ → List ℕ → List ℕ → Bool → Type 0
 Raises start depth old new true = (depth_in old start < depth) × (new ≡ slice_set old (rank start) depth)
 Raises start depth old new false = (depth ≤ depth_in old start) × (new ≡ old)
 
--- the points are looked at: where no depth rose, none is less than what a point comes to
+-- the points are looked at: no depth is less than it was, or than the height of a point; where none rose, none is less
+-- than what a point comes to
 pub record IsRaised
     (l : LayoutParts) (image : List ℕ) (points : List Point) (old new : List ℕ) (rose : Bool)
     : Type 0 where
   pub are : AreTaken l image new
+  pub grown : (start : Start) → depth_in old start ≤ depth_in new start
+  pub own : (p : Point) → Contains points p → cap p.height ≤ depth_in new p.start
   pub same : rose ≡ false → new ≡ old
   pub high : rose ≡ false → (p : Point) → Contains points p → depth_by new p (call_of l image p) ≤ depth_in new p.start
   pub not_less : sum old ≤ sum new

@@ -1,23 +1,18 @@
 -- What an instruction does with SP and with control, and which addresses it may lead to.
-use Rattle.std.specs.Prelude.{ℕ, ◌+◌, ◌*◌, ◌/◌, ◌%◌, Bool, true, false, nat_eq, nat_lt, if◌then◌else◌, List, [], ◌∷◌}
+use Rattle.std.specs.Prelude.{ℕ, ◌+◌, ◌%◌, Bool, true, false, nat_eq, if◌then◌else◌, List, [], ◌∷◌}
 use Rattle.std.specs.Prelude.{slice_index, Option, Some, None}
 use Rattle.std.specs.Option.{option_map_or}
 use Rattle.m51_isa.specs.declared.instr.Instr.{Instr}
-use Rattle.m51_isa.specs.declared.instr.Instr.TheVariants.{JbcBitRel, JbBitRel, JnbBitRel, JcRel, JncRel, JzRel}
-use Rattle.m51_isa.specs.declared.instr.Instr.TheVariants.{JnzRel, SjmpRel, PushDirect, PopDirect, AjmpAddr11}
+use Rattle.m51_isa.specs.declared.instr.Instr.TheVariants.{SjmpRel, PushDirect, PopDirect, AjmpAddr11}
 use Rattle.m51_isa.specs.declared.instr.Instr.TheVariants.{AcallAddr11, LjmpAddr16, LcallAddr16, Ret, Reti}
 use Rattle.m51_isa.specs.declared.instr.Instr.TheVariants.{OrlDirectA, AnlDirectA, XrlDirectA, OrlDirectData}
-use Rattle.m51_isa.specs.declared.instr.Instr.TheVariants.{AnlDirectData, XrlDirectData, JmpAtADptr, CjneADataRel}
+use Rattle.m51_isa.specs.declared.instr.Instr.TheVariants.{AnlDirectData, XrlDirectData, JmpAtADptr}
 use Rattle.m51_isa.specs.declared.instr.Instr.TheVariants.{IncDirect, DecDirect, MovDirectData, MovDirectDirect}
-use Rattle.m51_isa.specs.declared.instr.Instr.TheVariants.{CjneADirectRel, XchADirect, DjnzDirectRel, MovDirectA}
-use Rattle.m51_isa.specs.declared.instr.Instr.TheVariants.{CjneAtRiDataRel, MovDirectAtRi, MovDirectRn, CjneRnDataRel}
-use Rattle.m51_isa.specs.declared.instr.Instr.TheVariants.{DjnzRnRel}
+use Rattle.m51_isa.specs.declared.instr.Instr.TheVariants.{XchADirect, DjnzDirectRel, MovDirectA}
+use Rattle.m51_isa.specs.declared.instr.Instr.TheVariants.{MovDirectAtRi, MovDirectRn}
 use Rattle.m51_isa.specs.Table.{decoded, length_of}
-use Rattle.m51_isa.specs.Targets.{relative, near}
-
--- SP is the direct address 81H
-abbrev pub sp : ℕ
-sp = 0x81
+pub use Rattle.m51_isa.specs.Targets.{target_of}
+use Rattle.m51_sfr.specs.declared.addresses.TheConstants.{SP}
 
 -- the instruction that begins at an address; the addresses of its bytes go on from 0 past the last one
 unfoldable pub instr_at : List ℕ → ℕ → Option Instr
@@ -50,11 +45,11 @@ written_by _ = None
 
 -- it writes SP by an operand
 abbrev pub writes_sp : Instr → Bool
-writes_sp instr = option_map_or (λ direct. nat_eq direct sp) (written_by instr) false
+writes_sp instr = option_map_or (λ direct. nat_eq direct SP) (written_by instr) false
 
 -- the value that `MOV SP,#data` gives SP
 abbrev pub sets_sp : Instr → Option ℕ
-sets_sp (MovDirectData direct value) = if nat_eq direct sp then Some value else None
+sets_sp (MovDirectData direct value) = if nat_eq direct SP then Some value else None
 sets_sp _ = None
 
 abbrev pub is_push : Instr → Bool
@@ -88,25 +83,3 @@ is_jump (AjmpAddr11 address) = true
 is_jump (LjmpAddr16 address) = true
 is_jump JmpAtADptr = true
 is_jump _ = false
-
--- the target of a jump, a branch or a call with this next address; `JMP @A+DPTR` names none
-abbrev pub target_of : Instr → ℕ → Option ℕ
-target_of (JbcBitRel bit rel) next = Some (relative next rel)
-target_of (JbBitRel bit rel) next = Some (relative next rel)
-target_of (JnbBitRel bit rel) next = Some (relative next rel)
-target_of (JcRel rel) next = Some (relative next rel)
-target_of (JncRel rel) next = Some (relative next rel)
-target_of (JzRel rel) next = Some (relative next rel)
-target_of (JnzRel rel) next = Some (relative next rel)
-target_of (SjmpRel rel) next = Some (relative next rel)
-target_of (CjneADataRel value rel) next = Some (relative next rel)
-target_of (CjneADirectRel direct rel) next = Some (relative next rel)
-target_of (CjneAtRiDataRel pointer value rel) next = Some (relative next rel)
-target_of (CjneRnDataRel register value rel) next = Some (relative next rel)
-target_of (DjnzDirectRel direct rel) next = Some (relative next rel)
-target_of (DjnzRnRel register rel) next = Some (relative next rel)
-target_of (AjmpAddr11 address) next = Some (near next address)
-target_of (AcallAddr11 address) next = Some (near next address)
-target_of (LjmpAddr16 address) next = Some address
-target_of (LcallAddr16 address) next = Some address
-target_of _ next = None

@@ -1,5 +1,6 @@
 pub mod Above
 pub mod Bounds
+pub mod Callers
 pub mod Climb
 pub mod Depths
 pub mod Instructions

@@ -1,6 +1,5 @@
 //! The stack bound of a layout and its image.
-ghost use Rattle.std.specs.Prelude.{◌≡◌, ℕ, IfOk, nat_lt};
-ghost use Rattle.std.specs.List.{list_any};
+ghost use Rattle.std.specs.Prelude.{◌≡◌, ℕ, IfOk};
 ghost use Rattle.m51_module.specs.Plan.{IsRootAt};
 ghost use Rattle.m51_module.specs.Sound.{IsSound};
 ghost use Rattle.m51_stackbound.specs.Above.{AreLow, HasLists, IsAbove, IsTangle};
@@ -11,7 +10,7 @@ ghost use Rattle.m51_stackbound.specs.Rules.{IsLeast};
 ghost use Rattle.m51_stackbound.specs.Search.{ArePoints};
 ghost use Rattle.m51_stackbound.specs.Units.{handlers};
 
-use crate::climbing::depths_of;
+use crate::climbing::{depths_of, is_too_deep};
 use crate::cycling::first_cyclic;
 use crate::doubling::first_twice;
 use crate::judging::{Rule, first_breach};
@@ -71,13 +70,6 @@ fn first_doubled(
     ensures { IfOk result (IsLeast (HasTwoHeights layout.now image.now)) }
 {
     first_twice(alloc, points)
-}
-
-// Whether a depth is above 255.
-fn is_too_deep(depths: &[u16]) -> bool
-    ensures { result ≡ list_any (λ depth. nat_lt 255 depth) depths.now }
-{
-    depths.iter().any(|depth| *depth > 255)
 }
 
 // Whether PUSH is at height 255, or a depth is above 255.

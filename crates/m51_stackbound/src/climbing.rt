@@ -1,9 +1,11 @@
 //! Depths: how many bytes of stack a start and what it calls take at most.
-ghost use Rattle.std.specs.Prelude.{◌≡◌, ◌<◌, ◌≤◌, ℕ, length, slice_index, IfOk};
+ghost use Rattle.std.specs.Prelude.{◌≡◌, ◌<◌, ◌≤◌, ℕ, filter, is_some, length, nat_lt, slice_index, IfOk};
+ghost use Rattle.std.specs.List.{Contains, list_any};
 ghost use Rattle.m51_stackbound.specs.Climb.{depth_in, depth_by, AreTaken, AreSettled, IsBlank, IsRaised, Raises};
-ghost use Rattle.m51_stackbound.specs.Points.{call_of};
+ghost use Rattle.m51_stackbound.specs.Points.{call_of, IsPoint};
 ghost use Rattle.m51_stackbound.specs.Rules.{rank};
 ghost use Rattle.m51_stackbound.specs.Search.{ArePoints};
+ghost use Rattle.m51_stackbound.specs.declared.point.Point.{Point};
 
 use crate::following::call_of;
 use crate::judging::rank;
@@ -22,6 +24,13 @@ pub(crate) fn depth_in(depths: &[u16], start: Start) -> u16
     ensures most { ((i : ℕ) → i < length depths.now → slice_index depths.now i ≤ 256) → result ≤ 256 }
 {
     depths[rank(start) as usize]
+}
+
+/// Whether a depth is above 255.
+pub(crate) fn is_too_deep(depths: &[u16]) -> bool
+    ensures { result ≡ list_any (λ depth. nat_lt 255 depth) depths.now }
+{
+    depths.iter().any(|depth| *depth > 255)
 }
 
 // What a point comes to: its height, or what its call makes of it.
@@ -54,7 +63,7 @@ fn raise(depths: &mut [u16], start: Start, depth: u16) -> bool
 
 // Raises the depth of each start by each of its points; whether one rose.
 fn raise_all(layout: &Layout, image: &Image, points: &[Point], depths: &mut [u16]) -> bool
-    requires points { ArePoints layout.now image.now points.now }
+    requires points { (p : Point) → Contains points.now p → IsPoint layout.now image.now p }
     requires depths { AreTaken layout.now image.now depths.old }
     ensures { IsRaised layout.now image.now points.now depths.old depths.new result }
 {
@@ -68,13 +77,33 @@ fn raise_all(layout: &Layout, image: &Image, points: &[Point], depths: &mut [u16
     rose
 }
 
-// Raises depths until they are settled.
-fn settle(layout: &Layout, image: &Image, points: &[Point], depths: &mut [u16])
+// The points that call.
+fn calling(
+    alloc: Global,
+    layout: &Layout,
+    image: &Image,
+    points: &[Point],
+) -> Result<Vec<Point>, NoMemory>
+    ensures { IfOk result (λ calling. calling.items ≡ filter (λ p. is_some (call_of layout.now image.now p)) points.now) }
+{
+    let mut calling = Vec::new(alloc);
+    for point in points {
+        if call_of(layout, image, point).is_some() {
+            calling.push(*point)?;
+        }
+    }
+    Ok(calling)
+}
+
+// Raises depths until they are settled: once by all points, and then by those that call.
+fn settle(layout: &Layout, image: &Image, points: &[Point], calling: &[Point], depths: &mut [u16])
     requires points { ArePoints layout.now image.now points.now }
+    requires calling { calling.now ≡ filter (λ p. is_some (call_of layout.now image.now p)) points.now }
     requires depths { AreTaken layout.now image.now depths.old }
     ensures { AreSettled layout.now image.now points.now depths.new }
 {
-    'climb: while raise_all(layout, image, points, depths) {}
+    raise_all(layout, image, points, depths);
+    'climb: while raise_all(layout, image, calling, depths) {}
 }
 
 // A table of zeros.
@@ -96,7 +125,8 @@ pub(crate) fn depths_of(
     requires { ArePoints layout.now image.now points.now }
     ensures { IfOk result (λ depths. AreSettled layout.now image.now points.now depths.items) }
 {
+    let calling = calling(alloc, layout, image, points)?;
     let mut depths = blank_depths(alloc, STARTS)?;
-    settle(layout, image, points, &mut depths);
+    settle(layout, image, points, &calling, &mut depths);
     Ok(depths)
 }

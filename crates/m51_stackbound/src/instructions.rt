@@ -2,14 +2,11 @@
 ghost use Rattle.std.specs.Prelude.{◌≡◌};
 ghost use Rattle.m51_stackbound.specs.Instructions.{instr_at, next_of, written_by, writes_sp, sets_sp, is_push};
 ghost use Rattle.m51_stackbound.specs.Instructions.{is_pop, is_call, is_return, is_computed, is_jump};
-ghost use Rattle.m51_isa.specs.Targets.{relative, near};
-ghost use Rattle.m51_stackbound.specs.Instructions.{target_of};
 
-use m51_isa::{Address11, Instr, decode, length};
+pub(crate) use m51_isa::target_of;
+use m51_isa::{Instr, decode, length};
 use m51_module::Image;
-
-// SP as a direct address.
-const SP: u8 = 0x81;
+use m51_sfr::addresses::SP;
 
 /// The instruction that begins at the address.
 #[tactic(auto, unfolding(crate::specs::Instructions::instr_at))]
@@ -119,47 +116,4 @@ pub(crate) fn is_jump(instr: &Instr) -> bool
         instr,
         Instr::SjmpRel(_) | Instr::AjmpAddr11(_) | Instr::LjmpAddr16(_) | Instr::JmpAtADptr
     )
-}
-
-// An address and a signed byte.
-fn relative(next: u16, rel: u8) -> u16
-    ensures { result ≡ relative next rel }
-{
-    if rel < 128 {
-        next.wrapping_add(u16::from(rel))
-    } else {
-        next.wrapping_add(0xFF00 + u16::from(rel))
-    }
-}
-
-// An address of 11 bits in the block of 2,048 bytes of the next instruction.
-fn near(next: u16, address: Address11) -> u16
-    ensures { result ≡ near next address }
-{
-    next / 2048 * 2048 + address.number()
-}
-
-/// The target of a jump, a branch or a call; `JMP @A+DPTR` names none.
-pub(crate) fn target_of(instr: &Instr, next: u16) -> Option<u16>
-    ensures { result ≡ target_of instr.now next }
-{
-    match instr {
-        Instr::JbcBitRel(_, rel)
-        | Instr::JbBitRel(_, rel)
-        | Instr::JnbBitRel(_, rel)
-        | Instr::JcRel(rel)
-        | Instr::JncRel(rel)
-        | Instr::JzRel(rel)
-        | Instr::JnzRel(rel)
-        | Instr::SjmpRel(rel)
-        | Instr::CjneADataRel(_, rel)
-        | Instr::CjneADirectRel(_, rel)
-        | Instr::CjneAtRiDataRel(_, _, rel)
-        | Instr::CjneRnDataRel(_, _, rel)
-        | Instr::DjnzDirectRel(_, rel)
-        | Instr::DjnzRnRel(_, rel) => Some(relative(next, *rel)),
-        Instr::AjmpAddr11(address) | Instr::AcallAddr11(address) => Some(near(next, *address)),
-        Instr::LjmpAddr16(address) | Instr::LcallAddr16(address) => Some(*address),
-        _ => None,
-    }
 }

@@ -2,6 +2,7 @@
 #![tactic(auto)]
 
 mod bounding;
+mod calls;
 mod climbing;
 mod cycling;
 mod doubling;
@@ -16,6 +17,7 @@ mod points;
 mod searching;
 mod totals;
 mod units;
+mod walking;
 
 pub use bounding::bound;
 pub use laws::{answer_is_unique, total_is_sum_of_depths};

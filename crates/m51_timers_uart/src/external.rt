@@ -4,8 +4,8 @@ ghost use Rattle.m51_timers_uart.specs.External.{externals_ticked, requested};
 
 use crate::levels::{Input, Levels};
 use m51_flat::Cpu;
-use m51_flat::addresses::TCON;
-use m51_flat::flags::{IE0, IE1, IT0, IT1};
+use m51_sfr::addresses::TCON;
+use m51_sfr::bits::{IE0, IE1, IT0, IT1};
 
 /// With IT 1 a fall of the pin sets the flag; with IT 0 the flag is 1 exactly where the level is 0.
 #[tactic(auto, unfolding(crate::specs::External::requested))]

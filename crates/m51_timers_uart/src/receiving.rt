@@ -4,8 +4,8 @@ ghost use Rattle.m51_timers_uart.specs.Receiving.{frame_met, received, taken, ta
 
 use crate::sending::read_mode;
 use m51_flat::Cpu;
-use m51_flat::addresses::{SBUF, SCON};
-use m51_flat::flags::{RB8, REN, RI, SM2};
+use m51_sfr::addresses::{SBUF, SCON};
+use m51_sfr::bits::{RB8, REN, RI, SM2};
 
 /// A frame that comes in on the serial line.
 ///

@@ -5,8 +5,8 @@ ghost use Rattle.m51_timers_uart.specs.Sending.{sending_ticked, serial_mode};
 
 use crate::periph::{Periph, Sent};
 use m51_flat::Cpu;
-use m51_flat::addresses::{PCON, SCON, T2CON};
-use m51_flat::flags::{SM0, SM1, SMOD, TB8, TCLK, TI};
+use m51_sfr::addresses::{PCON, SCON, T2CON};
+use m51_sfr::bits::{SM0, SM1, SMOD, TB8, TCLK, TI};
 
 /// The mode of the serial line, 0 to 3.
 #[tactic(auto, unfolding(crate::specs::Sending::serial_mode))]

@@ -10,8 +10,8 @@ use crate::counting::{TimerBytes, count_sixteen};
 use crate::levels::{Input, Levels};
 use crate::timers::{read_bytes, write_bytes};
 use m51_flat::Cpu;
-use m51_flat::addresses::{RCAP2H, RCAP2L, T2CON, TH2, TL2};
-use m51_flat::flags::{CPRL2, CT2, EXEN2, EXF2, RCLK, TCLK, TF2, TR2};
+use m51_sfr::addresses::{RCAP2H, RCAP2L, T2CON, TH2, TL2};
+use m51_sfr::bits::{CPRL2, CT2, EXEN2, EXF2, RCLK, TCLK, TF2, TR2};
 
 /// Timer 2 gives the rate of the serial line.
 #[tactic(auto, unfolding(crate::specs::Timer2::gives_rate))]

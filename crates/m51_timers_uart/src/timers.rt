@@ -8,8 +8,8 @@ ghost use Rattle.m51_timers_uart.specs.Timers.{with_bytes};
 use crate::counting::{TimerBytes, TimerMode, count_in};
 use crate::levels::{Input, Levels};
 use m51_flat::Cpu;
-use m51_flat::addresses::{TCON, TH0, TH1, TL0, TL1, TMOD};
-use m51_flat::flags::{TF0, TF1, TR0, TR1};
+use m51_sfr::addresses::{TCON, TH0, TH1, TL0, TL1, TMOD};
+use m51_sfr::bits::{TF0, TF1, TR0, TR1};
 
 /// The mode by M1 and M0.
 fn mode_by(m1: bool, m0: bool) -> TimerMode

@@ -1,29 +1,48 @@
-use Rattle.std.proofs.Common.{◌≡◌, ℕ, Bor, Option, Some, None, List, length, ap, ◌∙◌}
-use Rattle.std.specs.Prelude.{nat_lt, position}
+use Rattle.std.proofs.Common.{◌≡◌, ◌<◌, ◌≤◌, List, Bor, None, [], ◌∷◌, get_or, length, map, ap, arith, length-append, ◌∙◌}
+use Rattle.std.proofs.lemmas.List.{length-map}
 use Rattle.m51_cells.specs.declared.limits.TheConstants.{MOST_MODULES}
 use Rattle.m51_module.specs.declared.parts.ModuleParts.{ModuleParts}
-use Rattle.m51_resolve.specs.Choice.{is_needed}
-use Rattle.m51_resolve.specs.WorkRules.{next_of}
-use Rattle.m51_resolve.proofs.Stopping.{next_taken, stopped}
-use Rattle.m51_resolve.proofs.Taking.{turn}
+use Rattle.m51_resolve.specs.WorkChoice.{IsNext, IsNextAt}
+use Rattle.m51_resolve.proofs.NamedModules.{lent_is}
+use Rattle.m51_resolve.proofs.Skipping.{asked_more, asked_start, choosing_more, choosing_start}
+use Rattle.m51_resolve.proofs.Stopping.{few_is, stopped}
 use Rattle.m51_resolve.proofs.choosing.choose_of.Goals as goal
 
--- the index among the members that are lent
-abbrev index_in : List ModuleParts → List (Bor ModuleParts) → Option ℕ
-index_in chosen left = position (λ m. is_needed chosen m.now) left
+-- the members that are lent
+abbrev parts_of : List (Bor ModuleParts) → List ModuleParts
+parts_of members = map (λ m. m.now) members
+
+pub loop-index-init : goal.loop-index-init
+loop-index-init c = record {
+  choosing = choosing_start c.args.given (parts_of c.args.members.now);
+  asked = asked_start c.args.given (parts_of c.args.members.now);
+}
+
+pub next_needed-requires-clause-asked : goal.next_needed-requires-clause-asked
+next_needed-requires-clause-asked c = λ name w. c.in_ok-asked.ensures.each name ∙ c.loop-index.invariant.asked.each name w
+
+pub loop-index-smaller : goal.loop-index-smaller
+loop-index-smaller c =
+    let chosen = c.loop-index.chosen in
+    let next : IsNextAt chosen (parts_of c.args.members.now) c.in-Some.index = c.in-Some.ensures in
+    let few : length chosen ≤ MOST_MODULES = few_is (length chosen) next.few in
+    omega (arith, few, ap length c.in_ok-chosen.ensures, length-append chosen (c.in_ok-member.member ∷ []))
 
 pub loop-index-preserved : goal.loop-index-preserved
 loop-index-preserved c =
     let chosen = c.loop-index.chosen in
-    let found : Some c.in-Some.index ≡ next_of chosen (index_in chosen c.deref.result.now) = c.in-Some.ensures in
-    let found_in : Some c.in-Some.index ≡ index_in chosen c.loop-index.left.items =
-    next_taken (nat_lt MOST_MODULES (length chosen)) (index_in chosen c.deref.result.now) c.in-Some.index found ∙ ap (index_in chosen) c.deref.ensures.value in
-    rw (c.in_ok-chosen.ensures, c.in_ok-member.ensures, c.remove.ensures.items)
-    (turn (λ m. m.now) chosen c.loop-index.left.items c.remove.result c.in-Some.index _ found_in c.remove.ensures.value c.loop-index.invariant)
+    let members = c.args.members.now in
+    let index = c.in-Some.index in
+    let next : IsNextAt chosen (parts_of members) index = c.in-Some.ensures in
+    let below : index < length members = omega (arith, next.inside, length-map members (λ (m : Bor ModuleParts). m.now)) in
+    let m : ModuleParts = c.index-members-index.result.now in
+    let is : m ≡ get_or (parts_of members) index m = lent_is (λ m. m.now) members index c.index-members-index.result below c.index-members-index.is in
+    rw (c.in_ok-chosen.ensures, c.in_ok-member.ensures) (record {
+      choosing = choosing_more c.args.given (parts_of members) chosen index m c.loop-index.invariant.choosing next is;
+      asked = asked_more c.args.given (parts_of members) chosen index m next.inside is c.loop-index.invariant.asked;
+    })
 
 pub returns : goal.returns
 returns c =
-    let chosen = c.loop-index.chosen in
-    let none : None ≡ next_of chosen (index_in chosen c.deref.result.now) = c.in_default.ensures in
-    let none_in : None ≡ next_of chosen (index_in chosen c.loop-index.left.items) = none ∙ ap (λ left. next_of chosen (index_in chosen left)) c.deref.ensures.value in
-    stopped (λ m. m.now) chosen c.loop-index.left.items _ none_in c.loop-index.invariant
+    let none : IsNext c.loop-index.chosen (parts_of c.args.members.now) None = c.in_default.ensures in
+    stopped c.args.given (parts_of c.args.members.now) c.loop-index.chosen c.loop-index.invariant.choosing none

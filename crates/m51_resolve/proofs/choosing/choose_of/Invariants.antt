@@ -1,10 +1,13 @@
-use Rattle.std.proofs.Common.{◌≡◌, length, map}
-use Rattle.m51_resolve.specs.Choice.{choice, chosen_of}
+use Rattle.std.proofs.Common.{◌+◌, ◌-◌, length, map}
+use Rattle.m51_cells.specs.declared.limits.TheConstants.{MOST_MODULES}
+use Rattle.m51_resolve.proofs.Skipping.{AreAsked, IsChoosing}
 use Rattle.m51_resolve.proofs.choosing.choose_of.Given as goal
 
 abbrev pub invariant-loop-index : goal.invariant-loop-index
-invariant-loop-index l =
-    choice (length l.left.items) (map (λ m. m.now) l.left.items) l.chosen ≡ chosen_of l.fn.given (map (λ m. m.now) l.fn.members.items)
+invariant-loop-index l = record {
+  choosing : IsChoosing l.fn.given (map (λ m. m.now) l.members) l.chosen;
+  asked : AreAsked l.fn.given (map (λ m. m.now) l.members) l.chosen;
+}
 
 abbrev pub decreases-loop-index : goal.decreases-loop-index
-decreases-loop-index l = length l.left.items
+decreases-loop-index l = MOST_MODULES + 1 - length l.chosen

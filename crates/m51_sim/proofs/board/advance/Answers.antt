@@ -1,4 +1,4 @@
-use Rattle.std.proofs.Common.{◌≡◌, ap}
+use Rattle.std.proofs.Common.{ap}
 use Rattle.m51_sim.specs.SeparateMachine.{Separate}
 use Rattle.m51_sim.specs.Boards.{memory_of}
 use Rattle.m51_sim.specs.Cycles.{inputs_of, with_extra}

@@ -1,4 +1,4 @@
-use Rattle.std.proofs.Common.{◌≡◌, subst}
+use Rattle.std.proofs.Common.{subst}
 use Rattle.m51_sim.specs.Boards.{memory_of, state_with}
 use Rattle.m51_sim.specs.Cycles.{Inputs, inputs_of}
 use Rattle.m51_sim.specs.Run.{IsAdvance}

@@ -1,8 +1,6 @@
-use Rattle.std.proofs.Common.{◌≡◌, subst}
-use Rattle.m51_sim.specs.Boards.{map_of, state_with}
-use Rattle.m51_sim.specs.Cycles.{Inputs, inputs_of, with_extra}
-use Rattle.m51_sim.specs.Run.{IsAdvance}
-use Rattle.m51_sim.specs.FlatMachine.{flat_machine}
+use Rattle.std.proofs.Common.{subst}
+use Rattle.m51_sim.specs.Boards.{map_of}
+use Rattle.m51_sim.specs.Cycles.{Inputs, inputs_of}
 use Rattle.m51_sim.proofs.Passes.{IsPassed, flat_done, flat_stopped, no_extra, none_are_few}
 use Rattle.m51_sim.proofs.flat_board.advance.Goals as goal
 

@@ -1,9 +1,5 @@
-use Rattle.std.proofs.Common.{◌≡◌, refl}
-use Rattle.m51_monitor.specs.Stores.{Stores}
-use Rattle.m51_monitor.specs.Monitored.{stores_after}
-use Rattle.m51_monitor.specs.Transfers.{moved}
+use Rattle.std.proofs.Common.{refl}
 use Rattle.m51_sim.specs.Boards.{stores_read}
-use Rattle.m51_sim.specs.SeparateMachine.{Separate}
 use Rattle.m51_sim.proofs.StoresRead.{read_same}
 use Rattle.m51_sim.proofs.judging.commit.Goals as goal
 

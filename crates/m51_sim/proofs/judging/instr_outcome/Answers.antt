@@ -1,4 +1,3 @@
-use Rattle.std.proofs.Common.{◌≡◌, sym, ap, ◌∙◌}
 use Rattle.m51_monitor.specs.Shared.{shared_cells}
 use Rattle.m51_sim.specs.Boards.{stores_read}
 use Rattle.m51_sim.proofs.Preparing.{instr_ready}

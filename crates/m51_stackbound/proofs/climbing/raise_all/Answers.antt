@@ -30,4 +30,4 @@ loop-point-preserved c =
     ] in
     subst (λ b. IsRaised l image (take (i + 1) points) c.args.depths.now new b) rose
     (raised_next l image points i none c.args.depths.now now new before c.raise.result c.loop-point-test.true (omega (arith, c.raise.ensures.few, c.loop-point.invariant.are.len))
-    (c.requires.points.only p (Contains-get_or points i none c.loop-point-test.true)) c.loop-point.invariant up (by_few l image now p (call_of l image p)))
+    (c.requires.points p (Contains-get_or points i none c.loop-point-test.true)) c.loop-point.invariant up (by_few l image now p (call_of l image p)))

@@ -1,16 +1,41 @@
-use Rattle.std.proofs.Common.{below_more, arith}
+use Rattle.std.proofs.Common.{List, ℕ, below_more, arith, sym, subst, ◌∙◌}
 use Rattle.m51_module.specs.declared.start.Start.TheVariants.{At}
+use Rattle.m51_stackbound.specs.Callers.{AreCallRows}
 use Rattle.m51_stackbound.specs.Depths.{CallsThrough}
-use Rattle.m51_stackbound.proofs.Deciding.{first_is, none_is}
+use Rattle.m51_stackbound.proofs.Deciding.{all_low, first_is, none_is}
+use Rattle.m51_stackbound.proofs.Raised.{low_not_cyclic}
+use Rattle.m51_stackbound.proofs.Walks.{leads_from, through_from}
 use Rattle.m51_stackbound.proofs.cycling.first_cyclic.Goals as goal
+
+pub returns-then-not-is_too_deep : goal.returns-then-not-is_too_deep
+returns-then-not-is_too_deep c = λ start h.
+    low_not_cyclic c.args.layout.now c.args.image.now c.args.points.now c.args.depths.now c.requires.points c.requires.depths start
+    (all_low c.args.depths.now (sym c.is_too_deep.ensures ∙ c.if-not-is_too_deep.true) start) h
+
+pub is_cyclic-requires-clause-low : goal.is_cyclic-requires-clause-low
+is_cyclic-requires-clause-low c = λ low h.
+    let l = c.args.layout.now in
+    let image = c.args.image.now in
+    let rows : AreCallRows l image c.deref.result.now = subst (λ (rows : List (List ℕ)). AreCallRows l image rows) (sym c.deref.ensures.value) c.in_ok-rows.ensures in
+    low_not_cyclic l image c.args.points.now c.args.depths.now c.requires.points c.requires.depths (At c.loop-place.place) low
+    (through_from l image c.deref.result.now rows c.loop-place.place c.loop-place.place h)
 
 pub loop-place-preserved : goal.loop-place-preserved
 loop-place-preserved c =
-    below_more (λ a. CallsThrough c.args.layout.now c.args.image.now (At a) a → ⊥) c.loop-place.place c.loop-place.invariant
-    (λ h. absurd (cc (c.in_ok-is_cyclic.ensures.1 h, c.if-branch.false)))
+    let l = c.args.layout.now in
+    let image = c.args.image.now in
+    let place = c.loop-place.place in
+    let rows : AreCallRows l image c.deref.result.now = subst (λ (rows : List (List ℕ)). AreCallRows l image rows) (sym c.deref.ensures.value) c.in_ok-rows.ensures in
+    below_more (λ a. CallsThrough l image (At a) a → ⊥) place c.loop-place.invariant
+    (λ h. absurd (cc (c.in_ok-is_cyclic.ensures.1 (leads_from l image c.deref.result.now rows place place h), c.if-branch.false)))
 
 pub returns-then-branch : goal.returns-then-branch
-returns-then-branch c = first_is c.args.layout.now c.args.image.now c.loop-place.place (c.in_ok-is_cyclic.ensures.0 c.if-branch.true) c.loop-place.invariant
+returns-then-branch c =
+    let l = c.args.layout.now in
+    let image = c.args.image.now in
+    let place = c.loop-place.place in
+    let rows : AreCallRows l image c.deref.result.now = subst (λ (rows : List (List ℕ)). AreCallRows l image rows) (sym c.deref.ensures.value) c.in_ok-rows.ensures in
+    first_is l image place (through_from l image c.deref.result.now rows place place (c.in_ok-is_cyclic.ensures.0 c.if-branch.true)) c.loop-place.invariant
 
 pub returns : goal.returns
 returns c =

@@ -10,13 +10,13 @@ use Rattle.m51_module.proofs.library.Library.raise.Goals as goal
 pub invariant_of-self : goal.invariant_of-self
 invariant_of-self c =
     let index : position (is_named c.args.name.now) c.self.inside.members.items ≡ Some c.in-Some.index = search rules in
-    let alone : PassesAlone (is_named c.args.name.now) c.self.inside.members.items c.in-Some.index = named_alone _ _ _ sample_module c.self.invariant index in
-    rw (c.raise_at.ensures sample_module) (raise_keeps c.self.inside.members.items c.in-Some.index sample_module alone.within c.self.invariant)
+    let alone : PassesAlone (is_named c.args.name.now) c.self.inside.members.items c.in-Some.index = named_alone _ _ _ sample_module c.self.invariant.library index in
+    rw (c.raise_at.ensures sample_module) (record { library = raise_keeps c.self.inside.members.items c.in-Some.index sample_module alone.within c.self.invariant.library; named = c.unknown.ensures _ })
 
 pub returns-clause-answer : goal.returns-clause-answer
 returns-clause-answer c =
     let index : position (is_named c.args.name.now) c.self.inside.members.items ≡ Some c.in-Some.index = search rules in
-    let alone : PassesAlone (is_named c.args.name.now) c.self.inside.members.items c.in-Some.index = named_alone _ _ _ sample_module c.self.invariant index in
+    let alone : PassesAlone (is_named c.args.name.now) c.self.inside.members.items c.in-Some.index = named_alone _ _ _ sample_module c.self.invariant.library index in
     rw (c.raise_at.ensures sample_module, ← c.self.view_is) (raise_there c.self.inside.members.items c.args.name.now c.in-Some.index sample_module alone)
 
 pub returns-in-None-clause-answer : goal.returns-in-None-clause-answer

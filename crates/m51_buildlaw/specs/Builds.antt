@@ -1,0 +1,69 @@
+-- Of a build: what its files give, which rules they meet, and how they are linked; and the two runs of what is linked.
+use Rattle.std.specs.Prelude.{◌≡◌, ◌⊎◌, ◌<◌, ℕ, List, None, Ok}
+use Rattle.std.specs.List.{All}
+use Rattle.m51_flat.specs.Reads.{CellMap}
+use Rattle.m51_graph.specs.Graphs.{graph_of}
+use Rattle.m51_inputs.specs.Inputs.{InputsTree}
+use Rattle.m51_linker.specs.declared.linked.Linked.{Linked}
+use Rattle.m51_linker.specs.Broken.{broken_rule}
+use Rattle.m51_linker.specs.Link.{IsLinked, Program}
+use Rattle.m51_place.specs.Placement.{placing_of}
+use Rattle.m51_resolve.specs.Rules.{resolved_of}
+use Rattle.m51_script.specs.declared.script.Script.{Script}
+use Rattle.m51_sim.specs.Cycles.{inputs_of}
+use Rattle.m51_sim.specs.FlatMachine.{flat_machine, reset_with}
+use Rattle.m51_sim.specs.Runs.{Record, record_of}
+use Rattle.m51_sim.specs.SeparateMachine.{Separate, separate_machine, separate_start}
+use Rattle.m51_words.specs.declared.job.BuildJob.{BuildJob}
+use Rattle.m51_chain.specs.declared.status.Status.TheVariants.{Event, Ran}
+use Rattle.m51_chain.specs.Builds.{build_files}
+use Rattle.m51_chain.specs.Outcome.{Outcome}
+use Rattle.m51_chain.specs.ProgramFiles.{AreAnswered}
+
+-- No rule of the link fails, and the program is what the rules give: the modules that are chosen, their graph, and
+-- where their segments are placed.
+pub record MeetsRules (inputs : InputsTree) (program : Program) : Type 0 where
+  -- L1 to L5, and the limits of modules, segments and units
+  pub chosen : resolved_of inputs.modules inputs.libraries ≡ Ok program.modules
+  -- L6, L7, L8, L10 and L11
+  pub drawn : graph_of program.modules inputs.controls ≡ Ok program.graph
+  -- L9 and L12
+  pub placed : placing_of program.modules inputs.controls program.graph ≡ Ok program.placing
+  -- L13
+  pub fields : broken_rule program.modules program.placing ≡ None
+
+-- no file is refused, and no rule fails
+pub record IsAccepted (job : BuildJob) (contents : List (List ℕ)) : Type 0 where
+  pub inputs : InputsTree
+  pub read : AreAnswered (build_files job) contents (Ok inputs)
+  pub program : Program
+  pub rules : MeetsRules inputs program
+
+-- So the program is linked to this, and this is its script.
+pub record IsBuilt (job : BuildJob) (contents : List (List ℕ)) (script : Script) (linked : Linked) : Type 0 where
+  pub accepted : IsAccepted job contents
+  pub script_is : script ≡ accepted.inputs.script
+  pub linked_is : IsLinked accepted.program linked
+
+-- it was run: status 0, or an event came, status 1
+abbrev pub IsRun : Outcome → Type 0
+IsRun outcome = (outcome.status ≡ Ran) ⊎ (outcome.status ≡ Event)
+
+-- a file is of bytes, and all files are
+abbrev pub AreBytes : List ℕ → Type 0
+AreBytes bytes = All (λ byte. byte < 256) bytes
+
+abbrev pub AreOfBytes : List (List ℕ) → Type 0
+AreOfBytes contents = All AreBytes contents
+
+-- At most so many steps of the machine that keeps each segment in a store of its own, after a reset.
+abbrev pub separate_run : Linked → Script → ℕ → Record Separate
+separate_run linked script n =
+    let inputs = inputs_of script in
+    record_of (separate_machine linked.layout linked.image inputs) n
+    (reset_with inputs (separate_start linked.layout script.fill))
+
+-- At most so many steps of the machine that has one memory for all, from the values that these cells have at the reset.
+abbrev pub flat_run : List ℕ → Script → CellMap → ℕ → Record CellMap
+flat_run image script cells n =
+    let inputs = inputs_of script in record_of (flat_machine image inputs) n (reset_with inputs cells)

@@ -1,0 +1,6 @@
+pub mod Laws
+pub mod Layouts
+pub mod Builds
+pub mod Overlay
+pub mod Headline
+pub mod FromChain

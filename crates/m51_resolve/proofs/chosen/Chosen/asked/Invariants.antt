@@ -1,0 +1,6 @@
+use Rattle.std.proofs.Common.{◌++◌, map, take}
+use Rattle.m51_resolve.specs.WorkNames.{AreWanted}
+use Rattle.m51_resolve.proofs.chosen.Chosen.asked.Given as goal
+
+abbrev pub invariant-loop-member : goal.invariant-loop-member
+invariant-loop-member l = AreWanted (l.self ++ take l.member-index (map (λ m. m.now) l.members)) l.names.keys

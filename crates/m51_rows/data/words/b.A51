@@ -1,0 +1,2 @@
+X EQU 1
+END

@@ -1,0 +1,21 @@
+//! How many cases passed.
+use std::io;
+
+/// How many cases passed, and how many did not.
+#[derive(Clone, Copy)]
+pub(crate) struct Report {
+    pub(crate) passed: u32,
+    pub(crate) failed: u32,
+}
+
+impl Report {
+    /// Counts the case of this name, and prints the name of one that failed.
+    pub(crate) fn count(&mut self, rt: &impl Print, name: &str, passed: bool) -> io::Result<()> {
+        if passed {
+            self.passed = self.passed.saturating_add(1);
+            return Ok(());
+        }
+        self.failed = self.failed.saturating_add(1);
+        println!(rt; "{name}: failed")
+    }
+}

@@ -1,0 +1,60 @@
+-- What a shelf hands out of an open file, piece by piece.
+use Rattle.std.proofs.Common.{◌≡◌, ℕ, List, [], ◌∷◌, ◌++◌, Option, Some, None, Result, Ok, Err, sym, ap, ◌∙◌, subst, append_assoc, append-nil}
+use Rattle.m51_shelf.specs.declared.reading.ReadError.{ReadError}
+use Rattle.m51_shelf.specs.Shelf.{File, Grows, GoesOn}
+use Rattle.m51_shelf.specs.States.{ReadAt}
+use Rattle.m51_shelf.specs.Reading.{GivesOn, HandsOver, IsGiven}
+
+inside : {A : Type 0} (x y : A) → Some x ≡ Some y → x ≡ y
+inside x y h = cc h
+
+-- nothing more, and more after more
+pub goes_none : (old : Option (List File)) → GoesOn old old []
+goes_none None = tt
+goes_none (Some old) =
+    λ front name bytes is. ap (λ (x : List File). Some x) (is ∙ ap (λ (b : List ℕ). front ++ (name, b) ∷ []) (sym (append-nil bytes)))
+
+pub goes_more : (old between new : Option (List File)) (bytes piece : List ℕ) → GoesOn old between bytes → GoesOn between new piece
+    → GoesOn old new (bytes ++ piece)
+goes_more None between new bytes piece one two = tt
+goes_more (Some old) None new bytes piece one two = λ front name first is. absurd (cc (one front name first is))
+goes_more (Some old) (Some now) new bytes piece one two =
+    λ front name first is. two front name (first ++ bytes) (inside now (front ++ (name, first ++ bytes) ∷ []) (one front name first is))
+    ∙ ap (λ (b : List ℕ). Some (front ++ (name, b) ∷ [])) (append_assoc first bytes piece)
+
+pub same_goes : (old new : Option (List File)) → new ≡ old → GoesOn old new []
+same_goes old new is = subst (λ (n : Option (List File)). GoesOn old n []) (sym is) (goes_none old)
+
+-- a file that was started, and what came of it
+pub grows_then : (old between new : Option (List File)) (name bytes : List ℕ) → Grows old between ((name, []) ∷ []) → GoesOn between new bytes
+    → Grows old new ((name, bytes) ∷ [])
+grows_then None between new name bytes one two = tt
+grows_then (Some old) None new name bytes one two = absurd (cc one)
+grows_then (Some old) (Some now) new name bytes one two = two old name [] (inside now (old ++ (name, []) ∷ []) one)
+
+-- bytes that were read before, and a piece after them
+pub goes_given : {T E : Type 0} (first : Option (List File)) (before after : ReadAt) (old new : List ℕ) (result : Result T E)
+    → GoesOn first before.given old → (h : GivesOn before after old new result) → GoesOn first after.given (old ++ h.piece)
+goes_given first before after old new result one h = goes_more first before.given after.given old h.piece one h.goes
+
+pub goes_on : {T E : Type 0} (first : Option (List File)) (before after : ReadAt) (old new : List ℕ) (value : T) → GoesOn first before.given old
+    → GivesOn {T = T} {E = E} before after old new (Ok value) → GoesOn first after.given new
+goes_on {T} {E} first before after old new value one h =
+    subst (λ (x : List ℕ). GoesOn first after.given x) (sym h.all) (goes_given {T = T} {E = E} first before after old new (Ok value) one h)
+
+-- all of an open file, or what came of it
+pub all_over : (first before after : ReadAt) (old new all : List ℕ) (count : ℕ) → GoesOn first.given before.given old
+    → GivesOn {T = ℕ} {E = ReadError} before after old new (Ok count) → all ≡ new → HandsOver first after (Ok all)
+all_over first before after old new all count one h is =
+    record { bytes = new; goes = goes_on first.given before after old new count one h; all = is }
+
+pub part_over : (first before after : ReadAt) (old new : List ℕ) (result : Result ℕ ReadError) (error : ReadError) → GoesOn first.given before.given old
+    → GivesOn before after old new result → HandsOver first after (Err error)
+part_over first before after old new result error one h =
+    record { bytes = old ++ h.piece; goes = goes_given first.given before after old new result one h; all = tt }
+
+-- a file that was started, and read on
+pub started_given : (before between after : ReadAt) (name : List ℕ) (result : Result (List ℕ) ReadError)
+    → Grows before.given between.given ((name, []) ∷ []) → HandsOver between after result → IsGiven before after name result
+started_given before between after name result one h =
+    record { bytes = h.bytes; grows = grows_then before.given between.given after.given name h.bytes one h.goes; all = h.all }

@@ -1,0 +1,6 @@
+use Rattle.std.proofs.Common.{take}
+use Rattle.m51_stackbound.specs.Callers.{GoesOn}
+use Rattle.m51_stackbound.proofs.walking.Found.note_all.Given as goal
+
+abbrev pub invariant-loop-start : goal.invariant-loop-start
+invariant-loop-start l = GoesOn l.fn.self (take l.start-index l.starts) l.self

@@ -8,9 +8,9 @@ use Rattle.m51_inputs.specs.Objects.{module_in}
 use Rattle.m51_records.specs.Spelling.{bytes_of}
 use Rattle.m51_library.specs.Reading.{library_of}
 use Rattle.m51_library.specs.Spelling.{library_bytes}
-use Rattle.m51_words.specs.declared.job.LibraryJob.{LibraryJob}
-use Rattle.m51_words.specs.declared.job.Operation.{Operation}
-use Rattle.m51_words.specs.declared.job.Operation.TheVariants as operation
+use Rattle.m51_jobs.specs.declared.job.LibraryJob.{LibraryJob}
+use Rattle.m51_jobs.specs.declared.job.Operation.{Operation}
+use Rattle.m51_jobs.specs.declared.job.Operation.TheVariants as operation
 use Rattle.m51_chain.specs.declared.status.Status.TheVariants.{Ran}
 use Rattle.m51_chain.specs.Outcome.{Outcome, written}
 use Rattle.m51_chain.specs.Refusals.{object_outcome, library_outcome, edit_outcome}

@@ -5,8 +5,8 @@ ghost use Rattle.std.specs.Option.{option_copied};
 ghost use Rattle.m51_cells.specs.Outcome.{Gives};
 ghost use Rattle.m51_cells.specs.declared.limits.TheConstants.{MOST_FILE_BYTES};
 ghost use Rattle.m51_script.specs.Reading.{refusal_of};
-ghost use Rattle.m51_words.specs.declared.job.Job.TheVariants.{Flat};
-ghost use Rattle.m51_words.specs.Files.{names_read};
+ghost use Rattle.m51_jobs.specs.declared.job.Job.TheVariants.{Flat};
+ghost use Rattle.m51_jobs.specs.Files.{names_read};
 ghost use Rattle.m51_chain.specs.Outcome.{Comes, outcome_of};
 ghost use Rattle.m51_chain.specs.FlatRuns.{IsFlatOutcome, IsFlatWork, IsScripted, flat_report, script_in};
 

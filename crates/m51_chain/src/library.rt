@@ -9,7 +9,7 @@ ghost use Rattle.m51_module.specs.declared.library_error.LibError.{LibError as E
 ghost use Rattle.m51_module.specs.declared.parts.ModuleParts.{ModuleParts};
 ghost use Rattle.m51_module.specs.Library.{added_each, built, extracted, refusal_of};
 ghost use Rattle.m51_records.specs.Spelling.{bytes_of};
-ghost use Rattle.m51_words.specs.Files.{operation_reads};
+ghost use Rattle.m51_jobs.specs.Files.{operation_reads};
 ghost use Rattle.m51_chain.specs.Libraries.{HasFiles, IsNoBuild, first_and, object_in, objects_in};
 ghost use Rattle.m51_chain.specs.Libraries.{library_in};
 ghost use Rattle.m51_chain.specs.Libraries.{replaced_each, deleted_each, raised_each, kept_library, kept_module};

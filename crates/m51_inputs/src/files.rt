@@ -3,8 +3,8 @@ ghost use Rattle.std.specs.Prelude.{◌≡◌, ◌≤◌, length, IfOk};
 ghost use Rattle.m51_inputs.specs.Files.{sources_of, includes_of, source_words};
 
 use m51_cells::{Bytes, NoMemory, copy_of};
+use m51_jobs::{FileName, is_include, is_source};
 use m51_module::SourceFile;
-use m51_words::{FileName, is_include, is_source};
 use std::alloc::Global;
 
 // The file of this name, with a copy of its bytes.

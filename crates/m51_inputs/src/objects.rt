@@ -10,14 +10,14 @@ ghost use Rattle.m51_inputs.specs.Objects.{Linked, module_in, or_object, or_libr
 ghost use Rattle.m51_inputs.specs.Objects.{with_source, with_object, with_archive};
 ghost use Rattle.m51_inputs.specs.Steps.{Steps};
 ghost use Rattle.m51_module.specs.declared.parts.ModuleParts.{ModuleParts};
-ghost use Rattle.m51_words.specs.Endings.{ending_of};
+ghost use Rattle.m51_jobs.specs.Endings.{ending_of};
 
 use crate::error::InputError;
 use m51_cells::Bytes;
+use m51_jobs::{Ending, FileName, ending_of};
 use m51_library::read_library;
 use m51_module::{LibError, Library, Module, ObjError};
 use m51_records::{module_at, place};
-use m51_words::{Ending, FileName, ending_of};
 use std::alloc::Global;
 use std::collections::VecDeque;
 

@@ -18,8 +18,8 @@ use crate::sources::{assemble_each, modules_of};
 use m51_asm::Assembled;
 use m51_cells::Bytes;
 use m51_control::{ControlError, Controls, read_controls};
+use m51_jobs::FileName;
 use m51_script::{Script, ScriptError, read_script};
-use m51_words::FileName;
 use std::alloc::Global;
 
 // The control lines of a file, if there is one.

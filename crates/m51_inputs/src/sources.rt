@@ -2,7 +2,7 @@
 ghost use Rattle.std.specs.Prelude.{◌≡◌, ◌≤◌, [], ◌∷◌, ◌++◌, length, map, count_by, IfOk, OnOk};
 ghost use Rattle.m51_cells.specs.Outcome.{Gives};
 ghost use Rattle.m51_asm.specs.Answer.{IsAnswer, tree_of};
-ghost use Rattle.m51_words.specs.Endings.{is_source};
+ghost use Rattle.m51_jobs.specs.Endings.{is_source};
 ghost use Rattle.m51_inputs.specs.Files.{sources_of, includes_of};
 ghost use Rattle.m51_inputs.specs.Inputs.{refusal_of};
 ghost use Rattle.m51_inputs.specs.Sources.{AreAnswers, module_or_faults, modules_in, faults_in, unless_faults};
@@ -11,8 +11,8 @@ use crate::error::{FaultySources, InputError, SourceFaults};
 use crate::files::{includes_of, sources_of};
 use m51_asm::{Assembled, assemble};
 use m51_cells::{Bytes, NoMemory};
+use m51_jobs::FileName;
 use m51_module::{Faults, Module, SourceFile};
-use m51_words::FileName;
 use std::alloc::Global;
 use std::collections::VecDeque;
 

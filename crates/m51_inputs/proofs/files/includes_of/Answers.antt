@@ -1,5 +1,5 @@
 use Rattle.std.proofs.Common.{◌≡◌, ◌∙◌, true, false, sym, ap, length, length-append, ◌∷◌, [], arith}
-use Rattle.m51_words.specs.Endings.{is_include}
+use Rattle.m51_jobs.specs.Endings.{is_include}
 use Rattle.m51_inputs.proofs.FileLists.{file_kept, file_passed}
 use Rattle.m51_inputs.proofs.files.includes_of.Goals as goal
 use Rattle.m51_inputs.proofs.files.includes_of.Goals.{then-is_include+in_ok-file_of+in_ok-push, else-is_include}

@@ -1,5 +1,5 @@
 use Rattle.std.proofs.Common.{◌≡◌, ◌∙◌, true, false, sym, ap, arith}
-use Rattle.m51_words.specs.Endings.{is_source}
+use Rattle.m51_jobs.specs.Endings.{is_source}
 use Rattle.m51_inputs.proofs.FileLists.{file_kept, file_passed}
 use Rattle.m51_inputs.proofs.files.sources_of.Goals as goal
 use Rattle.m51_inputs.proofs.files.sources_of.Goals.{then-is_source+in_ok-file_of+in_ok-push, else-is_source}

@@ -1,5 +1,5 @@
 use Rattle.std.proofs.Common.{◌≡◌, ◌∙◌, length, sym, ap, arith}
-use Rattle.m51_words.specs.Endings.{is_source}
+use Rattle.m51_jobs.specs.Endings.{is_source}
 use Rattle.m51_inputs.proofs.FileLists.{count-files_that, only_file}
 use Rattle.m51_inputs.proofs.sources.assemble_source.Goals as goal
 

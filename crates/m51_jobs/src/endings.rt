@@ -3,9 +3,9 @@ ghost use Rattle.std.specs.Prelude.{◌≡◌, map};
 ghost use Rattle.std.specs.Char.{to_ascii_lowercase};
 ghost use Rattle.std.specs.List.{list_all};
 ghost use Rattle.std.specs.Str.{bytes_eq};
-ghost use Rattle.m51_words.specs.Endings.{ending_of, last_four, is_source, is_include, is_text, has_ending};
-ghost use Rattle.m51_words.specs.Endings.{are_built, are_assembled, is_not_empty, are_objects, are_boards};
-ghost use Rattle.m51_words.specs.Texts.{lent};
+ghost use Rattle.m51_jobs.specs.Endings.{ending_of, last_four, is_source, is_include, is_text, has_ending};
+ghost use Rattle.m51_jobs.specs.Endings.{are_built, are_assembled, is_not_empty, are_objects, are_boards};
+ghost use Rattle.m51_jobs.specs.Texts.{lent};
 
 /// The fewest boards of a party line.
 ///
@@ -107,17 +107,21 @@ fn have_endings(files: &[&str]) -> bool
     true
 }
 
-// Whether these are file words of `build`: one or more, each with one of the four endings.
+/// Whether these may be the files of `build`: one or more, each with one of the four endings.
+///
+/// Source: own choice ("Words").
 #[tactic(auto, unfolding(crate::specs::Endings::are_built))]
-pub(crate) fn are_built(files: &[&str]) -> bool
+pub fn are_built(files: &[&str]) -> bool
     ensures { result ≡ are_built (lent files.now) }
 {
     !files.is_empty() && have_endings(files)
 }
 
-// Whether these are file words of `asm`: sources and includes, of which one is a source.
+/// Whether these may be the files of `asm`: sources and includes, of which one is a source.
+///
+/// Source: own choice ("Words").
 #[tactic(auto, unfolding(crate::specs::Endings::are_assembled))]
-pub(crate) fn are_assembled(files: &[&str]) -> bool
+pub fn are_assembled(files: &[&str]) -> bool
     ensures { result ≡ are_assembled (lent files.now) }
 {
     let mut sources: usize = 0;
@@ -151,9 +155,11 @@ fn are_not_empty(files: &[&str]) -> bool
     true
 }
 
-// Whether these may be objects of a library: one or more, none with an empty name.
+/// Whether these may be objects of a library: one or more, none with an empty name.
+///
+/// Source: own choice ("Words").
 #[tactic(auto, unfolding(crate::specs::Endings::are_objects))]
-pub(crate) fn are_objects(files: &[&str]) -> bool
+pub fn are_objects(files: &[&str]) -> bool
     ensures { result ≡ are_objects (lent files.now) }
 {
     !files.is_empty() && are_not_empty(files)
@@ -171,9 +177,11 @@ fn are_sources(files: &[&str]) -> bool
     true
 }
 
-// Whether these are file words of `party`: 2 to 8 sources.
+/// Whether these may be the files of `party`: 2 to 8 sources.
+///
+/// Source: own choice ("Words").
 #[tactic(auto, unfolding(crate::specs::Endings::are_boards))]
-pub(crate) fn are_boards(files: &[&str]) -> bool
+pub fn are_boards(files: &[&str]) -> bool
     ensures { result ≡ are_boards (lent files.now) }
 {
     LEAST_BOARDS <= files.len() && files.len() <= MOST_BOARDS && are_sources(files)

@@ -3,8 +3,8 @@ ghost use Rattle.std.specs.Prelude.{◌≡◌, ◌≤◌, IfSome};
 ghost use Rattle.std.specs.Char.{is_ascii_digit};
 ghost use Rattle.std.specs.List.{list_all};
 ghost use Rattle.m51_cells.specs.declared.limits.TheConstants.{MOST_STEPS};
-ghost use Rattle.m51_words.specs.declared.numbers.TheConstants.{MOST_GENERATED_UNITS};
-ghost use Rattle.m51_words.specs.Numbers.{number_of, steps_of, start_of, units_of};
+ghost use Rattle.m51_jobs.specs.declared.numbers.TheConstants.{MOST_GENERATED_UNITS};
+ghost use Rattle.m51_jobs.specs.Numbers.{number_of, steps_of, start_of, units_of};
 
 use m51_cells::MOST_STEPS;
 use std::marker::Model;
@@ -86,23 +86,29 @@ fn number_of(text: &str, most: usize, low: u32, high: u32) -> Option<u32>
     }
 }
 
-// A number of steps: 1 to 8 digits, of a value from 1 to 10,000,000.
-pub(crate) fn steps_of(text: &str) -> Option<Steps>
+/// A number of steps: 1 to 8 digits, of a value from 1 to 10,000,000; `None` for any other text.
+///
+/// Source: own choice ("Words").
+pub fn steps_of(text: &str) -> Option<Steps>
     ensures { result ≡ steps_of text.now }
 {
     Some(Steps::of(number_of(text, STEPS_DIGITS, 1, MOST_STEPS)?))
 }
 
-// The start of the generator: 1 to 10 digits, of a value below 4,294,967,296.
-pub(crate) fn start_of(text: &str) -> Option<u32>
+/// The start of the generator: 1 to 10 digits, of a value below 4,294,967,296; `None` for any other text.
+///
+/// Source: own choice ("Words").
+pub fn start_of(text: &str) -> Option<u32>
     ensures { result ≡ start_of text.now }
 {
     number_of(text, START_DIGITS, 0, u32::MAX)
 }
 
-// A number of units: digits with no leading zero, of a value from 1 to 100.
+/// A number of units: digits with no leading zero, of a value from 1 to 100; `None` for any other text.
+///
+/// Source: own choice ("Words").
 #[tactic(auto, unfolding(crate::specs::Numbers::units_of))]
-pub(crate) fn units_of(text: &str) -> Option<u32>
+pub fn units_of(text: &str) -> Option<u32>
     ensures value { result ≡ units_of text.now }
     ensures bounds { IfSome result (λ units. (1 ≤ units) × (units ≤ MOST_GENERATED_UNITS)) }
 {

@@ -2,7 +2,7 @@
 ghost use Rattle.std.specs.Prelude.{◌≡◌, ◌++◌, IfOk, Some, decimal, option_map};
 ghost use Rattle.m51_hex.specs.Reading.{refusal_of as hex_refusal};
 ghost use Rattle.m51_module.specs.Library.{refusal_of as library_refusal};
-ghost use Rattle.m51_records.specs.Fields.{refusal_of as object_refusal};
+ghost use Rattle.m51_frame.specs.Fields.{refusal_of as object_refusal};
 ghost use Rattle.m51_jobs.specs.Texts.{lent};
 ghost use Rattle.m51_chain.specs.Outcome.{answer_of, stopped, usage_answer, many_answer, long_answer, unread_answer};
 ghost use Rattle.m51_chain.specs.Refusals.{joined, object_words, library_outcome, object_outcome, edit_outcome};

@@ -1,8 +1,8 @@
 //! What is round the contents of a record: type, length and checksum.
 ghost use Rattle.std.specs.Prelude.{◌≡◌, ◌<◌, ◌++◌, ◌∷◌, ◌+◌, ◌*◌, [], length, OnOk, IfOk};
-ghost use Rattle.m51_records.specs.Fields.{Reads};
-ghost use Rattle.m51_records.specs.Frame.{checksum_of, record_of, begins, summed, closed, lengthed, record_at};
-ghost use Rattle.m51_records.specs.Frame.{checksum_place};
+ghost use Rattle.m51_frame.specs.Fields.{Reads};
+ghost use Rattle.m51_frame.specs.Frame.{checksum_of, record_of, begins, summed, closed, lengthed, record_at};
+ghost use Rattle.m51_frame.specs.Frame.{checksum_place};
 
 use crate::fields::{broken, place, put_pair};
 use byteorder::{ByteOrder, LittleEndian};
@@ -22,7 +22,7 @@ fn checksum(bytes: &[u8]) -> u8
 /// Whether the bytes begin with a record of the type.
 ///
 /// Source: OMF-51.
-pub(crate) fn begins(record_type: u8, bytes: &[u8]) -> bool
+pub fn begins(record_type: u8, bytes: &[u8]) -> bool
     ensures { result ≡ begins record_type bytes.now }
 {
     match bytes {
@@ -136,11 +136,7 @@ pub fn checksum_place(total: u32, after: &[u8]) -> u32
 /// Appends a record of the type with these contents.
 ///
 /// Source: OMF-51.
-pub(crate) fn put_record(
-    out: &mut Vec<u8>,
-    record_type: u8,
-    contents: &[u8],
-) -> Result<(), NoMemory>
+pub fn put_record(out: &mut Vec<u8>, record_type: u8, contents: &[u8]) -> Result<(), NoMemory>
     requires { length contents.now < 65535 }
     ensures { OnOk result (out.new.items ≡ out.old.items ++ record_of record_type contents.now) }
 {

@@ -1,8 +1,8 @@
 use Rattle.std.proofs.Common.{subst}
 use Rattle.m51_cells.specs.declared.extent.Extent.{Extent}
 use Rattle.m51_cells.specs.Extent.{Meet}
-use Rattle.m51_place.proofs.Raised.{raised_is}
-use Rattle.m51_place.proofs.searching.raise.Goals as goal
+use Rattle.m51_bases.proofs.Raised.{raised_is}
+use Rattle.m51_bases.proofs.searching.raise.Goals as goal
 
 pub returns : goal.returns
 returns c =

@@ -12,7 +12,7 @@ use Rattle.m51_cells.specs.declared.kind.Reloc.TheVariants.{Abs, Unit as UnitTyp
 use Rattle.m51_cells.specs.Extent.{extent_of, Covers, Meet}
 use Rattle.m51_cells.specs.Fits.{Fits, FitsBlock, FitsMemory}
 use Rattle.m51_cells.proofs.Meeting.{parted, shared}
-use Rattle.m51_place.specs.Raising.{HasNoFit, IsBlocked, IsClear, IsNextFit, IsOutside, IsRaised, NoneBelow}
+use Rattle.m51_bases.specs.Raising.{HasNoFit, IsBlocked, IsClear, IsNextFit, IsOutside, IsRaised, NoneBelow}
 
 -- a segment at a higher base
 record IsHigher (kind : Kind) (size base lower : ℕ) : Type 0 where

@@ -1,8 +1,9 @@
 -- Of the code: how the least base is found. A base is raised after each extent that it meets.
-use Rattle.std.specs.Prelude.{◌≡◌, ℕ, zero, suc, ◌+◌, ◌*◌, ◌/◌, max, nat_eq, if◌then◌else◌, ◌&&◌, [], ◌∷◌, ◌<◌, ◌≤◌}
-use Rattle.std.specs.Prelude.{List, map, filter}
+use Rattle.std.specs.Prelude.{◌≡◌, ℕ, zero, suc, ◌+◌, ◌*◌, ◌/◌, max, nat_eq, if◌then◌else◌, ◌<◌, ◌≤◌}
+use Rattle.std.specs.Prelude.{Bool, true, false, List}
 use Rattle.std.specs.List.{All}
 use Rattle.m51_cells.specs.declared.cell.Space.{Space}
+use Rattle.m51_cells.specs.declared.cell.Space.TheVariants.{Ram, Xram, Code as CodeSpace}
 use Rattle.m51_cells.specs.declared.extent.Extent.{Extent}
 use Rattle.m51_cells.specs.declared.kind.Kind.{Kind}
 use Rattle.m51_cells.specs.declared.kind.Kind.TheVariants.{Code, Xdata, Direct}
@@ -10,14 +11,15 @@ use Rattle.m51_cells.specs.declared.kind.Reloc.{Reloc}
 use Rattle.m51_cells.specs.declared.kind.Reloc.TheVariants.{Bitaddressable, Inpage, Inblock, Page}
 use Rattle.m51_cells.specs.Extent.{extent_of, Meet}
 use Rattle.m51_cells.specs.Fits.{Fits}
-use Rattle.m51_module.specs.declared.placed.Placed.{Placed}
-use Rattle.m51_module.specs.Cells.{extent_at}
-use Rattle.m51_graph.specs.declared.parts.GraphParts.{GraphParts}
-use Rattle.m51_place.specs.declared.numbered.Numbered.{Numbered}
-use Rattle.m51_place.specs.Bases.{same_space}
-use Rattle.m51_place.specs.Placement.{in_conflict_with}
-use Rattle.m51_place.specs.declared.searching.Search.{Search}
-use Rattle.m51_place.specs.declared.searching.Search.TheVariants.{Clear, Raised, Full}
+use Rattle.m51_bases.specs.declared.searching.Search.{Search}
+use Rattle.m51_bases.specs.declared.searching.Search.TheVariants.{Clear, Raised, Full}
+
+-- the two memories are one
+abbrev pub same_space : Space → Space → Bool
+same_space Ram Ram = true
+same_space Xram Xram = true
+same_space CodeSpace CodeSpace = true
+same_space _ _ = false
 
 -- the first base from there on whose block of that many bytes has room for the segment, or the next block
 abbrev pub in_block : ℕ → ℕ → ℕ → ℕ
@@ -97,14 +99,3 @@ pub record IsFirstClear (extents : List Extent) (kind : Kind) (reloc : Reloc) (s
   pub clear : IsClear extents kind reloc size base
   pub none : NoneBelow extents kind reloc size base
   pub most : base ≤ 65536
-
--- the extents that lie in this memory
-abbrev pub extents_in : Space → List Placed → List Extent
-extents_in space conflicting = filter (λ (e : Extent). same_space e.space space) (map extent_at conflicting)
-
--- the cells of the extents of this memory that are in conflict with the joined segment
-abbrev pub in_the_way : GraphParts → ℕ → Space → List Numbered → List Extent
-in_the_way g number space [] = []
-in_the_way g number space (e ∷ more) =
-    if same_space (extent_at e.placed).space space && in_conflict_with g number e
-    then extent_at e.placed ∷ in_the_way g number space more else in_the_way g number space more

@@ -4,9 +4,8 @@ ghost use Rattle.std.specs.List.{All};
 ghost use Rattle.std.specs.List.Sorted.{IsPermutation};
 ghost use Rattle.m51_cells.specs.Extent.{extent_of, Meet};
 ghost use Rattle.m51_cells.specs.Fits.{allows, Fits};
-ghost use Rattle.m51_place.specs.Bases.{same_space};
-ghost use Rattle.m51_place.specs.Raising.{EndsWithin, in_block, rounded, HasNoFit, IsBlocked, IsClear, IsFirstClear};
-ghost use Rattle.m51_place.specs.Raising.{IsNextFit, IsRaised, NoneBelow, NoneIsClear, Passes};
+ghost use Rattle.m51_bases.specs.Raising.{EndsWithin, in_block, rounded, HasNoFit, IsBlocked, IsClear, IsFirstClear};
+ghost use Rattle.m51_bases.specs.Raising.{IsNextFit, IsRaised, NoneBelow, NoneIsClear, Passes, same_space};
 
 use m51_cells::{Extent, Kind, NoMemory, Reloc, Space, cells_of, fits, meets};
 
@@ -126,8 +125,10 @@ fn pass(extents: &[Extent], kind: Kind, reloc: Reloc, size: u32, base: u32) -> S
     }
 }
 
-// Whether the memories are one.
-pub(crate) fn same_space(one: Space, two: Space) -> bool
+/// Whether the memories are one.
+///
+/// Source: own choice ("Bases that fit").
+pub fn same_space(one: Space, two: Space) -> bool
     ensures { result ≡ same_space one two }
 {
     one == two
@@ -145,8 +146,11 @@ fn ascend(extents: &[Extent]) -> bool {
     true
 }
 
-// Puts the extents into ascending order, so that going over them once raises the base as far as it goes.
-pub(crate) fn arrange(extents: &mut Vec<Extent>) -> Result<(), NoMemory>
+/// Puts the extents into ascending order, so that going over them once raises the base as far as it goes. Error: out of
+/// memory.
+///
+/// Source: own choice ("Bases that fit").
+pub fn arrange(extents: &mut Vec<Extent>) -> Result<(), NoMemory>
     ensures { IsPermutation extents.old.items extents.new.items }
 {
     if !ascend(extents) {
@@ -155,8 +159,11 @@ pub(crate) fn arrange(extents: &mut Vec<Extent>) -> Result<(), NoMemory>
     Ok(())
 }
 
-// The least base at which the segment fits and shares no cell with these extents.
-pub(crate) fn first_clear(extents: &[Extent], kind: Kind, reloc: Reloc, size: u32) -> Option<u32>
+/// The least base at which the segment fits and shares no cell with these extents; `None` where there is none. Its size
+/// is at most 65,535.
+///
+/// Source: own choice ("Bases that fit").
+pub fn first_clear(extents: &[Extent], kind: Kind, reloc: Reloc, size: u32) -> Option<u32>
     requires kind { kind ≢ Kind.Number }
     requires reloc { allows kind reloc ≡ true }
     requires size { size ≤ 65535 }

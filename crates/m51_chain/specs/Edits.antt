@@ -5,8 +5,8 @@ use Rattle.m51_inputs.specs.Objects.{module_in}
 use Rattle.m51_module.specs.declared.library_error.LibError.{LibError}
 use Rattle.m51_module.specs.declared.parts.ModuleParts.{ModuleParts}
 use Rattle.m51_module.specs.Library.{added, deleted, raised_in, replaced}
-use Rattle.m51_words.specs.declared.job.Operation.{Operation}
-use Rattle.m51_words.specs.declared.job.Operation.TheVariants as operation
+use Rattle.m51_jobs.specs.declared.job.Operation.{Operation}
+use Rattle.m51_jobs.specs.declared.job.Operation.TheVariants as operation
 use Rattle.m51_chain.specs.declared.editing.Edit.{Edit}
 use Rattle.m51_chain.specs.declared.editing.Edit.TheVariants as edit
 use Rattle.m51_chain.specs.Outcome.{Outcome, or_refused, then_do}

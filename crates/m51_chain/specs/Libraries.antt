@@ -6,9 +6,9 @@ use Rattle.m51_module.specs.Library.{extracted}
 use Rattle.m51_records.specs.Spelling.{bytes_of}
 use Rattle.m51_library.specs.Reading.{library_of}
 use Rattle.m51_library.specs.Spelling.{library_bytes}
-use Rattle.m51_words.specs.declared.job.LibraryJob.{LibraryJob}
-use Rattle.m51_words.specs.declared.job.Operation.{Operation}
-use Rattle.m51_words.specs.declared.job.Operation.TheVariants as operation
+use Rattle.m51_jobs.specs.declared.job.LibraryJob.{LibraryJob}
+use Rattle.m51_jobs.specs.declared.job.Operation.{Operation}
+use Rattle.m51_jobs.specs.declared.job.Operation.TheVariants as operation
 use Rattle.m51_chain.specs.declared.status.Status.TheVariants.{Ran}
 use Rattle.m51_chain.specs.Edits.{edited_each, edits_of}
 use Rattle.m51_chain.specs.Outcome.{Outcome, or_refused, then_do, written}

@@ -1,7 +1,7 @@
 //! The verb `gen`.
 ghost use Rattle.std.specs.Prelude.{◌≡◌, ◌≤◌, [], IfOk, length};
 ghost use Rattle.m51_linker.specs.Link.{IsReady};
-ghost use Rattle.m51_words.specs.declared.numbers.TheConstants.{MOST_GENERATED_UNITS};
+ghost use Rattle.m51_jobs.specs.declared.numbers.TheConstants.{MOST_GENERATED_UNITS};
 ghost use Rattle.m51_chain.specs.Generates.{IsCounted, IsGenOutcome, overlaid_size, overlaid_sizes, summary_outcome};
 ghost use Rattle.m51_chain.specs.Linking.{IsProgramOutcome, alone};
 ghost use Rattle.m51_chain.specs.Outcome.{Comes, outcome_of, status_at, status_by, text_at};

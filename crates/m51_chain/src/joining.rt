@@ -6,10 +6,10 @@ ghost use Rattle.m51_cells.specs.declared.limits.TheConstants.{MOST_FILES, MOST_
 ghost use Rattle.m51_party.specs.Family.{IsFresh};
 ghost use Rattle.m51_party.specs.Rounds.{family_of};
 ghost use Rattle.m51_script.specs.declared.script.Script.{Script as ScriptState};
-ghost use Rattle.m51_words.specs.declared.endings.TheConstants.{LEAST_BOARDS, MOST_BOARDS};
-ghost use Rattle.m51_words.specs.declared.job.Job.TheVariants.{Party};
-ghost use Rattle.m51_words.specs.Endings.{are_boards};
-ghost use Rattle.m51_words.specs.Files.{names_read};
+ghost use Rattle.m51_jobs.specs.declared.endings.TheConstants.{LEAST_BOARDS, MOST_BOARDS};
+ghost use Rattle.m51_jobs.specs.declared.job.Job.TheVariants.{Party};
+ghost use Rattle.m51_jobs.specs.Endings.{are_boards};
+ghost use Rattle.m51_jobs.specs.Files.{names_read};
 ghost use Rattle.m51_chain.specs.FlatRuns.{script_in};
 ghost use Rattle.m51_chain.specs.Outcome.{Comes, outcome_of};
 ghost use Rattle.m51_chain.specs.Parties.{AreBoardsOr, IsBoardOr, IsPartyOutcome, party_report};

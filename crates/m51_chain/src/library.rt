@@ -6,7 +6,7 @@ ghost use Rattle.m51_cells.specs.Outcome.{Gives};
 ghost use Rattle.m51_module.specs.declared.library_error.LibError.{LibError as Error};
 ghost use Rattle.m51_module.specs.declared.parts.ModuleParts.{ModuleParts};
 ghost use Rattle.m51_module.specs.Library.{extracted, refusal_of};
-ghost use Rattle.m51_words.specs.Files.{operation_reads};
+ghost use Rattle.m51_jobs.specs.Files.{operation_reads};
 ghost use Rattle.m51_chain.specs.Edits.{HasFiles};
 ghost use Rattle.m51_chain.specs.Libraries.{IsNoBuild, edited_library, keeping, kept_library, kept_module, library_in};
 ghost use Rattle.m51_chain.specs.Libraries.{library_outcome_of, library_work, name_line, operated, with_library};

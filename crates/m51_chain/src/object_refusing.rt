@@ -1,7 +1,7 @@
 //! Refusals of objects, libraries and edits, with their texts.
 ghost use Rattle.std.specs.Prelude.{◌≡◌, ◌++◌, IfOk, Some, decimal, option_map};
 ghost use Rattle.m51_module.specs.Library.{refusal_of as library_refusal};
-ghost use Rattle.m51_records.specs.Fields.{refusal_of as object_refusal};
+ghost use Rattle.m51_frame.specs.Fields.{refusal_of as object_refusal};
 ghost use Rattle.m51_chain.specs.Outcome.{stopped};
 ghost use Rattle.m51_chain.specs.Refusals.{edit_outcome, edit_refused, file_refused, full, library_outcome};
 ghost use Rattle.m51_chain.specs.Refusals.{object_outcome, object_words};

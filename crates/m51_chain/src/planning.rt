@@ -3,9 +3,9 @@ ghost use Rattle.std.specs.Prelude.{◌≡◌, ◌⊎◌, ◌≤◌, IfOk, None,
 ghost use Rattle.std.specs.List.{All};
 ghost use Rattle.m51_cells.specs.declared.limits.TheConstants.{MOST_FILES, MOST_FILE_BYTES};
 ghost use Rattle.m51_shelf.specs.States.{OnlyReads};
-ghost use Rattle.m51_words.specs.Files.{file_count, name_kept, names_read};
+ghost use Rattle.m51_jobs.specs.Files.{file_count, name_kept, names_read};
 ghost use Rattle.m51_words.specs.Jobs.{job_of};
-ghost use Rattle.m51_words.specs.Texts.{texts};
+ghost use Rattle.m51_jobs.specs.Texts.{texts};
 ghost use Rattle.m51_chain.specs.Asked.{IsFit};
 ghost use Rattle.m51_chain.specs.Due.{IsDue, IsDueFor, IsPlanned, ReadsOnly};
 ghost use Rattle.m51_chain.specs.Expected.{HasOutcome};

@@ -1,6 +1,6 @@
 //! Refusals before the work of a verb, with their texts.
 ghost use Rattle.std.specs.Prelude.{◌≡◌, IfOk};
-ghost use Rattle.m51_words.specs.Texts.{lent};
+ghost use Rattle.m51_jobs.specs.Texts.{lent};
 ghost use Rattle.m51_chain.specs.Outcome.{answer_of, usage_answer, many_answer, long_answer, unread_answer};
 ghost use Rattle.m51_chain.specs.Refusals.{joined};
 

@@ -1,7 +1,7 @@
 //! The top call.
 ghost use Rattle.std.specs.Prelude.{◌≡◌, ◌⊎◌, ◌≤◌, None, Some};
 ghost use Rattle.m51_words.specs.Jobs.{job_of};
-ghost use Rattle.m51_words.specs.Texts.{texts};
+ghost use Rattle.m51_jobs.specs.Texts.{texts};
 ghost use Rattle.m51_chain.specs.Complete.{IsComplete};
 ghost use Rattle.m51_chain.specs.Due.{ReadsOnly};
 ghost use Rattle.m51_chain.specs.Expected.{IsAnswer};

@@ -5,7 +5,7 @@ ghost use Rattle.m51_cells.specs.declared.limits.TheConstants.{MOST_STEPS};
 ghost use Rattle.m51_party.specs.Family.{IsFresh};
 ghost use Rattle.m51_party.specs.Report.{IsPartyReport};
 ghost use Rattle.m51_party.specs.Rounds.{family_of};
-ghost use Rattle.m51_words.specs.declared.endings.TheConstants.{LEAST_BOARDS, MOST_BOARDS};
+ghost use Rattle.m51_jobs.specs.declared.endings.TheConstants.{LEAST_BOARDS, MOST_BOARDS};
 
 use m51_cells::NoMemory;
 use m51_party::{Party, PartyEnd};

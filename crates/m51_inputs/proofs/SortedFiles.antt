@@ -2,9 +2,9 @@
 use Rattle.std.proofs.Common.{◌≡◌, ◌∙◌, ℕ, suc, ◌+◌, ◌<◌, ◌≤◌, Bool, true, false, cond, List, [], ◌∷◌, ◌++◌, length, map, drop, get_or, Option, Some, None, refl, ap, sym, subst, append_assoc, append-nil, add-one, drop-cons, length-append, arith}
 use Rattle.std.proofs.lemmas.List.{drop_all}
 use Rattle.m51_module.specs.declared.source.SourceFile.{SourceFile}
-use Rattle.m51_words.specs.declared.endings.Ending.{Ending}
-use Rattle.m51_words.specs.declared.endings.Ending.TheVariants as ending
-use Rattle.m51_words.specs.Endings.{ending_of, is_source, is_include, is_a_source, is_an_include}
+use Rattle.m51_jobs.specs.declared.endings.Ending.{Ending}
+use Rattle.m51_jobs.specs.declared.endings.Ending.TheVariants as ending
+use Rattle.m51_jobs.specs.Endings.{ending_of, is_source, is_include, is_a_source, is_an_include}
 use Rattle.m51_inputs.specs.declared.sorting.Sorted.{Sorted}
 use Rattle.m51_inputs.specs.declared.sorting.Source.{Source}
 use Rattle.m51_inputs.specs.Files.{files_that, includes_of, source_words, sources_of}

@@ -1,9 +1,9 @@
 -- The files of a program by kind, as one pass over them finds them.
 use Rattle.std.specs.Prelude.{◌≡◌, ◌≤◌, ℕ, List, [], ◌∷◌, ◌++◌, length, map, Option, Some}
 use Rattle.m51_module.specs.declared.source.SourceFile.{SourceFile}
-use Rattle.m51_words.specs.declared.endings.Ending.{Ending}
-use Rattle.m51_words.specs.declared.endings.Ending.TheVariants as ending
-use Rattle.m51_words.specs.Endings.{ending_of}
+use Rattle.m51_jobs.specs.declared.endings.Ending.{Ending}
+use Rattle.m51_jobs.specs.declared.endings.Ending.TheVariants as ending
+use Rattle.m51_jobs.specs.Endings.{ending_of}
 use Rattle.m51_inputs.specs.declared.sorting.Sorted.{Sorted}
 use Rattle.m51_inputs.specs.declared.sorting.Source.{Source}
 use Rattle.m51_inputs.specs.Files.{includes_of, source_words, sources_of}

@@ -3,7 +3,7 @@ use Rattle.std.specs.Prelude.{◌≡◌, ℕ, ◌+◌, List, [], ◌∷◌, ◌+
 use Rattle.m51_cells.specs.Outcome.{◌>>=◌, RefusesWith}
 use Rattle.m51_asm.specs.Answer.{AnswerTree}
 use Rattle.m51_module.specs.declared.parts.ModuleParts.{ModuleParts}
-use Rattle.m51_words.specs.declared.endings.Ending.{Ending}
+use Rattle.m51_jobs.specs.declared.endings.Ending.{Ending}
 use Rattle.m51_inputs.specs.declared.error.InputError.{InputError}
 use Rattle.m51_inputs.specs.declared.objects.LinkedFiles.{LinkedFiles}
 use Rattle.m51_inputs.specs.Inputs.{InputsTree, controls_in, refusal_of, script_in}

@@ -3,7 +3,7 @@ ghost use Rattle.std.specs.Prelude.{◌≡◌, ◌<◌, ◌≤◌, ◌^◌, List
 ghost use Rattle.m51_cells.specs.declared.limits.TheConstants.{MOST_FILE_BYTES};
 ghost use Rattle.m51_cells.specs.Outcome.{Gives};
 ghost use Rattle.m51_library.specs.Reading.{at_end, library_of};
-ghost use Rattle.m51_records.specs.Fields.{Reads};
+ghost use Rattle.m51_frame.specs.Fields.{Reads};
 ghost use Rattle.m51_inputs.specs.Inputs.{refusal_of};
 ghost use Rattle.m51_inputs.specs.declared.error.InputError.{InputError as Error};
 ghost use Rattle.m51_inputs.specs.Objects.{Linked, module_in, or_object, or_library, linked_by, linked};
@@ -15,8 +15,9 @@ use crate::error::InputError;
 use m51_cells::{Bytes, ListOf};
 use m51_library::read_library;
 use m51_module::{LibError, Library, Module, ObjError};
-use m51_records::{module_at, place};
-use m51_words::Ending;
+use m51_frame::place;
+use m51_records::module_at;
+use m51_jobs::Ending;
 use std::alloc::Global;
 use std::collections::VecDeque;
 

@@ -15,7 +15,7 @@ use crate::sources::{Answered, assemble_each, modules_of};
 use m51_cells::{Bytes, ListOf};
 use m51_control::{ControlError, Controls, read_controls};
 use m51_script::{Script, ScriptError, read_script};
-use m51_words::{Ending, FileName};
+use m51_jobs::{Ending, FileName};
 use std::alloc::Global;
 
 // The control lines of a file, if there is one.

@@ -1,11 +1,11 @@
 //! The files of a program by kind.
 ghost use Rattle.std.specs.Prelude.{◌≡◌, length, IfOk, OnOk};
 ghost use Rattle.m51_inputs.specs.Sorting.{IsSorted, with_file};
-ghost use Rattle.m51_words.specs.Endings.{ending_of};
+ghost use Rattle.m51_jobs.specs.Endings.{ending_of};
 
 use m51_cells::{Bytes, ListOf, NoMemory, copy_of};
 use m51_module::SourceFile;
-use m51_words::{Ending, FileName, ending_of};
+use m51_jobs::{Ending, FileName, ending_of};
 use std::alloc::Global;
 
 // A source, and the index of its word, counted from 0.

@@ -2,7 +2,7 @@
 ghost use Rattle.std.specs.Prelude.{◌≡◌, ◌≤◌, [], ◌∷◌, ◌++◌, length, count_by, IfOk, OnOk};
 ghost use Rattle.m51_cells.specs.Outcome.{Gives};
 ghost use Rattle.m51_asm.specs.Answer.{IsAnswer, tree_of};
-ghost use Rattle.m51_words.specs.Endings.{is_source};
+ghost use Rattle.m51_jobs.specs.Endings.{is_source};
 ghost use Rattle.m51_inputs.specs.Answered.{answers_of, words_of};
 ghost use Rattle.m51_inputs.specs.Files.{sources_of, includes_of};
 ghost use Rattle.m51_inputs.specs.Inputs.{refusal_of};
@@ -14,7 +14,7 @@ use crate::sorting::{Sorted, Source, sort};
 use m51_asm::{Assembled, assemble};
 use m51_cells::{Bytes, ListOf, NoMemory};
 use m51_module::{Faults, Module, SourceFile};
-use m51_words::FileName;
+use m51_jobs::FileName;
 use std::alloc::Global;
 use std::collections::VecDeque;
 

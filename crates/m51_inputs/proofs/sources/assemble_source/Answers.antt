@@ -1,6 +1,6 @@
 use Rattle.std.proofs.Common.{◌≡◌, ◌∙◌, length, sym, ap, arith}
 use Rattle.std.proofs.lemmas.List.{length-map}
-use Rattle.m51_words.specs.Endings.{is_source}
+use Rattle.m51_jobs.specs.Endings.{is_source}
 use Rattle.m51_inputs.specs.Files.{sources_of}
 use Rattle.m51_inputs.proofs.AnswerLists.{only_source, some_source}
 use Rattle.m51_inputs.proofs.FileLists.{count-files_that}

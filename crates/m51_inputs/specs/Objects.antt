@@ -36,7 +36,7 @@ pub record Linked : Type 0 where
   pub libraries : List (List ModuleParts)
 
 abbrev pub linked : LinkedFiles → Linked
-linked files = record { modules = files.modules.items; libraries = files.libraries.items }
+linked files = record { modules = files.modules; libraries = files.libraries }
 
 -- these before what the words after give, unless that is refused
 abbrev pub with_module : Result Linked InputError → ModuleParts → Result Linked InputError

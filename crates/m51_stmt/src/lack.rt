@@ -10,7 +10,7 @@ ghost use Rattle.m51_stmt.specs.Lack.{is_unclosed};
 
 use crate::words::{begins_expression, begins_operand, first_is_operator, is_text};
 use m51_cells::NoMemory;
-use m51_expr::{ReadError, Symbol, Unary, is_close, is_open, read_expr};
+use m51_expr::{ReadError, Symbol, Unary, is_close, is_open, read_symbols};
 use std::alloc::Global;
 
 /// What is needed after each comma of a line: an operand of an instruction, an expression of DW, an expression or a
@@ -56,7 +56,7 @@ fn expression_len(alloc: Global, symbols: &[Symbol]) -> Result<Option<usize>, No
     ensures len { IfOk result (λ len. len ≡ many (expression_in symbols.now)) }
     ensures within { IfOk result (λ len. IfSome len (λ n. (0 < n) × (n ≤ length symbols.now))) }
 {
-    match read_expr(alloc, symbols) {
+    match read_symbols(alloc, symbols) {
         Ok((_value, many)) => Ok(Some(many)),
         Err(ReadError::Fault { .. }) => Ok(None),
         Err(ReadError::Memory) => Err(NoMemory),

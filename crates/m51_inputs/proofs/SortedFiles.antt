@@ -1,6 +1,6 @@
 -- Files by kind, one file after the other.
 use Rattle.std.proofs.Common.{◌≡◌, ◌∙◌, ℕ, suc, ◌+◌, ◌<◌, ◌≤◌, Bool, true, false, cond, List, [], ◌∷◌, ◌++◌, length, map, drop, get_or, Option, Some, None, refl, ap, sym, subst, append_assoc, append-nil, add-one, drop-cons, length-append, arith}
-use Rattle.std.proofs.lemmas.List.{drop_all}
+use Rattle.std.proofs.lemmas.List.{drop_all, length-map}
 use Rattle.m51_module.specs.declared.source.SourceFile.{SourceFile}
 use Rattle.m51_jobs.specs.declared.endings.Ending.{Ending}
 use Rattle.m51_jobs.specs.declared.endings.Ending.TheVariants as ending
@@ -96,14 +96,20 @@ sorted_more names contents i name bytes None s some more at has is h =
     passed names contents i name None s some more at is (ap is_a_source is) (ap is_an_include is) h
 
 -- no file is left
+endings_all : (names : List (List ℕ)) (i : ℕ) (found : List (Option Ending)) → i ≡ length names → found ++ map ending_of (drop i names) ≡ map ending_of names
+    → found ≡ map ending_of names
+endings_all names i found end h =
+    sym (append-nil found) ∙ ap (λ (ns : List (List ℕ)). found ++ map ending_of ns) (sym (drop_all i names (omega (arith, end)))) ∙ h
+
 pub sorted_all : (names contents : List (List ℕ)) (i : ℕ) (s : Sorted) → i ≡ length names → length contents ≡ length names → IsSortedTo i names contents s
     → IsSorted names contents s
 sorted_all names contents i s end count h =
     let none : drop i names ≡ [] = drop_all i names (omega (arith, end)) in
     record {
-      endings = sym (append-nil s.endings) ∙ ap (λ (ns : List (List ℕ)). s.endings ++ map ending_of ns) (sym none) ∙ h.endings;
+      endings = endings_all names i s.endings end h.endings;
       sources = sym (append-nil (files_in s.sources)) ∙ ap (λ (ns : List (List ℕ)). files_in s.sources ++ sources_of ns (drop i contents)) (sym none) ∙ h.sources;
       words = sym (append-nil (words_in s.sources)) ∙ ap (λ (ns : List (List ℕ)). words_in s.sources ++ source_words i ns) (sym none) ∙ h.words;
       includes = sym (append-nil s.includes) ∙ ap (λ (ns : List (List ℕ)). s.includes ++ includes_of ns (drop i contents)) (sym none) ∙ h.includes;
       few = omega (arith, h.few, end);
+      count = ap length (endings_all names i s.endings end h.endings) ∙ length-map ending_of names;
     }

@@ -16,10 +16,10 @@ use Rattle.m51_inputs.specs.declared.sources.Answered.{Answered}
 use Rattle.m51_inputs.specs.Answered.{answers_of, words_of}
 use Rattle.m51_inputs.specs.Files.{includes_of, source_words, sources_of}
 use Rattle.m51_inputs.specs.Inputs.{Answers, InputsTree, IsTold, controls_in, inputs_of, inputs_tree, refusal_of, script_in}
-use Rattle.m51_inputs.specs.Objects.{Linked}
+use Rattle.m51_inputs.specs.Objects.{Linked, linked_from}
 use Rattle.m51_inputs.specs.Sorting.{IsSorted, files_in, words_in}
 use Rattle.m51_inputs.specs.Sources.{AreAnswers, faults_in, modules_in, unless_faults}
-use Rattle.m51_inputs.specs.Steps.{inputs_by}
+use Rattle.m51_inputs.specs.Steps.{inputs_by, linked_kinds}
 use Rattle.m51_inputs.proofs.LinkedLists.{kinds_linked}
 
 same_then : {A B E : Type 0} (found : Result A E) (one two : A → Result B E) → ((a : A) → one a ≡ two a) → and_then found one ≡ and_then found two
@@ -37,7 +37,9 @@ by_names : (files contents : List (List ℕ)) (control script : Option (List ℕ
     → inputs_by (map ending_of files) contents control script (source_words 0 files) answers ≡ inputs_of files contents control script answers
 unfolding inputs_by, inputs_of, rest_of
 by_names files contents control script answers =
-    same_then (unless_faults (faults_in (source_words 0 files) answers) (modules_in answers)) _ _
+    same_then (unless_faults (faults_in (source_words 0 files) answers) (modules_in answers))
+    (λ sources. and_then (linked_kinds 0 (map ending_of files) contents sources) (rest_of control script))
+    (λ sources. and_then (linked_from 0 files contents sources) (rest_of control script))
     (λ sources. ap (λ linked. and_then linked (rest_of control script)) (kinds_linked files contents 0 sources))
 
 -- the answer, from that of each source

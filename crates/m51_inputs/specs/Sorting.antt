@@ -40,3 +40,4 @@ pub record IsSorted (names contents : List (List ℕ)) (sorted : Sorted) : Type 
   pub words : words_in sorted.sources ≡ source_words 0 names
   pub includes : sorted.includes ≡ includes_of names contents
   pub few : length sorted.includes ≤ length names
+  pub count : length sorted.endings ≡ length names

@@ -10,12 +10,12 @@ ghost use Rattle.m51_inputs.specs.Steps.{inputs_by};
 use crate::error::InputError;
 use crate::inputs::Inputs;
 use crate::objects::linked_files;
-use crate::sorting::sort;
-use crate::sources::{Answered, assemble_each, modules_of};
+use crate::sorting::{Sorted, sort};
+use crate::sources::{Answered, assemble_sources, modules_of};
 use m51_cells::{Bytes, ListOf};
 use m51_control::{ControlError, Controls, read_controls};
 use m51_script::{Script, ScriptError, read_script};
-use m51_jobs::{Ending, FileName};
+use m51_jobs::FileName;
 use std::alloc::Global;
 
 // The control lines of a file, if there is one.
@@ -50,19 +50,19 @@ fn script_in(alloc: Global, file: Option<&Bytes>) -> Result<Script, InputError>
 #[tactic(auto, unfolding(crate::specs::Steps::inputs_by))]
 fn inputs_with(
     alloc: Global,
-    endings: &[Option<Ending>],
+    sorted: &Sorted,
     contents: &[Bytes],
     control: Option<&Bytes>,
     script: Option<&Bytes>,
     answers: ListOf<Answered>,
 ) -> Result<Inputs, InputError>
-    requires count { length contents.now ≡ length endings.now }
+    requires count { length contents.now ≡ length sorted.now.endings }
     requires within { All (λ bytes. length bytes ≤ MOST_FILE_BYTES) contents.now }
-    ensures { Gives inputs_tree refusal_of result (inputs_by endings.now contents.now (option_copied control.entry)
+    ensures { Gives inputs_tree refusal_of result (inputs_by sorted.now.endings contents.now (option_copied control.entry)
         (option_copied script.entry) (words_of answers) (answers_of answers)) }
 {
     let sources = modules_of(alloc, answers)?;
-    let linked = linked_files(alloc, endings, contents, sources)?;
+    let linked = linked_files(alloc, sorted.endings.as_slice(), contents, sources)?;
     let controls = controls_in(alloc, control)?;
     let script = script_in(alloc, script)?;
     Ok(Inputs {
@@ -104,6 +104,6 @@ pub fn read_inputs(
     ensures { IsTold files.now contents.now (option_copied control.entry) (option_copied script.entry) result }
 {
     let sorted = sort(alloc, files, contents)?;
-    let answers = assemble_each(alloc, sorted.sources.as_slice(), sorted.includes.as_slice())?;
-    inputs_with(alloc, sorted.endings.as_slice(), contents, control, script, answers)
+    let answers = assemble_sources(alloc, &sorted)?;
+    inputs_with(alloc, &sorted, contents, control, script, answers)
 }

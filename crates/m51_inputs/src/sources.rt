@@ -26,7 +26,7 @@ pub(crate) struct Answered {
 }
 
 // What each source gives, assembled with these includes, of which there are at most 65,535.
-pub(crate) fn assemble_each(
+fn assemble_each(
     alloc: Global,
     sources: &[Source],
     includes: &[SourceFile],
@@ -45,6 +45,19 @@ pub(crate) fn assemble_each(
         })?;
     }
     Ok(answered)
+}
+
+// What each of these sources gives, assembled with all includes, of which there are at most 65,535.
+pub(crate) fn assemble_sources(
+    alloc: Global,
+    sorted: &Sorted,
+) -> Result<ListOf<Answered>, NoMemory>
+    requires { length sorted.now.includes ≤ 65535 }
+    ensures answers { IfOk result (λ all. AreAnswers sorted.now.includes (files_in sorted.now.sources)
+        (answers_of all)) }
+    ensures words { IfOk result (λ all. words_of all ≡ words_in sorted.now.sources) }
+{
+    assemble_each(alloc, sorted.sources.as_slice(), sorted.includes.as_slice())
 }
 
 // The module that a source gives, or its faults.

@@ -1,8 +1,8 @@
 -- The headline on the top call: a build that ends with status 0 or 1.
 use Rattle.std.specs.Prelude.{◌≡◌, ◌⊎◌, ℕ, List, Some}
-use Rattle.m51_words.specs.declared.job.BuildJob.{BuildJob}
-use Rattle.m51_words.specs.declared.job.Job.TheVariants.{Build}
-use Rattle.m51_words.specs.Files.{name_kept, names_read}
+use Rattle.m51_jobs.specs.declared.job.BuildJob.{BuildJob}
+use Rattle.m51_jobs.specs.declared.job.Job.TheVariants.{Build}
+use Rattle.m51_jobs.specs.Files.{name_kept, names_read}
 use Rattle.m51_words.specs.Jobs.{job_of}
 use Rattle.m51_chain.specs.declared.status.Status.{Status}
 use Rattle.m51_chain.specs.declared.status.Status.TheVariants.{Event, Ran}

@@ -18,10 +18,10 @@ use Rattle.m51_sim.specs.Laws.{HasFill, IsSameRun, IsSharedEvent}
 use Rattle.m51_sim.specs.Run.{entry_lines, record_text}
 use Rattle.m51_sim.specs.Runs.{Record}
 use Rattle.m51_sim.specs.SeparateMachine.{Separate}
-use Rattle.m51_words.specs.declared.job.BuildJob.{BuildJob}
-use Rattle.m51_words.specs.declared.job.FlatJob.{FlatJob}
-use Rattle.m51_words.specs.declared.job.Job.{Job}
-use Rattle.m51_words.specs.declared.job.Job.TheVariants.{Build, Flat}
+use Rattle.m51_jobs.specs.declared.job.BuildJob.{BuildJob}
+use Rattle.m51_jobs.specs.declared.job.FlatJob.{FlatJob}
+use Rattle.m51_jobs.specs.declared.job.Job.{Job}
+use Rattle.m51_jobs.specs.declared.job.Job.TheVariants.{Build, Flat}
 use Rattle.m51_chain.specs.Builds.{build_files}
 use Rattle.m51_chain.specs.InputRefusals.{input_outcome}
 use Rattle.m51_chain.specs.Linking.{link_outcome, program_in}

@@ -9,8 +9,8 @@ use Rattle.m51_cells.specs.declared.limits.TheConstants.{MOST_POINTS}
 use Rattle.m51_module.specs.declared.image.TheConstants.{IMAGE_LEN}
 use Rattle.m51_monitor.specs.declared.activity.TheConstants.{MOST_NAMED}
 use Rattle.m51_script.specs.declared.timing.TheConstants.{LATEST_CYCLE}
-use Rattle.m51_words.specs.declared.endings.TheConstants.{LEAST_BOARDS, MOST_BOARDS}
-use Rattle.m51_words.specs.declared.numbers.TheConstants.{MOST_GENERATED_UNITS}
+use Rattle.m51_jobs.specs.declared.endings.TheConstants.{LEAST_BOARDS, MOST_BOARDS}
+use Rattle.m51_jobs.specs.declared.numbers.TheConstants.{MOST_GENERATED_UNITS}
 
 -- of the files of a call
 pub record FileLimits : Type 0 where

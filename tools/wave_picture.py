@@ -52,7 +52,7 @@ class Lanes:
         ends = [cycle for cycle, _ in changes[1:]] + [self.last]
         dense = None
         for (cycle, value), end in zip(changes, ends):
-            if end < self.first or cycle > self.last or end == cycle:
+            if end <= self.first or cycle >= self.last or end == cycle:
                 continue
             start, stop = self.x_of(cycle), self.x_of(end)
             if stop - start < NARROW:

@@ -67,7 +67,6 @@ class Command(StandIn):
     def test_no_python(self):
         os.mkdir(self.path('path'))
         os.symlink(shutil.which('readlink'), self.path('path', 'readlink'))
-        status, text, said = self.call('gen', command=shutil.which('sh'), PATH=self.path('path'))
         done = subprocess.run([shutil.which('sh'), self.script_path, 'gen'], env={'PATH': self.path('path')},
                               stdout=subprocess.PIPE, stderr=subprocess.PIPE)
         self.assertEqual((done.returncode, done.stdout), (70, b''))
@@ -102,7 +101,8 @@ class Command(StandIn):
                                   stdin=subprocess.DEVNULL, env={**self.environment, 'STATUS': '9'})
             self.assertEqual((done.returncode, f'm51: {said}\n' in done.stderr.decode()), (9, True), done.stderr)
 
-    @unittest.skipUnless(os.geteuid() == 0, 'only root can take the rights of another user')
+    @unittest.skipUnless(os.geteuid() == 0 and shutil.which('python3', path=os.defpath),
+                         'only root can take the rights of another user, who needs a python3 of the system')
     def test_permissions(self):
         os.chmod(self.folder, 0o755)
         self.keep('secret.a51', 'END')
@@ -113,7 +113,7 @@ class Command(StandIn):
                 (9, 'asm --out a.obj a.a51', 'permission denied: a.obj may not be written')):
             self.keep('a.obj', '')
             done = subprocess.run(
-                [self.script_path, *words.split()], cwd=self.folder, env={**self.environment, 'STATUS': str(status)},
+                [self.script_path, *words.split()], cwd=self.folder, env={**self.environment, 'STATUS': str(status), 'PATH': os.defpath},
                 stdin=subprocess.DEVNULL, stdout=subprocess.DEVNULL, stderr=subprocess.PIPE,
                 preexec_fn=lambda: os.setuid(65534))
             self.assertEqual((done.returncode, done.stderr.decode()), (status, f'm51: {said}\n'))

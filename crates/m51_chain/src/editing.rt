@@ -96,11 +96,7 @@ fn name_edits(alloc: Global, operation: &Operation, names: &[Name]) -> Result<Ed
 
 // The edits of an operation, in order. All its objects are read here, before the first edit is made.
 #[tactic(auto, unfolding(crate::specs::Edits::edits_of))]
-pub(crate) fn edits_of(
-    alloc: Global,
-    operation: &Operation,
-    files: &[Bytes],
-) -> Result<Edits, Stop>
+pub(crate) fn edits_of(alloc: Global, operation: &Operation, files: &[Bytes]) -> Result<Edits, Stop>
     requires count { HasFiles operation.now files.now }
     requires within { All (λ bytes. length bytes ≤ MOST_FILE_BYTES) files.now }
     ensures { Gives (λ edits. edits) stopped result (edits_of operation.now files.now) }

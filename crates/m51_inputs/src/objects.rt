@@ -13,11 +13,11 @@ ghost use Rattle.m51_module.specs.declared.parts.ModuleParts.{ModuleParts};
 
 use crate::error::InputError;
 use m51_cells::{Bytes, ListOf};
+use m51_frame::place;
+use m51_jobs::Ending;
 use m51_library::read_library;
 use m51_module::{LibError, Library, Module, ObjError};
-use m51_frame::place;
 use m51_records::module_at;
-use m51_jobs::Ending;
 use std::alloc::Global;
 use std::collections::VecDeque;
 

@@ -14,8 +14,8 @@ use crate::sorting::{Sorted, sort};
 use crate::sources::{Answered, assemble_sources, modules_of};
 use m51_cells::{Bytes, ListOf};
 use m51_control::{ControlError, Controls, read_controls};
-use m51_script::{Script, ScriptError, read_script};
 use m51_jobs::FileName;
+use m51_script::{Script, ScriptError, read_script};
 use std::alloc::Global;
 
 // The control lines of a file, if there is one.

@@ -4,8 +4,8 @@ ghost use Rattle.m51_inputs.specs.Sorting.{IsSorted, with_file};
 ghost use Rattle.m51_jobs.specs.Endings.{ending_of};
 
 use m51_cells::{Bytes, ListOf, NoMemory, copy_of};
-use m51_module::SourceFile;
 use m51_jobs::{Ending, FileName, ending_of};
+use m51_module::SourceFile;
 use std::alloc::Global;
 
 // A source, and the index of its word, counted from 0.

@@ -13,8 +13,8 @@ use crate::error::{FaultySources, InputError, SourceFaults};
 use crate::sorting::{Sorted, Source, sort};
 use m51_asm::{Assembled, assemble};
 use m51_cells::{Bytes, ListOf, NoMemory};
-use m51_module::{Faults, Module, SourceFile};
 use m51_jobs::FileName;
+use m51_module::{Faults, Module, SourceFile};
 use std::alloc::Global;
 use std::collections::VecDeque;
 
@@ -48,10 +48,7 @@ fn assemble_each(
 }
 
 // What each of these sources gives, assembled with all includes, of which there are at most 65,535.
-pub(crate) fn assemble_sources(
-    alloc: Global,
-    sorted: &Sorted,
-) -> Result<ListOf<Answered>, NoMemory>
+pub(crate) fn assemble_sources(alloc: Global, sorted: &Sorted) -> Result<ListOf<Answered>, NoMemory>
     requires { length sorted.now.includes ≤ 65535 }
     ensures answers { IfOk result (λ all. AreAnswers sorted.now.includes (files_in sorted.now.sources)
         (answers_of all)) }
@@ -152,7 +149,9 @@ pub fn assemble_source(
     ensures answer { IfOk result (λ all. IsAnswer all.source all.includes.items (tree_of all.assembled)) }
 {
     let Sorted {
-        sources, includes, ..
+        sources,
+        includes,
+        ..
     } = sort(alloc, files, contents)?;
     let mut sources = sources.into_vec();
     let Source { file: source, .. } = sources.remove(0);

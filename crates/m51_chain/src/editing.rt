@@ -1,5 +1,5 @@
 //! The edits of a library.
-ghost use Rattle.std.specs.Prelude.{◌≡◌, ◌≤◌, IfOk, length, map};
+ghost use Rattle.std.specs.Prelude.{◌≡◌, ◌≤◌, IfOk, Some, length, map};
 ghost use Rattle.std.specs.List.{All};
 ghost use Rattle.m51_cells.specs.declared.limits.TheConstants.{MOST_FILE_BYTES};
 ghost use Rattle.m51_cells.specs.Outcome.{Gives};
@@ -112,18 +112,23 @@ pub(crate) fn edits_of(alloc: Global, operation: &Operation, files: &[Bytes]) ->
     }
 }
 
+// Deletes the module of this name.
+fn delete(library: &mut Library, name: &Name) -> Result<(), LibError>
+    ensures { Gives (λ _. library.new) Some result (edited library.old (Edit.Delete name.now)) }
+{
+    library.delete(name)?;
+    Ok(())
+}
+
 // Makes an edit.
-#[tactic(auto, using(crate::proofs::Edits::refused_with))]
+#[tactic(auto, using(crate::proofs::Edits::with_memory))]
 fn make_edit(library: &mut Library, edit: Edit) -> Result<(), LibError>
     ensures { Gives (λ _. library.new) refusal_of result (edited library.old edit) }
 {
     match edit {
         Edit::Add(object) => library.add(object),
         Edit::Replace(object) => library.replace(object),
-        Edit::Delete(name) => {
-            library.delete(&name)?;
-            Ok(())
-        }
+        Edit::Delete(name) => delete(library, &name),
         Edit::Raise(name) => library.raise(&name),
     }
 }
@@ -135,7 +140,10 @@ pub(crate) fn make_edits(library: &mut Library, edits: Edits) -> Result<(), LibE
 {
     let mut left = VecDeque::from(edits.into_vec());
     while let Some(edit) = left.pop_front() {
-        make_edit(library, edit)?;
+        match make_edit(library, edit) {
+            Ok(()) => {}
+            Err(error) => return Err(error),
+        }
     }
     Ok(())
 }

@@ -1,5 +1,5 @@
 -- Answers, source by source.
-use Rattle.std.proofs.Common.{◌≡◌, ◌∙◌, ℕ, suc, ◌+◌, ◌<◌, List, [], ◌∷◌, ◌++◌, length, take, get_or, map, refl, ap, sym, subst, append_assoc, arith}
+use Rattle.std.proofs.Common.{◌≡◌, ◌∙◌, ℕ, suc, ◌+◌, ◌<◌, List, [], ◌∷◌, ◌++◌, length, take, drop, get_or, map, refl, ap, sym, subst, append_assoc, append-nil, arith}
 use Rattle.std.specs.List.{slice_index_or}
 use Rattle.std.proofs.lemmas.List.{take_more, length-map}
 use Rattle.m51_module.specs.declared.parts.ModuleParts.{ModuleParts}
@@ -80,6 +80,19 @@ faults_step old new whole answers rest one is put before =
     ∙ ap (λ (fs : List SourceFaults). old ++ fs) (sym (faults_first one.word (words_of rest) (tree_of one.assembled) (answers_of rest)))
     ∙ ap (λ (all : List Answered). old ++ faults_in (words_of all) (answers_of all)) (sym is)
     ∙ before
+
+-- no answer is left
+pub none_left : {A : Type 0} (left rest : List A) → left ≡ rest → rest ≡ drop 1 left → left ≡ []
+none_left [] rest same is = refl
+none_left (first ∷ left) rest same is = absurd (omega (arith, ap length same, ap length is))
+
+pub all_modules : (found whole : List ModuleParts) (left : List Answered) → left ≡ [] → found ++ modules_in (answers_of left) ≡ whole → found ≡ whole
+all_modules found whole left none before =
+    sym (append-nil found) ∙ ap (λ (l : List Answered). found ++ modules_in (answers_of l)) (sym none) ∙ before
+
+pub all_faults : (found whole : List SourceFaults) (left : List Answered) → left ≡ [] → found ++ faults_in (words_of left) (answers_of left) ≡ whole → found ≡ whole
+all_faults found whole left none before =
+    sym (append-nil found) ∙ ap (λ (l : List Answered). found ++ faults_in (words_of l) (answers_of l)) (sym none) ∙ before
 
 -- The one source, where there is one.
 pub only_source : (sources : List Source) (found : Source) (files : List SourceFile) → files_in sources ≡ files → length files ≡ 1

@@ -31,20 +31,62 @@ const TIMER_0: [u8; 5] = [0x20, 0x00, 0x82, 0x02, 0x00];
 fn one_is_chosen_by_flags_enables_and_priorities(rt: HostRuntime) {
     for (registers, low, high, held, want) in [
         // All ask: those of high priority come first, and the others wait for the end of a low one.
-        ([0xAA, 0x02, 0xBF, 0x18, 0x40], false, false, false, Some(Source::Tf1)),
-        ([0xAA, 0x02, 0xBF, 0x18, 0x40], true, false, false, Some(Source::Tf1)),
+        (
+            [0xAA, 0x02, 0xBF, 0x18, 0x40],
+            false,
+            false,
+            false,
+            Some(Source::Tf1),
+        ),
+        (
+            [0xAA, 0x02, 0xBF, 0x18, 0x40],
+            true,
+            false,
+            false,
+            Some(Source::Tf1),
+        ),
         ([0xAA, 0x02, 0xBF, 0x00, 0x40], true, false, false, None),
-        ([0xAA, 0x02, 0xBF, 0x00, 0x40], false, false, false, Some(Source::Ie0)),
+        (
+            [0xAA, 0x02, 0xBF, 0x00, 0x40],
+            false,
+            false,
+            false,
+            Some(Source::Ie0),
+        ),
         // None is taken after RETI, over the high level, or while EA is 0.
         (TIMER_0, false, false, false, Some(Source::Tf0)),
         (TIMER_0, false, false, true, None),
         (TIMER_0, false, true, false, None),
         ([0x20, 0x00, 0x02, 0x02, 0x00], false, false, false, None),
         // The serial port and timer 2 have two flags.
-        ([0x00, 0x01, 0x90, 0x00, 0x00], false, false, false, Some(Source::Serial)),
-        ([0x00, 0x02, 0x90, 0x00, 0x00], false, false, false, Some(Source::Serial)),
-        ([0x00, 0x00, 0xA0, 0x00, 0x80], false, false, false, Some(Source::Timer2)),
-        ([0x00, 0x00, 0xA0, 0x00, 0x40], false, false, false, Some(Source::Timer2)),
+        (
+            [0x00, 0x01, 0x90, 0x00, 0x00],
+            false,
+            false,
+            false,
+            Some(Source::Serial),
+        ),
+        (
+            [0x00, 0x02, 0x90, 0x00, 0x00],
+            false,
+            false,
+            false,
+            Some(Source::Serial),
+        ),
+        (
+            [0x00, 0x00, 0xA0, 0x00, 0x80],
+            false,
+            false,
+            false,
+            Some(Source::Timer2),
+        ),
+        (
+            [0x00, 0x00, 0xA0, 0x00, 0x40],
+            false,
+            false,
+            false,
+            Some(Source::Timer2),
+        ),
     ] {
         assert!(rt;
             chosen(registers, low, high, held) == want,

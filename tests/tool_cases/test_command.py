@@ -132,15 +132,18 @@ class Command(StandIn):
             self.assertEqual(self.call(*words.split())[0], 0, words)
 
     def test_signals(self):
-        for number in (signal.SIGTERM, signal.SIGHUP, signal.SIGINT):
-            job = subprocess.Popen([self.script_path, 'wait'], stdout=subprocess.PIPE, start_new_session=True)
+        for number, word, status in (
+                (signal.SIGTERM, 'wait', -15), (signal.SIGHUP, 'wait', -1), (signal.SIGINT, 'wait', -2),
+                (signal.SIGINT, 'catch', 7)):
+            job = subprocess.Popen(
+                [self.script_path, word], stdout=subprocess.PIPE, stderr=subprocess.DEVNULL, start_new_session=True)
             self.assertEqual(job.stdout.readline(), b'started\n')
             if number == signal.SIGINT:
                 # As a terminal does.
                 os.killpg(job.pid, number)
             else:
                 job.send_signal(number)
-            self.assertEqual(job.wait(60), -number)
+            self.assertEqual(job.wait(60), status)
             # Nobody holds it any more.
             self.assertEqual(job.stdout.read(), b'')
             job.stdout.close()

@@ -1,2 +1,2 @@
-; the table is read only: its address is no call
+; The table is only read: that SHOW loads its address is no call.
 OVERLAY(?PR?SHOW ~ ?CO?TABLE)

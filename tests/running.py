@@ -1,6 +1,7 @@
 """Runs of the built program in a folder of their own."""
 import pathlib
 import subprocess
+import sys
 import tempfile
 
 TESTS = pathlib.Path(__file__).resolve().parent
@@ -9,6 +10,13 @@ PROGRAM = TESTS.parent / 'crates' / 'm51' / 'out' / 'm51'
 ROWS = TESTS.parent / 'crates' / 'm51_rows' / 'data'
 # The most that a run may take.
 SECONDS = 120
+
+
+def stop_unless_built(program=PROGRAM):
+    """Ends with status 2 and one line if there is no program to test."""
+    if not program.is_file():
+        print(f'{program} is not built: rt ci, at the top of the repository, builds it', file=sys.stderr)
+        sys.exit(2)
 
 
 def files_of(folder):

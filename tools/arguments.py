@@ -12,7 +12,7 @@ VERBS = {
     'flat': ('[--script F] --steps N F', 'runs a HEX file on one memory'),
     'gen': ('--units U --start S --steps N', 'makes a test program, links and runs it'),
     'dis': ('[--control F] FILE..', 'links, and writes the program as a source again'),
-    'stack': ('[--control F] FILE..', 'links, and writes how high the stack may get'),
+    'stack': ('[--control F] FILE..', 'links, and writes a bound on the stack'),
     'party': ('[--script F] --steps N FILE..', 'runs two to eight boards on one serial line'),
 }
 TOOLS = {

@@ -86,13 +86,16 @@ def conditions(lines):
 
 
 def holds(condition, values):
-    """Whether a condition of numbers, names and signs holds."""
+    """Whether a condition of numbers, names and signs holds; nothing else is evaluated."""
     for _ in range(9):
         condition = re.sub(r'[a-z_]\w*', lambda found: f'({values.get(found[0].lower(), "0")})', condition, flags=re.I)
     condition = condition.replace('<>', '!=').replace('/', '//')
-    if not re.fullmatch(r'[\d\s()!=<>+*/-]+', condition):
-        raise ValueError(condition)
-    return bool(eval(condition))
+    try:
+        if re.fullmatch(r'[\d\s()!=<>+*/-]+', condition):
+            return bool(eval(condition))
+    except SyntaxError:
+        pass
+    raise ValueError(f'a condition that is not understood: {condition}')
 
 
 def macros(lines):

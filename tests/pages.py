@@ -24,7 +24,7 @@ from running import SECONDS, TESTS
 
 TOP = TESTS.parent
 PAGES = ('README.md', *(f'docs/{name}.md' for name in 'TUTORIAL PROJECT PORTING COMMAND LINKER SIMULATOR'.split()))
-COMMANDS = 'm51 ./m51 ../m51 ../../m51 cat cd cmp cp diff echo grep m4 make mkdir mv printf rm sed srec_cat tail'.split()
+COMMANDS = 'm51 ./m51 ../m51 ../../m51 cat cd cp diff echo grep m4 make mkdir mv printf rm sed srec_cat tail'.split()
 # Commands that not every machine has: without one its block and its answer are left out.
 OPTIONAL = ('m4', 'srec_cat')
 FILE = re.compile(r'`?([\w./-]+\.(?:a51|brd|ctl|hex|inc|py|txt|want)|Makefile)`?( holding|:)$')

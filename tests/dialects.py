@@ -5,6 +5,7 @@ import re
 PIECE = re.compile(r'"[^"]*"|\'(?:\'\'|\\.|[^\'])*\'|;.*|[^"\';]+|["\']')
 SIMPLE = r'\(?[\w.+ ]+?\)?'
 ESCAPES = {'\\0': '0', '\\n': '10', '\\r': '13', '\\t': '9'}
+OTHER_CONTROL = re.compile(r'\s*\$?(no)?list\b|\$(date|mod52)\b', re.I)
 PREDEFINED = set('''P0 SP DPL DPH PCON TCON TMOD TL0 TL1 TH0 TH1 P1 SCON SBUF P2 IE P3 IP T2CON RCAP2L RCAP2H TL2 TH2
     PSW ACC B A AB C DPTR R0 R1 R2 R3 R4 R5 R6 R7 AR0 AR1 AR2 AR3 AR4 AR5 AR6 AR7 CY AC F0 RS1 RS0 OV P PC'''.split())
 
@@ -38,8 +39,9 @@ def ends(lines):
 
 
 def plain(text):
-    """A source of ASM51 or of mcu8051ide without macros."""
-    return '\n'.join(ends([outside(line, lambda part: part) for line in text.splitlines()])) + '\n'
+    """A source of ASM51 without macros: without controls that m51 does not have, and with END."""
+    lines = [outside(line, lambda part: part) for line in text.splitlines() if not OTHER_CONTROL.match(line)]
+    return '\n'.join(ends(lines)) + '\n'
 
 
 def as31(text):
@@ -130,9 +132,8 @@ def substituted(line, given):
 
 def mcu8051ide(text):
     """A source of mcu8051ide with macros, conditions, other controls, and escapes of C in texts."""
-    lines = [line for line in text.splitlines() if not re.match(r'\s*\$?(no)?list\b|\$date\b', line, re.I)]
     made = []
-    for line in conditions(macros(lines)):
+    for line in conditions(macros(text.splitlines())):
         line = re.sub(r'^(\w+\s+)idata\b', r'\1data', line, flags=re.I)
         made.append(''.join(quoted(part) if part[0] == "'" and '\\' in part else part for part in pieces(line)))
     return plain('\n'.join(made))

@@ -69,8 +69,12 @@ class Reader:
         where = self.room / 'where'
         settings = {**os.environ, 'PATH': f'{self.room / "bin"}:{os.environ["PATH"]}', 'LC_ALL': 'C'}
         script = f"trap 'pwd > {where}' EXIT\n{lines}\n"
-        ran = subprocess.run(['sh', '-c', script], cwd=self.folder, env=settings, stdin=subprocess.DEVNULL,
-                             capture_output=True, timeout=5 * SECONDS)
+        try:
+            ran = subprocess.run(['sh', '-c', script], cwd=self.folder, env=settings, stdin=subprocess.DEVNULL,
+                                 capture_output=True, timeout=5 * SECONDS)
+        except subprocess.TimeoutExpired:
+            self.said, self.status = f'(nothing in {5 * SECONDS} seconds)', 1
+            return
         self.folder = pathlib.Path(where.read_text().strip())
         self.said, self.status = ran.stdout.decode(), ran.returncode
 

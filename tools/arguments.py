@@ -12,7 +12,7 @@ VERBS = {
     'flat': ('[--script F] --steps N F', 'runs a HEX file on one memory'),
     'gen': ('--units U --start S --steps N', 'makes a test program, links and runs it'),
     'dis': ('[--control F] FILE..', 'links, and writes the program as a source again'),
-    'stack': ('[--control F] FILE..', 'links, and writes how high the stack may get'),
+    'stack': ('[--control F] FILE..', 'links, and writes a bound on the stack'),
     'party': ('[--script F] --steps N FILE..', 'runs two to eight boards on one serial line'),
 }
 TOOLS = {
@@ -135,7 +135,7 @@ def wrong(words):
         return ['a verb is missing']
     verb = words[0]
     if verb not in VERBS:
-        return [f'there is no verb {verb}{near(verb, [*VERBS, *TOOLS])}']
+        return [f'there is no verb {verb}{near(verb.lower(), [*VERBS, *TOOLS])}']
     options, others = parse(words[1:])
     count = wrong_count(verb, others)
     return [*wrong_options(verb, options), *wrong_endings(verb, others), *([count] if count else [])]
@@ -156,7 +156,7 @@ def inputs(words):
 def made(words):
     """The files that a call makes anew: those of --out and --hex, and the library of `lib build`."""
     options, others = parse(words[1:])
-    files = [value for name, value in options if name in ('--out', '--hex') and value]
+    files = [value for name, value in options if name in ('--out', '--hex') and value is not None]
     return files + (others[1:2] if words[0] == 'lib' and others[:1] == ['build'] else [])
 
 

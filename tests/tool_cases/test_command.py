@@ -13,6 +13,7 @@ HINTS = (
     (2, 'build --step 4 a.asm', 'm51: build has no option --step, did you mean --steps?\nm51: --steps is missing\n'
      'm51: a.asm ends in .asm; it should be .a51\nm51: usage: m51 build '),
     (2, 'bild', 'm51: there is no verb bild, did you mean build?\n'),
+    (2, 'BUILD --steps 4 a.a51', 'm51: there is no verb BUILD, did you mean build?\n'),
     (2, 'lib lst x', 'did you mean list?'),
     (2, 'asm a.a51', 'm51: --out is missing\nm51: usage: m51 asm --out F FILE..\n'),
     (2, 'gen --units 101 --start 0 --steps=1', 'm51: --units is a number from 1 to 100, not 101\n'),
@@ -21,6 +22,7 @@ HINTS = (
     (8, 'stack --control=c a.a51', 'm51: there is no file c\n'),
     (8, 'lib add l.lib b.obj', 'm51: there is no file l.lib\nm51: there is no file b.obj\nm51: `m51 lib build` makes a'),
     (9, 'asm --out no/a.obj a.a51', 'm51: there is no folder no for no/a.obj\n'),
+    (9, 'asm --out= a.a51', 'm51: the name of a file to keep is empty\n'),
     (9, 'asm --out d.a51 a.a51', 'm51: d.a51 is a folder\n'),
     (9, 'lib extract l.lib d', 'm51: D.obj is a folder\n'),
     (9, 'build --steps 5 a.a51', 'm51: the reader of standard output has gone\n'),
@@ -108,7 +110,7 @@ class Command(StandIn):
         self.keep('secret.a51', 'END')
         os.chmod(self.path('secret.a51'), 0)
         for status, words, said in (
-                (8, 'build --steps 4 secret.a51', 'permission denied: secret.a51 may not be read'),
+                (8, 'build --steps 5 secret.a51', 'permission denied: secret.a51 may not be read'),
                 (9, 'asm --out new.obj a.a51', 'permission denied: the folder . may not be written'),
                 (9, 'asm --out a.obj a.a51', 'permission denied: a.obj may not be written')):
             self.keep('a.obj', '')
@@ -130,15 +132,18 @@ class Command(StandIn):
             self.assertEqual(self.call(*words.split())[0], 0, words)
 
     def test_signals(self):
-        for number in (signal.SIGTERM, signal.SIGHUP, signal.SIGINT):
-            job = subprocess.Popen([self.script_path, 'wait'], stdout=subprocess.PIPE, start_new_session=True)
+        for number, word, status in (
+                (signal.SIGTERM, 'wait', -15), (signal.SIGHUP, 'wait', -1), (signal.SIGINT, 'wait', -2),
+                (signal.SIGINT, 'catch', 7)):
+            job = subprocess.Popen(
+                [self.script_path, word], stdout=subprocess.PIPE, stderr=subprocess.DEVNULL, start_new_session=True)
             self.assertEqual(job.stdout.readline(), b'started\n')
             if number == signal.SIGINT:
                 # As a terminal does.
                 os.killpg(job.pid, number)
             else:
                 job.send_signal(number)
-            self.assertEqual(job.wait(60), -number)
+            self.assertEqual(job.wait(60), status)
             # Nobody holds it any more.
             self.assertEqual(job.stdout.read(), b'')
             job.stdout.close()

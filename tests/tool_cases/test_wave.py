@@ -19,7 +19,7 @@ def read_dump(text):
             scope = words[2]
         elif words[0] == '$var':
             names[words[3]] = (scope, words[4])
-    for line in body.splitlines():
+    for line in filter(None, body.splitlines()):
         if line[0] == '#':
             time = int(line[1:])
         elif line[0] == 'b':
@@ -27,7 +27,7 @@ def read_dump(text):
             changes.append((time, *names[code], value if 'x' in value else int(value, 2)))
         elif line[0] == '1':
             changes.append((time, *names[line[1:]], None))
-    return changes, re.search(r'\$timescale (.*?) \$end', head)[1], time
+    return changes, re.search(r'\$timescale\s+(.*?)\s+\$end', head)[1], time
 
 
 class Wave(Folder):

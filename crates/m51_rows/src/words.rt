@@ -81,7 +81,7 @@ fn wanted_of(alloc: Global, front: &str, usage: &[u8]) -> Result<Vec<u8>, AllocE
 fn bytes_of(alloc: Global, digits: &str) -> io::Result<Vec<u8>> {
     let mut bytes = Vec::new(alloc);
     for at in (0..digits.len()).step_by(2) {
-        match digits.get(at..at + 2).and_then(byte) {
+        match digits.get(at..at.saturating_add(2)).and_then(byte) {
             Some(byte) => bytes.push(byte)?,
             None => return Err(not_in_form()),
         }

@@ -7,8 +7,7 @@ use Rattle.m51_cells.specs.declared.limits.TheConstants.{MOST_SEGMENTS, MOST_UNI
 use Rattle.m51_cells.specs.declared.limits.TheConstants.{MOST_SCRIPT_LINES, MOST_STEPS, MOST_RETURN_RECORDS}
 use Rattle.m51_cells.specs.declared.limits.TheConstants.{MOST_POINTS}
 use Rattle.m51_module.specs.declared.image.TheConstants.{IMAGE_LEN}
-use Rattle.m51_monitor.specs.declared.activity.TheConstants.{MOST_NAMED}
-use Rattle.m51_script.specs.declared.timing.TheConstants.{LATEST_CYCLE}
+use Rattle.m51_script.specs.Timing.{latest_cycle}
 use Rattle.m51_jobs.specs.declared.endings.TheConstants.{LEAST_BOARDS, MOST_BOARDS}
 use Rattle.m51_jobs.specs.declared.numbers.TheConstants.{MOST_GENERATED_UNITS}
 
@@ -22,7 +21,7 @@ pub record FileLimits : Type 0 where
   pub control_lines : MOST_CONTROL_LINES ≡ 1000
   -- lines of a script, and the latest cycle that it may name
   pub script_lines : MOST_SCRIPT_LINES ≡ 65536
-  pub latest_cycle : LATEST_CYCLE ≡ 99999999
+  pub latest : latest_cycle ≡ 99999999
 
 -- of a source, and of its module
 pub record ModuleLimits : Type 0 where
@@ -53,9 +52,8 @@ pub record LinkLimits : Type 0 where
 pub record RunLimits : Type 0 where
   -- steps
   pub steps : MOST_STEPS ≡ 10000000
-  -- return records at once, and units that records name: three walks of at most 1,000
+  -- return records at once
   pub return_records : MOST_RETURN_RECORDS ≡ 128
-  pub named : MOST_NAMED ≡ 3000
   -- boards on one serial line
   pub least_boards : LEAST_BOARDS ≡ 2
   pub most_boards : MOST_BOARDS ≡ 8

@@ -35,7 +35,10 @@ def run(program, words):
     child, early = None, []
 
     def hand_on(number, _):
-        os.kill(child, number) if child else early.append(number)
+        if child:
+            os.kill(child, number)
+        else:
+            early.append(number)
 
     # A terminal sends this one to the program as well.
     signal.signal(signal.SIGINT, lambda *_: None)

@@ -45,7 +45,8 @@ def fenced_from(lines, at, inset, mark):
 def ends_text(line, inset):
     """Whether a line can't go on with the text before it."""
     body = line[inset:]
-    return not line.strip() or FENCE.match(body) or HEADING.match(body) or ITEM.match(line) or body.startswith(('|', '<!--'))
+    begins = FENCE.match(body) or HEADING.match(body) or ITEM.match(line) or body.startswith(('|', '<!--'))
+    return not line.strip() or begins
 
 
 def blocks(page):

@@ -2,14 +2,14 @@
 
 What a block of code is follows from what a reader sees before it:
 
-- a file, if the text before it ends with a name and a colon, `first.a51:`; after "keeps first.hex:" the file must be so;
+- a file, if the text before it ends with a name and a colon, `first.a51:`; after "keeps first.hex:" one that is kept;
 - commands, if its first line begins with one; a shell runs all lines, in the folder where the one before ended;
 - an answer: of the last command in a code span of the text before it, else of the commands before it. It is the whole
   answer, or its end ("ends with"), its head ("begins with"), or lines of it in their order ("among others");
 - a source without a name, if its last line is END. The page says what such a source is called and how it is run.
 
-"Write `X` instead of `Y` in f" and "Add the line `X` after `Y` in f" in a text are edits. A number after "status" in the
-text before an answer is that of the command. Rows of a table `LINK ..` | sources are sources too. A block after a
+"Write `X` instead of `Y` in f" and "Add the line `X` after `Y` in f" in a text are edits. A number after "status" in
+the text before an answer is that of the command. Rows of a table `LINK ..` | sources are sources too. A block after a
 comment `<!-- not typed: why -->` is left out; any other that is none of these is a fault of the page.
 """
 import os
@@ -24,7 +24,9 @@ from running import SECONDS, TESTS
 
 TOP = TESTS.parent
 PAGES = ('README.md', *(f'docs/{name}.md' for name in 'TUTORIAL PROJECT PORTING COMMAND LINKER SIMULATOR'.split()))
-COMMANDS = 'm51 ./m51 ../m51 ../../m51 cat cd cmp cp cpp diff echo grep make mkdir mv printf rm sed srec_cat tail'.split()
+COMMANDS = 'm51 ./m51 ../m51 ../../m51 cat cd cp diff echo grep m4 make mkdir mv printf rm sed srec_cat tail'.split()
+# Commands that not every machine has: without one its block and its answer are left out.
+OPTIONAL = ('m4', 'srec_cat')
 FILE = re.compile(r'`?([\w./-]+\.(?:a51|brd|ctl|hex|inc|py|txt|want)|Makefile)`?( holding|:)$')
 EDIT = re.compile(r'[Ww]rite `([^`]*)` instead of `([^`]*)` in `?([\w./-]+\w)')
 ADD = re.compile(r'[Aa]dd the line `([^`]*)` after `([^`]*)` in `?([\w./-]+\w)')
@@ -55,18 +57,24 @@ class Reader:
 
     def __init__(self, room, m51):
         self.room = self.folder = pathlib.Path(room)
-        shutil.copytree(TOP / 'examples', self.room / 'examples', ignore=shutil.ignore_patterns('*.obj', '*.lib', '*.log'))
+        kept = shutil.ignore_patterns('*.obj', '*.lib', '*.log')
+        shutil.copytree(TOP / 'examples', self.room / 'examples', ignore=kept)
         (self.room / 'bin').mkdir()
         for name in 'm51', 'bin/m51':
             (self.room / name).symlink_to(m51)
-        self.faults, self.said, self.status, self.unnamed, self.intro = [], None, 0, None, ''
+        self.faults, self.said, self.status, self.unnamed, self.intro, self.left_out = [], None, 0, None, '', False
 
     def run(self, lines):
         """Runs lines in a shell; the next ones run where it ended."""
         where = self.room / 'where'
         settings = {**os.environ, 'PATH': f'{self.room / "bin"}:{os.environ["PATH"]}', 'LC_ALL': 'C'}
         script = f"trap 'pwd > {where}' EXIT\n{lines}\n"
-        ran = subprocess.run(['sh', '-c', script], cwd=self.folder, env=settings, capture_output=True, stdin=subprocess.DEVNULL, timeout=SECONDS)
+        try:
+            ran = subprocess.run(['sh', '-c', script], cwd=self.folder, env=settings, stdin=subprocess.DEVNULL,
+                                 capture_output=True, timeout=5 * SECONDS)
+        except subprocess.TimeoutExpired:
+            self.said, self.status = f'(nothing in {5 * SECONDS} seconds)', 1
+            return
         self.folder = pathlib.Path(where.read_text().strip())
         self.said, self.status = ran.stdout.decode(), ran.returncode
 
@@ -109,7 +117,12 @@ class Reader:
         """A block of code, by what comes before it."""
         name = FILE.search(self.intro)
         commands = [span for span in SPAN.findall(self.intro) if is_command(span)]
-        if is_command(block.text.splitlines()[0]):
+        lacking = [word for word in OPTIONAL if not shutil.which(word)]
+        if any(line.split(' ', 1)[0] in lacking for line in block.text.splitlines()):
+            self.left_out = True
+        elif self.left_out and self.said is None and not name:
+            self.left_out = False
+        elif is_command(block.text.splitlines()[0]):
             self.run(block.text)
             if self.status and not STATUS.search(self.intro) and '\nEVENT' not in self.said:
                 self.fault(block, f'the status is {self.status}: {self.said[-300:]!r}')

@@ -100,7 +100,10 @@ pub only_source : (sources : List Source) (found : Source) (files : List SourceF
 only_source [] found files is one at = absurd (omega (arith, ap length is, one))
 only_source (source ∷ []) found files is one at = sym is ∙ ap (λ (s : Source). s.file ∷ []) (sym at)
 only_source (source ∷ other ∷ more) found files is one at =
-    absurd (omega (arith, ap length is, length-map (λ (s : Source). s.file) (source ∷ other ∷ more), one))
+    let count : length (files_in (source ∷ other ∷ more)) ≡ length (source ∷ other ∷ more) = length-map (source ∷ other ∷ more) (λ (s : Source). s.file) in
+    absurd (omega (arith, ap length is, count, one))
 
 pub some_source : (sources : List Source) (files : List SourceFile) → files_in sources ≡ files → length files ≡ 1 → 0 < length sources
-some_source sources files is one = omega (arith, ap length is, length-map (λ (s : Source). s.file) sources, one)
+some_source sources files is one =
+    let count : length (files_in sources) ≡ length sources = length-map sources (λ (s : Source). s.file) in
+    omega (arith, ap length is, count, one)

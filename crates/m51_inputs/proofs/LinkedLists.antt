@@ -1,5 +1,6 @@
 -- Modules and libraries, word by word.
 use Rattle.std.proofs.Common.{◌≡◌, ◌∙◌, ℕ, suc, ◌+◌, ◌<◌, List, [], ◌∷◌, ◌++◌, length, map, drop, get_or, Some, None, Option, Result, Ok, Err, refl, ap, sym, append_assoc, add-one, drop-cons, arith}
+use Rattle.std.specs.Prelude.{IsErrAnd}
 use Rattle.m51_cells.specs.Outcome.{and_then, RefusesWith}
 use Rattle.m51_module.specs.declared.parts.ModuleParts.{ModuleParts}
 use Rattle.m51_jobs.specs.declared.endings.Ending.{Ending}
@@ -69,11 +70,11 @@ rest_refused (Some why) modules libraries rest whole is h = sym is ∙ ap (linke
 
 -- the word at an index, and those after it
 pub word_at : (kinds : List (Option Ending)) (contents : List (List ℕ)) (i : ℕ) (kind : Option Ending) (bytes : List ℕ) (sources : List ModuleParts)
-    → i < length kinds → i < length contents → kind ≡ get_or kinds i kind → bytes ≡ get_or contents i bytes
+    → i < length kinds → i < length contents → kind ≡ get_or kinds i None → bytes ≡ get_or contents i bytes
     → linked_kinds i (drop i kinds) (drop i contents) sources ≡ linked_by kind i bytes sources (linked_kinds (i + 1) (drop (i + 1) kinds) (drop (i + 1) contents))
 word_at kinds contents i kind bytes sources some more is has =
     let cut : drop i kinds ≡ kind ∷ drop (i + 1) kinds =
-    drop-cons kinds i kind some ∙ ap (λ (n : Option Ending). n ∷ drop (suc i) kinds) (sym is) ∙ ap (λ (k : ℕ). kind ∷ drop k kinds) (sym (add-one i)) in
+    drop-cons kinds i None some ∙ ap (λ (n : Option Ending). n ∷ drop (suc i) kinds) (sym is) ∙ ap (λ (k : ℕ). kind ∷ drop k kinds) (sym (add-one i)) in
     let cut_too : drop i contents ≡ bytes ∷ drop (i + 1) contents =
     drop-cons contents i bytes more ∙ ap (λ (n : List ℕ). n ∷ drop (suc i) contents) (sym has) ∙ ap (λ (k : ℕ). bytes ∷ drop k contents) (sym (add-one i)) in
     ap (λ (ks : List (Option Ending)). linked_kinds i ks (drop i contents) sources) cut
@@ -97,3 +98,8 @@ kinds_linked (name ∷ names) [] word sources = refl
 kinds_linked (name ∷ names) (bytes ∷ contents) word sources =
     same_by (ending_of name) word bytes sources (linked_kinds (word + 1) (map ending_of names) contents) (linked_from (word + 1) names contents)
     (kinds_linked names contents (word + 1))
+
+-- what the exit of a `?` returns, where the error stays
+pub came : {T : Type 0} (result : Result T InputError) (why : InputError) → IsErrAnd result (λ e. e ≡ why) → result ≡ Err why
+came (Ok value) why h = absurd h
+came (Err e) why h = ap (λ (error : InputError). Err error) h

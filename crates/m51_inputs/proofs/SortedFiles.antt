@@ -111,5 +111,5 @@ sorted_all names contents i s end count h =
       words = sym (append-nil (words_in s.sources)) ∙ ap (λ (ns : List (List ℕ)). words_in s.sources ++ source_words i ns) (sym none) ∙ h.words;
       includes = sym (append-nil s.includes) ∙ ap (λ (ns : List (List ℕ)). s.includes ++ includes_of ns (drop i contents)) (sym none) ∙ h.includes;
       few = omega (arith, h.few, end);
-      count = ap length (endings_all names i s.endings end h.endings) ∙ length-map ending_of names;
+      count = ap length (endings_all names i s.endings end h.endings) ∙ length-map names ending_of;
     }

@@ -35,7 +35,7 @@ rest_of control script linked = do
 
 by_names : (files contents : List (List ℕ)) (control script : Option (List ℕ)) (answers : List AnswerTree)
     → inputs_by (map ending_of files) contents control script (source_words 0 files) answers ≡ inputs_of files contents control script answers
-unfolding inputs_by, inputs_of, rest_of
+unfolding inputs_by inputs_of rest_of
 by_names files contents control script answers =
     same_then (unless_faults (faults_in (source_words 0 files) answers) (modules_in answers))
     (λ sources. and_then (linked_kinds 0 (map ending_of files) contents sources) (rest_of control script))

@@ -161,15 +161,8 @@ pub(crate) fn linked_files(
         modules: ListOf::new(alloc),
         libraries: ListOf::new(alloc),
     };
-    for (word, ending) in endings.iter().enumerate() {
-        add_word(
-            alloc,
-            word,
-            *ending,
-            &contents[word],
-            &mut sources,
-            &mut linked,
-        )?;
+    for (word, bytes) in contents.iter().enumerate() {
+        add_word(alloc, word, endings[word], bytes, &mut sources, &mut linked)?;
     }
     Ok(linked)
 }

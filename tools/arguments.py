@@ -44,7 +44,8 @@ def usage(verb):
     """The arguments of one verb."""
     lines = [f'usage: m51 {verb} {VERBS[verb][0]}']
     if verb == 'lib':
-        lines.append('  OP L is build L O.., add L O.., replace L O.., delete L M.., raise L M.., extract L M or list L')
+        lines.append('  OP L is build L O.., add L O.., replace L O.., delete L M.., raise L M.., extract L M or '
+                     'list L')
     if verb in ENDINGS:
         lines.append('  FILE ends in ' + ', '.join(ENDINGS[verb]))
     if '--steps' in lines[0]:

@@ -1,8 +1,8 @@
 """The command m51: runs the program, and says on standard error what the program doesn't say.
 
-The program is the proved one, where there is one; else the unproved one, which is compiled once. Its standard output and
-its status are handed on as they are. docs/COMMAND.md, "The script m51", says what is added. Modules that take long to
-load are loaded where they are needed: a call should cost little more than the program.
+The program is the proved one, where there is one; else the unproved one, which is compiled once. Its standard output
+and its status are handed on as they are. docs/COMMAND.md, "The script m51", says what is added. Modules that take long
+to load are loaded where they are needed: a call should cost little more than the program.
 """
 # The module `signal` makes enumerations, which takes as long as the whole start of Python.
 import _signal as signal
@@ -35,7 +35,10 @@ def run(program, words):
     child, early = None, []
 
     def hand_on(number, _):
-        os.kill(child, number) if child else early.append(number)
+        if child:
+            os.kill(child, number)
+        else:
+            early.append(number)
 
     # A terminal sends this one to the program as well.
     signal.signal(signal.SIGINT, lambda *_: None)
@@ -109,7 +112,7 @@ def answer_without_program(words):
 
 
 def refuse_before_compiling(words):
-    """Answers a call that is wrong, or whose files are not there, before a program is compiled: its status, or nothing."""
+    """Answers a call that is wrong or lacks a file, before a program is compiled: its status, or nothing."""
     import hints
 
     if arguments.wrong(words):
@@ -129,7 +132,8 @@ def unproved(words, why):
         if refused:
             return None, refused
         if not sources.toolchain_command():
-            return None, fail(f"{why}, and the toolchain's command rt is not on the path; README.md says what is needed")
+            return None, fail(f"{why}, and the toolchain's command rt is not on the path; README.md says what is "
+                              'needed')
         if run(os.path.join(sources.TOP, 'tools', 'unproved'), []):
             return None, NOT_RUN
     say(f'{why}: this one is compiled from the same sources without a proof, with checks for faults')

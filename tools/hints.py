@@ -1,5 +1,5 @@
-"""What standard error says after a status of m51: what is wrong with the arguments, why a file can't be read or kept, and
-where a number is explained.
+"""What standard error says after a status of m51: what is wrong with the arguments, why a file can't be read or kept,
+and where a number is explained.
 
 The program's text goes straight to standard output, so it is known here only where that is a plain file.
 """

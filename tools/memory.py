@@ -53,7 +53,7 @@ def free_text(of_map):
 
 
 def bars(of_map):
-    """External and program memory: kind, end of the bar (a power of two), extents by base, and how many bytes are used."""
+    """External and program memory: kind, end of the bar (a power of two), extents by base, how many bytes are used."""
     for kind in ('XDATA', 'CODE'):
         extents = sorted((it for it in of_map.extents if it.kind == kind and it.size), key=lambda it: it.base)
         if extents:
@@ -65,7 +65,7 @@ def bars(of_map):
 
 
 def tree(of_map):
-    """The calls below each root: depth, unit, its bytes of overlaid DATA, and whether its calls are shown further up."""
+    """The calls below each root: depth, unit, its bytes of overlaid DATA, whether its calls are shown further up."""
     seen = set()
     for root in of_map.roots():
         left = [(0, root)]

@@ -87,8 +87,8 @@ def draw_legend(picture, top):
         picture.box(x, top - 11, 14, 14, COLOURS[sort], edge='#aaa')
         picture.text(x + 20, top, sort)
         x += 46 + 8 * len(sort)
-    picture.text(LEFT, top + 20, 'Segments that share a byte are one below the other in it; bits are side by side, bit 7 '
-                 'at the left.', 11, GREY)
+    picture.text(LEFT, top + 20, 'Segments that share a byte are one below the other in it; bits are side by side, '
+                 'bit 7 at the left.', 11, GREY)
     return top + 50
 
 

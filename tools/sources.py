@@ -129,6 +129,8 @@ def is_current():
         return False
     with open(STAMP) as file:
         kept = file.read().splitlines()
+    if len(kept) != 3:
+        return False
     command = toolchain_command()
     time = os.stat(STAMP).st_mtime_ns
     is_moved = command and toolchain_place(command) != kept[-1]
@@ -138,5 +140,9 @@ def is_current():
     found = [checksum(), *(stamp_of('', command)[1:] if command else kept[1:])]
     if found[:2] != kept[:2]:
         return False
-    write_stamp(found, max(time, now))
+    try:
+        write_stamp(found, max(time, now))
+    except OSError:
+        # Where the folder may not be written, the next call asks for the checksum again.
+        pass
     return True

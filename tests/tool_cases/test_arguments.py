@@ -45,7 +45,7 @@ class Arguments(unittest.TestCase):
 
     def test_files(self):
         for words, read, made, kept in (
-                ('build --control=c --script s --hex h --steps 4 a.a51 b.inc', ['a.a51', 'b.inc', 'c', 's'], ['h'], ['h']),
+                ('build --control=c --script s --hex h a.a51 b.inc', ['a.a51', 'b.inc', 'c', 's'], ['h'], ['h']),
                 ('asm --out o -- a.a51', ['a.a51'], ['o'], ['o']),
                 ('lib build l a b', ['a', 'b'], ['l'], ['l']),
                 ('lib add l a', ['l', 'a'], [], ['l']),

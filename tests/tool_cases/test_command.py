@@ -20,7 +20,7 @@ HINTS = (
     (8, 'build --steps 4 a.a51 d.a51', 'm51: d.a51 is a folder\n'),
     (8, 'flat --steps 4 no/a.hex', 'm51: there is no folder no\n'),
     (8, 'stack --control=c a.a51', 'm51: there is no file c\n'),
-    (8, 'lib add l.lib b.obj', 'm51: there is no file l.lib\nm51: there is no file b.obj\nm51: `m51 lib build` makes a'),
+    (8, 'lib add l.lib b.obj', 'm51: there is no file l.lib\nm51: there is no file b.obj\nm51: `m51 lib build` '),
     (9, 'asm --out no/a.obj a.a51', 'm51: there is no folder no for no/a.obj\n'),
     (9, 'asm --out= a.a51', 'm51: the name of a file to keep is empty\n'),
     (9, 'asm --out d.a51 a.a51', 'm51: d.a51 is a folder\n'),
@@ -29,7 +29,8 @@ HINTS = (
     (12, 'build', 'm51: an argument is not valid UTF-8\n'))
 OVERWRITTEN = (
     'asm --out a.a51 a.a51', 'asm --out=./a.a51 a.a51', 'build --hex b.a51 a.a51', 'asm --out link.obj a.a51',
-    'build --hex a.obj --steps 3 a.obj', 'lib build a.a51 a.obj', 'lib build a.obj a.obj', 'build --hex c --control c a.a51')
+    'build --hex a.obj --steps 3 a.obj', 'lib build a.a51 a.obj', 'lib build a.obj a.obj',
+    'build --hex c --control c a.a51')
 NOT_OVERWRITTEN = (
     'asm --out a.obj a.a51', 'asm --out new.a51 a.a51', 'lib add a.obj b.obj', 'build --hex /dev/null a.a51')
 
@@ -47,7 +48,8 @@ class Command(StandIn):
             self.assertEqual('m51 explain' in said[2], status in NUMBERED, said)
 
     def test_odd_bytes_are_handed_on(self):
-        done = subprocess.run([self.script_path.encode(), b'\xff.a51'], stdout=subprocess.PIPE, stdin=subprocess.DEVNULL)
+        words = [self.script_path.encode(), b'\xff.a51']
+        done = subprocess.run(words, stdout=subprocess.PIPE, stdin=subprocess.DEVNULL)
         self.assertEqual(done.stdout, b'm51 \xff.a51\n')
 
     def test_standard_input_is_handed_on(self):
@@ -85,11 +87,12 @@ class Command(StandIn):
     def test_answer_in_a_file(self):
         """Where standard output is a file, the answer is said too."""
         for status, answer, said in (
-                (1, 'RUN\nEVENT V4 AT 0000 AFTER 5 STEPS 9 CYCLES', 'EVENT V4 AT 0000 AFTER 5 STEPS 9 CYCLES: the reserved '),
+                (1, 'RUN\nEVENT V4 AT 0000 AFTER 5 STEPS 9 CYCLES', 'EVENT V4 AT 0000 AFTER 5 STEPS 9 CYCLES: the '),
                 (3, 'a b.a51(2): E7\na b.a51(3): E1', 'a b.a51(2): E7: a name without a value; `m51 explain E7` says'),
                 (4, 'LINK L8', 'LINK L8: nothing begins at 0000H; `m51 explain L8` says'),
                 (7, 'no number', '`m51 explain LIMIT` says')):
-            shutil.copy(self.script('says', f'#!/bin/sh\necho "{answer}"\nexit {status}\n'), os.path.join(self.out, 'm51'))
+            program = self.script('says', f'#!/bin/sh\necho "{answer}"\nexit {status}\n')
+            shutil.copy(program, os.path.join(self.out, 'm51'))
             with open(self.path('answer'), 'w') as file:
                 file.write('LINK L1 earlier\n')
                 file.flush()
@@ -98,7 +101,8 @@ class Command(StandIn):
             self.assertTrue(done.stderr.decode().startswith(f'm51: {said}'), done.stderr)
 
     def test_output_that_is_closed_or_full(self):
-        for words, said in (('>&-', 'standard output is closed'), ('> /dev/full', 'standard output could not be written')):
+        for words, said in (
+                ('>&-', 'standard output is closed'), ('> /dev/full', 'standard output could not be written')):
             done = subprocess.run(['sh', '-c', f'"$0" gen {words}', self.script_path], stderr=subprocess.PIPE,
                                   stdin=subprocess.DEVNULL, env={**self.environment, 'STATUS': '9'})
             self.assertEqual((done.returncode, f'm51: {said}\n' in done.stderr.decode()), (9, True), done.stderr)
@@ -115,7 +119,8 @@ class Command(StandIn):
                 (9, 'asm --out a.obj a.a51', 'permission denied: a.obj may not be written')):
             self.keep('a.obj', '')
             done = subprocess.run(
-                [self.script_path, *words.split()], cwd=self.folder, env={**self.environment, 'STATUS': str(status), 'PATH': os.defpath},
+                [self.script_path, *words.split()], cwd=self.folder,
+                env={**self.environment, 'STATUS': str(status), 'PATH': os.defpath},
                 stdin=subprocess.DEVNULL, stdout=subprocess.DEVNULL, stderr=subprocess.PIPE,
                 preexec_fn=lambda: os.setuid(65534))
             self.assertEqual((done.returncode, done.stderr.decode()), (status, f'm51: {said}\n'))
@@ -154,7 +159,8 @@ class WithoutProgram(StandIn):
 
     def test_help(self):
         status, text, said = self.call()
-        self.assertEqual((status, text), (2, 'usage: m51 build [--control F] [--script F] [--hex F] --steps N FILE..\n'))
+        usage = 'usage: m51 build [--control F] [--script F] [--hex F] --steps N FILE..\n'
+        self.assertEqual((status, text), (2, usage))
         for words in (['-h'], ['--help'], ['help']):
             status, text, _ = self.call(*words)
             self.assertEqual((status, text), (0, said))

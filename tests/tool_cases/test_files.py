@@ -44,7 +44,7 @@ class Files(Folder):
         self.assertEqual([found.name for found in chosen], ['MAIN', 'M1', 'M3', 'M4'])
 
     def test_lines_of_includes(self):
-        """The file of a label after an include, with a comment before the include or without, and without the include."""
+        """The file of a label after an include, with a comment before it or without, and without the include."""
         rows = [
             '    1              ; a source', '    2              $INCLUDE(a.inc)', '    1              X EQU 1',
             '    2              Y EQU 2', '    3 0000 00      L: NOP', '    4              END']

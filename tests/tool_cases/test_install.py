@@ -7,8 +7,8 @@ from support import TOP, ran
 INSTALL = TOP / 'install'
 INSTALLED = (
     'share/man/man1/m51.1', 'share/bash-completion/completions/m51', 'share/zsh/site-functions/_m51',
-    'lib/m51/tools/numbers.txt', 'share/doc/m51/TUTORIAL.md', 'share/doc/m51/examples/tutorial/main.a51',
-    'share/doc/m51/SECURITY.md', 'share/doc/m51/pictures/line-wave.svg')
+    'lib/m51/tools/numbers.txt', 'share/doc/m51/docs/TUTORIAL.md', 'share/doc/m51/examples/tutorial/main.a51',
+    'share/doc/m51/SECURITY.md', 'share/doc/m51/docs/pictures/line-wave.svg', 'share/doc/m51/README.md')
 
 
 class Install(StandIn):
@@ -28,7 +28,8 @@ class Install(StandIn):
         self.assertEqual(self.call('gen', command=command), (0, 'program gen\n', ''))
         for words in (['explain', 'E7'], ['ram', '--help'], ['--help']):
             self.assertEqual(self.call(*words, command=command)[0], 0, words)
-        self.assertIn(f'the proved program {os.path.realpath(self.prefix)}/lib', self.call('--version', command=command)[1])
+        program = f'the proved program {os.path.realpath(self.prefix)}/lib'
+        self.assertIn(program, self.call('--version', command=command)[1])
         self.assertEqual(self.call('gen', command=command, M51_UNPROVED='1')[0], 70)
         for name in INSTALLED:
             self.assertIn(name, self.files())

@@ -27,19 +27,44 @@ class Pages(Folder):
                 self.assertEqual(file.read(), (PICTURES / name).read_text(), f'{name}: run docs/pictures/make')
 
     def test_help(self):
-        """Each verb and tool of the script is in --help and in the completions, each verb in COMMAND.md as it is here."""
+        """Each verb and tool of the script is in --help, each verb in COMMAND.md as it is here."""
         text = ran([TOP / 'm51', '--help'])
         page = (TOP / 'docs' / 'COMMAND.md').read_text()
-        for name in ('completions/m51.bash', 'completions/_m51'):
-            completion = (TOP / name).read_text()
-            for verb in (*arguments.VERBS, *arguments.TOOLS):
-                self.assertRegex(completion, rf'\b{verb}\b', name)
         for verb, (words, does) in arguments.VERBS.items():
             self.assertRegex(text, rf'\n  m51 {verb} ')
             self.assertIn(' '.join(f'm51 {verb} {words}'.split()) + ' ' + does, ' '.join(page.split()))
         for verb in arguments.TOOLS:
             self.assertRegex(text, rf'\n  m51 {verb} ')
             self.assertIn(f'usage: m51 {verb}', ran([TOP / 'tools' / verb, '--help']))
+
+    def completed(self, *words):
+        """What bash completes the last of these words to."""
+        script = f'. "$0"; COMP_WORDS=("$@"); COMP_CWORD={len(words) - 1}; _m51; echo "${{COMPREPLY[*]}}"'
+        return ran(['bash', '-c', script, TOP / 'completions' / 'm51.bash', *words], folder=self.folder).split()
+
+    def test_completions_of_bash(self):
+        verbs = [*arguments.VERBS, *arguments.TOOLS, '--help', '--version']
+        self.assertEqual(sorted(self.completed('m51', '')), sorted(verbs))
+        for verb, (words, _) in arguments.VERBS.items():
+            options = [word.strip('[]') for word in words.split() if '--' in word]
+            self.assertEqual(sorted(self.completed('m51', verb, '--')), sorted([*options, '--help']), verb)
+        self.assertEqual(self.completed('m51', 'lib', ''), list(arguments.OPERATIONS))
+        for tool in arguments.TOOLS:
+            for option in self.completed('m51', tool, '--'):
+                words = ['rx'] if tool == 'serial' and option not in ('--board', '--help') else []
+                words = ['tx'] if option == '--board' else words
+                self.assertIn(option, ran([TOP / 'tools' / tool, *words, '--help']), tool)
+        for name in ('a.a51', 'b.hex', 'c.obj', 'd.lib', 'e.txt'):
+            self.keep(name, '')
+        self.assertEqual(self.completed('m51', 'asm', ''), ['a.a51'])
+        self.assertEqual(sorted(self.completed('m51', 'build', '')), ['a.a51', 'c.obj', 'd.lib'])
+        self.assertEqual(self.completed('m51', 'lib', 'add', ''), ['d.lib'])
+
+    def test_completions_of_zsh(self):
+        text = (TOP / 'completions' / '_m51').read_text()
+        for verb, (_, does) in (*arguments.VERBS.items(), *arguments.TOOLS.items()):
+            self.assertIn(f"    '{verb}:", text)
+            self.assertTrue(verb == 'explain' or f"'{verb}:{does}'" in text, verb)
 
     def test_usage_is_that_of_the_program(self):
         self.assertEqual(ran([PROGRAM], status=2), arguments.USAGE + '\n')

@@ -82,7 +82,8 @@ class Wave(Folder):
         text = tool('wave', '--svg', '--title', 'A & B', '--script', 's.brd', text=TRACE, folder=self.folder)
         picture = xml.etree.ElementTree.fromstring(text)
         texts = [it.text for it in picture.iter('{http://www.w3.org/2000/svg}text')]
-        for shown in ('A & B', 'P1', 'P3', 'TX', 'pins1', 'RX', '55', "42 'B'", 'EVENT V4 AT 0000 AFTER 5 STEPS 9 CYCLES'):
+        event = 'EVENT V4 AT 0000 AFTER 5 STEPS 9 CYCLES'
+        for shown in ('A & B', 'P1', 'P3', 'TX', 'pins1', 'RX', '55', "42 'B'", event):
             self.assertIn(shown, texts)
         for hidden in ('P0', 'P2', 'pins0'):
             self.assertNotIn(hidden, texts)

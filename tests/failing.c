@@ -7,11 +7,13 @@
    FAILING_AT    which of them, counted from 1
    FAILING_HOW   once: that call; on: that call and all later ones of its kind; all: that call and all later ones of
                  any kind; short: that call and all later ones move one byte; nothing: a write takes no byte;
-                 signal: it is interrupted; signals: so are all later ones */
+                 signal: it is interrupted; signals: so are all later ones; kill: the run is killed before it; cut:
+                 it moves one byte, and the run is killed before the next of its kind */
 #define _GNU_SOURCE
 #include <dlfcn.h>
 #include <errno.h>
 #include <fcntl.h>
+#include <signal.h>
 #include <stdarg.h>
 #include <stdio.h>
 #include <stdlib.h>
@@ -76,7 +78,9 @@ static int is_struck(char letter)
 static int goes_on(int number, size_t *bytes, ssize_t *answer)
 {
     *answer = -1;
-    if (is_how("short")) {
+    if (is_how("kill") || (is_how("cut") && met > at))
+        kill(getpid(), SIGKILL);
+    if (is_how("short") || is_how("cut")) {
         *bytes = *bytes > 1 ? 1 : *bytes;
         return 1;
     }

@@ -60,6 +60,11 @@ def layers(count):
     return {'a.a51': lines(*parts, 'CSEG AT 0', 'LCALL FA0', 'LCALL FB0', 'SJMP $', 'END')}
 
 
+def is_ladder(answer):
+    """Whether the two units of each layer share a byte, and the heaviest chain has one of each."""
+    return b'CHAIN @0000 40 @0000,?PR?A0,?PR?A1,' in answer[1] and b'OVERLAID 40 BYTES\n' in answer[1]
+
+
 def chain_of(sizes):
     """Units of which each calls the next, with locals of these sizes."""
     parts = []
@@ -89,6 +94,34 @@ def chosen(count):
     given = [objects.header(name) + objects.public(objects.CODE, 0, 9, name) + objects.end(name) for name in names]
     files = {'a.obj': objects.header('A') + loop + objects.end('A'), 'l.lib': objects.library(*given)}
     return ['build', '--steps', '1', 'a.obj', 'l.lib'], files
+
+
+def object_of(*records):
+    """An object with these records, which is put into a library."""
+    return ['lib', 'build', 'l.lib', 'a.obj'], {'a.obj': b''.join([objects.header('A'), *records, objects.end('A')])}
+
+
+def single_units(count):
+    """So many units of one byte, from 0000H on, whose bytes are FFH, in two sources."""
+    parts = [[f'CSEG AT {at}', 'DS 1'] for at in range(count)]
+    files = {name: lines(*sum(half, []), 'END') for name, half in (('a.a51', parts[::2]), ('b.a51', parts[1::2]))}
+    return ['dis', *files], files
+
+
+def disassembled(size):
+    """One unit of so many bytes, each FFH."""
+    return ['dis', 'a.a51'], {'a.a51': lines('CSEG AT 0', f'DS {size}', 'END')}
+
+
+def controlled(*lines_of_file):
+    """The loop with a control file."""
+    return CONTROLLED, {'c': lines(*lines_of_file), **LOOP_SOURCE}
+
+
+def wide_listing():
+    """A source whose last line but one is that of a call far up, which has a fixup, and has five digits."""
+    source = lines('EXTRN CODE (SEND)', 'CSEG AT 0FA0BH', *[''] * 65_531, ' LCALL SEND', 'END')
+    return ASM, {'a.a51': source}
 
 
 def is_in_order(answer):
@@ -136,7 +169,7 @@ CASES = [
     ('65,536 fixups', ASM, fixups(65_536), is_refused(3, 'a.a51(552): E19\n')),
     ('the largest list', BUILD, {'a.a51': lines('CSEG AT 0', f'DB {",".join(["0"] * 126)}', 'SJMP $', 'END')},
      ends(0, LAST)),
-    ('40 layers of two units', BUILD, layers(40), lambda answer: b'OVERLAID 40 BYTES\n' in answer[1]),
+    ('40 layers of two units', BUILD, layers(40), is_ladder),
     ('a chain that fills the run', BUILD, chain_of([40, 40, 40]), lambda answer: b'OVERLAID 120 BYTES\n' in answer[1]),
     ('a chain of a byte more', BUILD, chain_of([40, 40, 41]), is_refused(4, 'LINK L12 ?DT?U2\n')),
     ('1,999 segments of external memory', *many_segments(1_999, 'XDATA', 'DS 32'), is_in_order),
@@ -149,11 +182,30 @@ CASES = [
     ('1,000 control lines', CONTROLLED, {'c': b'\n' * 1_000, **LOOP_SOURCE}, ends(0, LOOP)),
     ('1,001 control lines', CONTROLLED, {'c': b'\n' * 1_000 + b';', **LOOP_SOURCE},
      is_refused(7, 'LIMIT CONTROLLINES 1000\n')),
+    ('a wrong 1,000th control line', *controlled(*[''] * 999, 'A'), is_refused(6, 'CONTROL LINE 1000: C1\n')),
+    ('a wrong control line of 1,001', *controlled(*[''] * 999, 'A', ';'), is_refused(7, 'LIMIT CONTROLLINES 1000\n')),
+    ('a control line of 255 bytes', *controlled(f'NOOVERLAY({" " * 243}A)'), is_refused(4, 'LINK L7 LINE 1\n')),
+    ('a control line of 256 bytes', *controlled(f'NOOVERLAY({" " * 244}A)'), is_refused(6, 'CONTROL LINE 1: C1\n')),
     ('65,536 script lines', SCRIPTED, {'s': b'\n' * 65_536, **LOOP_SOURCE}, ends(0, LOOP)),
     ('65,537 script lines', SCRIPTED, {'s': b'\n' * 65_536 + b';', **LOOP_SOURCE},
      is_refused(7, 'LIMIT SCRIPTLINES 65536\n')),
     ('990,000 points of a stack', *procedures(16), ends(0, 'STACK @0000 50 RESET,0038\nBOUND 32\n')),
     ('1,052,000 points of a stack', *procedures(17), is_refused(7, 'LIMIT POINTS 1000000\n')),
+    ('254 units of a disassembly', *single_units(254),
+     lambda answer: answer[0] == 0 and len(answer[1]) == 9 + 254 * 24 + 4),
+    ('255 units of a disassembly', *single_units(255), is_refused(7, 'LIMIT PARTS 254\n')),
+    ('65,535 lines of a disassembly', *disassembled(65_532),
+     lambda answer: answer[0] == 0 and answer[1].count(b'\n') == 65_535),
+    ('65,536 lines of a disassembly', *disassembled(65_533), is_refused(7, 'LIMIT LINES 65535\n')),
+    ('65,535 lines of a listing', *wide_listing(), ends(0, '65534 FA0B 120000*  LCALL SEND\n65535              END\n')),
+    ('a piece of 1,025 bytes', *object_of(objects.segment(objects.CODE, objects.ABSOLUTE, 2_048),
+                                          objects.piece(1, 0, '00' * 1_025)),
+     is_refused(5, 'OBJECT a.obj: O4 AT 1049\n')),
+    ('an object of 255 segments', *object_of(*[objects.segment(objects.CODE, objects.ABSOLUTE, 1)] * 255),
+     is_refused(5, 'OBJECT a.obj: O4 AT 3058\n')),
+    ('an object of 256 externals', *object_of(*[objects.external(objects.NUMBER, one + two)
+                                                for one in 'ABCDEFGHIJKLMNOP' for two in 'ABCDEFGHIJKLMNOP']),
+     is_refused(5, 'OBJECT a.obj: O4 AT 2050\n')),
     ('a file of 1,048,576 bytes', FLAT, {'a.hex': LOOP_HEX.ljust(1_048_576)}, ends(0, LOOP)),
     ('a file of 1,048,577 bytes', FLAT, {'a.hex': LOOP_HEX.ljust(1_048_577)}, is_refused(7, 'LIMIT BYTES 1048576\n')),
     ('a full library is listed', ['lib', 'list', 'l.lib'], full_library(),

@@ -1,8 +1,10 @@
 """Random lines, cut into tokens apart from the program after docs/LANGUAGE.md: of each the fault of its bytes, its
-length, its tokens or its control, or that it has none of these."""
+length, its tokens or its control, or that it has none of these. And random lines that have no expression in their form
+and are out of it: whether an expression is missing in them."""
 import random
 import re
 
+from expressions import RANKS
 from links import text_of
 
 COUNT = 60
@@ -99,4 +101,102 @@ def case(number):
     return f'lines {number}', ['build', '--steps', '1', 'a.a51'], files, lambda ran: is_right(ran, wanted)
 
 
-CASES = [case(number) for number in range(COUNT)]
+# What begins a line that has no expression in its form, and puts it out of its form.
+BEGINNINGS = ['END X', 'CSEG X', 'BSEG )', 'RSEG X Y', 'NAME X )', 'PUBLIC X Y', 'EXTRN DATA (X) )', 'S SEGMENT CODE X']
+PREFIXES = ['+', '-', 'HIGH', 'LOW', 'NOT']
+INFIXES = [word for operators, stands_before in RANKS if not stands_before for word in operators.split()]
+OPERANDS = ['X', 'Y1', '$', '5', "'a'", "'ab'"]
+LONG_TEXTS = ["'abc'", "''"]
+PARTS = [*PREFIXES, *INFIXES, *OPERANDS, *OPERANDS, *LONG_TEXTS, 'A', 'MOV', *'@@##,,,(((()))):']
+
+
+class Missing(Exception):
+    """No expression begins where one is needed."""
+
+
+def after_operand(tokens, at):
+    if tokens[at] == '(':
+        at = after_expression(tokens, at + 1)
+        if tokens[at] != ')':
+            raise Missing
+    elif tokens[at] not in OPERANDS:
+        raise Missing
+    return at + 1
+
+
+def after_expression(tokens, at, rank=len(RANKS)):
+    """The index after the longest expression of a rank that begins at a token."""
+    if rank == 0:
+        return after_operand(tokens, at)
+    operators, stands_before = RANKS[rank - 1]
+    if stands_before and tokens[at] in operators.split():
+        return after_expression(tokens, at + 1, rank)
+    at = after_expression(tokens, at, rank - 1)
+    while not stands_before and tokens[at] in operators.split():
+        at = after_expression(tokens, at + 1, rank - 1)
+    return at
+
+
+def look_inside(tokens, at):
+    """After a parenthesis of a list an expression begins, and further on the parenthesis is closed."""
+    first, depth = at, 0
+    while tokens[at] in PREFIXES:
+        if tokens[at] == 'NOT' and at > first and tokens[at - 1] != 'NOT':
+            raise Missing
+        at += 1
+    after_operand(tokens, at)
+    for token in tokens[first:]:
+        depth += (token == '(') - (token == ')')
+        if depth < 0:
+            return
+    raise Missing
+
+
+def look_through(tokens):
+    """Raises Missing where no expression begins after a sign or an operator of a line without expressions."""
+    at = 0
+    while at < len(tokens) - 1:
+        token = tokens[at]
+        if token == '(':
+            look_inside(tokens, at + 1)
+        if token in LONG_TEXTS and tokens[at + 1] in INFIXES:
+            raise Missing
+        if token in OPERANDS or token in PREFIXES:
+            at = after_expression(tokens, at)
+        elif token in INFIXES or token == '#':
+            at = after_expression(tokens, at + 1)
+        else:
+            at += 3 if token == '@' and tokens[at + 1:at + 3] == ['A', '+'] else 1
+
+
+def defines_reserved(tokens):
+    """Whether a reserved word is after a parenthesis of EXTRN, or after a comma inside one."""
+    depth = 0
+    for token, after in zip(tokens, tokens[1:]):
+        depth = max(0, depth + (token == '(') - (token == ')'))
+        if (token == '(' or token == ',' and depth) and after.isalpha() and after not in OPERANDS:
+            return True
+    return False
+
+
+def fault_of_form(line):
+    tokens = [*re.findall(r"'[^']*'|[A-Z0-9]+|\S", line), 'the end']
+    if tokens[0] == 'EXTRN' and defines_reserved(tokens[:-1]):
+        return 12
+    try:
+        look_through(tokens[3 if tokens[1] == 'SEGMENT' else 1:])
+    except Missing:
+        return 6
+    return 12
+
+
+def form_case(number):
+    rng = random.Random(number)
+    lines = [' '.join([rng.choice(BEGINNINGS), *rng.choices(PARTS, k=rng.randint(1, 5))]) for _ in range(LINES)]
+    told = ''.join(f'a.a51({at}): E{fault_of_form(line)}\n' for at, line in enumerate(lines, 1))
+    files = {'a.a51': text_of([*lines, 'END']).encode()}
+    wanted = 3, told.encode(), files
+    return f'forms of lines {number}', ['build', '--steps', '1', 'a.a51'], files, lambda ran: ran == wanted
+
+
+CASES = [*(case(number) for number in range(COUNT)), *(form_case(number) for number in range(COUNT // 3))]

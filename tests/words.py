@@ -1,6 +1,7 @@
-"""The rows of words.txt and of system.txt: a name, the words, the files, and a test of the answer."""
+"""The rows of words.txt, files.txt and system.txt: a name, the words, the files, and a test of the answer."""
 import re
 
+import objects
 from running import ROWS, TESTS, filled_of, files_of
 
 USAGE = (ROWS / 'cases' / 'usage' / 'stdout').read_bytes()
@@ -22,8 +23,26 @@ def words_of(text):
     return words
 
 
+def given(text):
+    """The words of a row, and the file that it gives: its last word, with a text or with bytes by their digits."""
+    words, mark, contents = text.partition(' <')
+    if not mark:
+        return words, {}
+    data = bytes.fromhex(contents[1:]) if contents.startswith('<') else bytes_of(contents[1:])
+    return words, {words.split()[-1]: data}
+
+
+def has_image(wanted, ran):
+    """Whether the kept HEX file has the bytes that a row such as `1000:3433` wants."""
+    at, digits = wanted.split(':')
+    image = objects.read_hex(ran[2].get('h', b''))
+    return all(image.get(int(at, 16) + offset) == byte for offset, byte in enumerate(bytes.fromhex(digits)))
+
+
 def is_right_for(answer, files):
-    """A test for `2`, `0`, `0 > file` or `8 READ FAULT file`."""
+    """A test for `2`, `0`, `0 > file`, `8 READ FAULT file` or `1000:3433`."""
+    if answer[4:5] == ':':
+        return lambda ran: has_image(answer, ran)
     front, _, kept = answer.partition(' > ')
     status, _, text = front.partition(' ')
     wanted = USAGE if status == '2' else bytes_of(text) + b'\n' if text else b'' if status == '12' else None
@@ -39,12 +58,14 @@ def is_right_for(answer, files):
 
 
 def cases():
-    tables = [ROWS / 'words.txt', TESTS / 'system.txt']
+    tables = [ROWS / 'words.txt', ROWS / 'files.txt', TESTS / 'system.txt']
     for row in [row for table in tables for row in table.read_text().splitlines()]:
         if row and not row.startswith('#'):
             answer, text = re.fullmatch(r'(.*?) = ?(.*)', row).groups()
-            files = {**FILES, **{name: content for name, content in FILLED.items() if name in text.split()}}
-            yield f'words {text}', words_of(text), files, is_right_for(answer, files)
+            words, file = given(text)
+            filled = {name: content for name, content in FILLED.items() if name in words.split()}
+            files = {**FILES, **filled, **file}
+            yield f'words {text}', words_of(words), files, is_right_for(answer, files)
 
 
 CASES = list(cases())

@@ -9,8 +9,8 @@ use Rattle.m51_linker.specs.declared.linked.Linked.{Linked}
 use Rattle.m51_script.specs.declared.script.Script.{Script}
 use Rattle.m51_sim.specs.Cycles.{inputs_of}
 use Rattle.m51_sim.proofs.Keeping.{flat_runs_agree}
-use Rattle.m51_words.specs.declared.job.BuildJob.{BuildJob}
-use Rattle.m51_words.specs.declared.job.Job.TheVariants.{Build}
+use Rattle.m51_jobs.specs.declared.job.BuildJob.{BuildJob}
+use Rattle.m51_jobs.specs.declared.job.Job.TheVariants.{Build}
 use Rattle.m51_chain.specs.Outcome.{Outcome}
 use Rattle.m51_chain.specs.Programs.{hex_kept}
 use Rattle.m51_chain.specs.Verbs.{IsOutcome}

@@ -31,7 +31,7 @@ use Rattle.m51_inputs.specs.declared.error.InputError.TheVariants as input
 use Rattle.m51_inputs.specs.Inputs.{InputsTree}
 use Rattle.m51_script.specs.declared.error.ScriptError.TheVariants as script
 use Rattle.m51_sim.specs.Report.{report_of}
-use Rattle.m51_words.specs.declared.job.BuildJob.{BuildJob}
+use Rattle.m51_jobs.specs.declared.job.BuildJob.{BuildJob}
 use Rattle.m51_chain.specs.declared.status.Status.TheVariants.{Link}
 use Rattle.m51_chain.specs.Builds.{build_files}
 use Rattle.m51_chain.specs.InputRefusals.{input_outcome}

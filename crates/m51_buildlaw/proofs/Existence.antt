@@ -39,8 +39,8 @@ use Rattle.m51_place.proofs.Whole.{placed_whole}
 use Rattle.m51_resolve.specs.Joining.{segments_of}
 use Rattle.m51_buildlaw.proofs.GraphKept.{graph_kept}
 use Rattle.m51_buildlaw.proofs.Weights.{has_weight}
-use Rattle.m51_words.specs.declared.job.BuildJob.{BuildJob}
-use Rattle.m51_words.specs.declared.job.Job.TheVariants.{Build}
+use Rattle.m51_jobs.specs.declared.job.BuildJob.{BuildJob}
+use Rattle.m51_jobs.specs.declared.job.Job.TheVariants.{Build}
 use Rattle.m51_chain.specs.Builds.{IsBuildOutcome, build_files}
 use Rattle.m51_chain.specs.InputRefusals.{input_outcome}
 use Rattle.m51_chain.specs.Linking.{Follows, IsInputsOutcome, Unlinked, link_outcome, program_in}

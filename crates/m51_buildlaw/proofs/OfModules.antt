@@ -28,9 +28,9 @@ use Rattle.m51_library.specs.Reading.{at_end, count_in, library_of, modules_at, 
 use Rattle.m51_library.specs.Spelling.{count_record}
 use Rattle.m51_library.proofs.Accepting.{makes_all}
 use Rattle.m51_library.proofs.LibraryLaws.{first_takes}
-use Rattle.m51_words.specs.declared.endings.Ending.{Ending}
-use Rattle.m51_words.specs.declared.endings.Ending.TheVariants as ending
-use Rattle.m51_words.specs.Endings.{ending_of}
+use Rattle.m51_jobs.specs.declared.endings.Ending.{Ending}
+use Rattle.m51_jobs.specs.declared.endings.Ending.TheVariants as ending
+use Rattle.m51_jobs.specs.Endings.{ending_of}
 use Rattle.m51_inputs.specs.declared.error.InputError.{InputError}
 use Rattle.m51_inputs.specs.declared.error.SourceFaults.{SourceFaults}
 use Rattle.m51_inputs.specs.Files.{includes_of, source_words, sources_of}

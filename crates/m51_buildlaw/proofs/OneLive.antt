@@ -43,7 +43,7 @@ use Rattle.m51_sim.specs.SeparateMachine.{Separate, cells_of, concludes, instr_o
 use Rattle.m51_sim.proofs.Keeping.{inside_ok}
 use Rattle.m51_stacklaw.proofs.Bounded.{Held, judged_of}
 use Rattle.m51_stacklaw.proofs.Meeting.{root_at}
-use Rattle.m51_words.specs.declared.job.BuildJob.{BuildJob}
+use Rattle.m51_jobs.specs.declared.job.BuildJob.{BuildJob}
 use Rattle.m51_chain.specs.Builds.{IsBuildOutcome}
 use Rattle.m51_chain.specs.Outcome.{Outcome}
 use Rattle.m51_buildlaw.specs.Builds.{AreOfBytes, IsBuilt, separate_run}

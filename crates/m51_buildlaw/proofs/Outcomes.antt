@@ -20,7 +20,7 @@ use Rattle.m51_asm.proofs.OneAnswer.{one_answer as one_text}
 use Rattle.m51_inputs.specs.declared.error.InputError.{InputError}
 use Rattle.m51_inputs.specs.Inputs.{InputsTree}
 use Rattle.m51_inputs.proofs.OneEach.{one_answer as one_for_files}
-use Rattle.m51_words.specs.declared.job.BuildJob.{BuildJob}
+use Rattle.m51_jobs.specs.declared.job.BuildJob.{BuildJob}
 use Rattle.m51_chain.specs.declared.status.Status.TheVariants.{Event, Link, Ran}
 use Rattle.m51_chain.specs.Builds.{IsBuildOutcome, build_files}
 use Rattle.m51_chain.specs.Linking.{IsInputsOutcome, IsProgramOutcome, link_outcome, program_in, reason_of}

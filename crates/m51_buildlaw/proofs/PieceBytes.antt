@@ -21,8 +21,8 @@ use Rattle.m51_module.specs.declared.parts.ModuleParts.{ModuleParts}
 use Rattle.m51_module.specs.Validity.{IsBitNumber, IsFixupValid, IsValid}
 use Rattle.m51_place.specs.declared.placing.Placing.{Placing}
 use Rattle.m51_records.specs.Contents.{piece_contents}
-use Rattle.m51_records.specs.Fields.{pair}
-use Rattle.m51_records.specs.Frame.{front_of, record_of}
+use Rattle.m51_frame.specs.Fields.{pair}
+use Rattle.m51_frame.specs.Frame.{front_of, record_of}
 use Rattle.m51_records.specs.Spelling.{bytes_of, external_record, header_record, piece_record, public_record, segment_record}
 use Rattle.m51_records.proofs.FieldLaws.{IsBytes, fit_back, fit_front}
 use Rattle.m51_records.proofs.ModuleLaws.{IsRead}

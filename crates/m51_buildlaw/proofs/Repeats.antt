@@ -26,9 +26,9 @@ use Rattle.m51_sim.specs.Runs.{Machine, Performed, Record, State, no_step, recor
 use Rattle.m51_sim.specs.SeparateMachine.{Separate}
 use Rattle.m51_sim.proofs.Agreeing.{filled_has}
 use Rattle.m51_sim.proofs.Sums.{appended, record_sum}
-use Rattle.m51_words.specs.declared.job.BuildJob.{BuildJob}
-use Rattle.m51_words.specs.declared.job.FlatJob.{FlatJob}
-use Rattle.m51_words.specs.declared.job.Job.TheVariants.{Build, Flat}
+use Rattle.m51_jobs.specs.declared.job.BuildJob.{BuildJob}
+use Rattle.m51_jobs.specs.declared.job.FlatJob.{FlatJob}
+use Rattle.m51_jobs.specs.declared.job.Job.TheVariants.{Build, Flat}
 use Rattle.m51_chain.specs.Builds.{build_files}
 use Rattle.m51_chain.specs.FlatRuns as flats
 use Rattle.m51_chain.specs.FlatRuns.{Ran, Read, flat_report}

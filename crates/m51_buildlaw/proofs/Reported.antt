@@ -22,7 +22,7 @@ use Rattle.m51_linker.specs.declared.linked.Linked.{Linked}
 use Rattle.m51_linker.specs.Link.{placed_of}
 use Rattle.m51_script.specs.declared.script.Script.{Script}
 use Rattle.m51_sim.specs.Report.{report_of}
-use Rattle.m51_words.specs.declared.job.BuildJob.{BuildJob}
+use Rattle.m51_jobs.specs.declared.job.BuildJob.{BuildJob}
 use Rattle.m51_chain.specs.Builds.{build_files}
 use Rattle.m51_chain.specs.Linking.{Follows, IsProgramOutcome, Unlinked, link_outcome}
 use Rattle.m51_chain.specs.Outcome.{Outcome}

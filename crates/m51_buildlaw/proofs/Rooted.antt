@@ -11,7 +11,7 @@ use Rattle.m51_place.proofs.PlacedAt.{places_are}
 use Rattle.m51_place.proofs.Tight.{of_located}
 use Rattle.m51_place.proofs.Whole.{placed_whole}
 use Rattle.m51_resolve.specs.Joining.{segments_of}
-use Rattle.m51_words.specs.declared.job.BuildJob.{BuildJob}
+use Rattle.m51_jobs.specs.declared.job.BuildJob.{BuildJob}
 use Rattle.m51_chain.specs.Builds.{build_files}
 use Rattle.m51_script.specs.declared.script.Script.{Script}
 use Rattle.m51_buildlaw.specs.Builds.{AreOfBytes, IsAccepted, IsBuilt}

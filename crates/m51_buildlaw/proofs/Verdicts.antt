@@ -29,7 +29,7 @@ use Rattle.m51_script.specs.declared.error.ScriptError.{ScriptError}
 use Rattle.m51_script.specs.declared.error.ScriptError.TheVariants as script
 use Rattle.m51_script.specs.declared.script.Script.{Script}
 use Rattle.m51_sim.specs.Report.{report_of}
-use Rattle.m51_words.specs.declared.job.BuildJob.{BuildJob}
+use Rattle.m51_jobs.specs.declared.job.BuildJob.{BuildJob}
 use Rattle.m51_chain.specs.declared.status.Status.{Status}
 use Rattle.m51_chain.specs.declared.status.Status.TheVariants as status
 use Rattle.m51_chain.specs.Builds.{IsBuildOutcome, build_files}

@@ -14,13 +14,13 @@ use Rattle.m51_sim.specs.Cycles.{inputs_of}
 use Rattle.m51_sim.specs.FlatMachine.{flat_machine, reset_with}
 use Rattle.m51_sim.specs.Runs.{Record, record_of}
 use Rattle.m51_sim.specs.SeparateMachine.{Separate, separate_machine, separate_start}
-use Rattle.m51_words.specs.declared.job.BuildJob.{BuildJob}
+use Rattle.m51_jobs.specs.declared.job.BuildJob.{BuildJob}
 use Rattle.m51_chain.specs.declared.status.Status.TheVariants.{Event, Ran}
 use Rattle.m51_chain.specs.Builds.{build_files}
 use Rattle.m51_chain.specs.Outcome.{Outcome}
 use Rattle.m51_chain.specs.ProgramFiles.{AreAnswered}
 
--- No rule of the link fails, and the program is what the rules give: the modules that are chosen, their graph, and
+-- No rule of the link fails, and this is the program that the rules give: the modules that are chosen, their graph, and
 -- where their segments are placed.
 pub record MeetsRules (inputs : InputsTree) (program : Program) : Type 0 where
   -- L1 to L5, and the limits of modules, segments and units
@@ -32,38 +32,43 @@ pub record MeetsRules (inputs : InputsTree) (program : Program) : Type 0 where
   -- L13
   pub fields : broken_rule program.modules program.placing ≡ None
 
--- no file is refused, and no rule fails
+-- The build is accepted: no file is refused, and no rule fails.
 pub record IsAccepted (job : BuildJob) (contents : List (List ℕ)) : Type 0 where
+  -- what the files give: modules, libraries, control lines and script
   pub inputs : InputsTree
   pub read : AreAnswered (build_files job) contents (Ok inputs)
+  -- the program of these
   pub program : Program
   pub rules : MeetsRules inputs program
 
--- So the program is linked to this, and this is its script.
+-- It is accepted, with this script, and its program is linked to this layout, image and these roots.
 pub record IsBuilt (job : BuildJob) (contents : List (List ℕ)) (script : Script) (linked : Linked) : Type 0 where
   pub accepted : IsAccepted job contents
+  -- the script of its files, or that of no line
   pub script_is : script ≡ accepted.inputs.script
+  -- each byte of the image, the runs that are filled, and the roots
   pub linked_is : IsLinked accepted.program linked
 
--- it was run: status 0, or an event came, status 1
+-- The program was run: status 0, or status 1, if an event came.
 abbrev pub IsRun : Outcome → Type 0
 IsRun outcome = (outcome.status ≡ Ran) ⊎ (outcome.status ≡ Event)
 
--- a file is of bytes, and all files are
+-- a file is a list of bytes
 abbrev pub AreBytes : List ℕ → Type 0
 AreBytes bytes = All (λ byte. byte < 256) bytes
 
+-- each file is
 abbrev pub AreOfBytes : List (List ℕ) → Type 0
 AreOfBytes contents = All AreBytes contents
 
--- At most so many steps of the machine that keeps each segment in a store of its own, after a reset.
+-- The record of at most n steps after a reset, on the machine that keeps each segment in a store of its own.
 abbrev pub separate_run : Linked → Script → ℕ → Record Separate
 separate_run linked script n =
     let inputs = inputs_of script in
     record_of (separate_machine linked.layout linked.image inputs) n
     (reset_with inputs (separate_start linked.layout script.fill))
 
--- At most so many steps of the machine that has one memory for all, from the values that these cells have at the reset.
+-- The same on the machine that has one memory for all, from any values of its cells at the reset.
 abbrev pub flat_run : List ℕ → Script → CellMap → ℕ → Record CellMap
 flat_run image script cells n =
     let inputs = inputs_of script in record_of (flat_machine image inputs) n (reset_with inputs cells)

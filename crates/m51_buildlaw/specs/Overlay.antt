@@ -22,8 +22,8 @@ use Rattle.m51_place.specs.Placement.{placing_of}
 use Rattle.m51_print.specs.Map.{line_of_chain, segment_line, unit_lines}
 use Rattle.m51_print.specs.Refusals.{refusal_text}
 use Rattle.m51_inputs.specs.Inputs.{InputsTree}
-use Rattle.m51_words.specs.declared.job.BuildJob.{BuildJob}
-use Rattle.m51_words.specs.declared.job.Job.TheVariants.{Build}
+use Rattle.m51_jobs.specs.declared.job.BuildJob.{BuildJob}
+use Rattle.m51_jobs.specs.declared.job.Job.TheVariants.{Build}
 use Rattle.m51_chain.specs.declared.status.Status.TheVariants.{Link}
 use Rattle.m51_chain.specs.Builds.{build_files}
 use Rattle.m51_chain.specs.Outcome.{Outcome}

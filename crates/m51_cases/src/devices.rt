@@ -1,13 +1,11 @@
-//! Tables of the devices, of interrupts and of scripts, with values from the family manual.
-use m51_cells::{NoMemory, digit_value};
+//! Tables of the devices and of interrupts, with values from the family manual.
+use m51_cells::digit_value;
 use m51_flat::{Cpu, Pins, Source, reset};
 use m51_irq::choose;
-use m51_script::{ScriptError, read_script};
 use m51_sfr::addresses::{
     IE, IP, PCON, RCAP2H, RCAP2L, SBUF, SCON, T2CON, TCON, TH0, TH1, TH2, TL0, TL1, TL2, TMOD,
 };
 use m51_timers_uart::{Frame, Periph};
-use std::alloc::Global;
 
 // Timer, TMOD, TCON, TH, TL, port 3 at the last tick and now; then TH, TL and TCON.
 const TIMERS: &str = "00 00 10 00 1F FF FF 01 00 10
@@ -315,29 +313,4 @@ fn all_enables_and_priorities_of_two_sources(rt: HostRuntime) {
         let want = CHOICES.get(usize::from(index)).copied();
         assert!(rt; want == Some(choice_of(index)), "at {index}");
     }
-}
-
-// A script of 65,536 lines, and this text after them.
-fn long_script(alloc: Global, end: &[u8]) -> Result<Vec<u8>, NoMemory> {
-    let mut text = Vec::new(alloc);
-    for _ in 0..32_768 {
-        text.extend_from_slice(b"PIN 7 P1 0F\nRX 7 41\n")?;
-    }
-    text.extend_from_slice(end)?;
-    Ok(text)
-}
-
-// The levels and the number of frames in cycle 7 of that script.
-fn in_cycle_7(alloc: Global, end: &[u8]) -> Result<([u8; 4], usize), ScriptError> {
-    let text = long_script(alloc, end)?;
-    let script = read_script(alloc, &text)?;
-    let pins = script.pins_at(7);
-    let levels = pins.p;
-    Ok((levels, script.frames_at(7).len()))
-}
-
-#[test]
-fn a_script_has_at_most_65_536_lines(rt: HostRuntime) {
-    assert!(rt; in_cycle_7(rt.alloc(), b"") == Ok(([0xFF, 0x0F, 0xFF, 0xFF], 32_768)));
-    assert!(rt; in_cycle_7(rt.alloc(), b"\n") == Err(ScriptError::Limit));
 }

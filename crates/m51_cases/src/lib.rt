@@ -1,13 +1,11 @@
-//! Tests that cross crates: from objects to a graph, edits, arguments, devices, the monitor, boards on one line, calls
-//! that fail, and the files of the system. It is no part of the product.
+//! Tests of what no verb reaches: devices by the tables of the manual, the monitor, edits of libraries, boards and files
+//! of the system. It is no part of the product.
 #![tactic(auto)]
 
 #[cfg(test)]
 mod calls;
 #[cfg(test)]
 mod devices;
-#[cfg(test)]
-mod failing_calls;
 #[cfg(test)]
 mod library_edits;
 #[cfg(test)]
@@ -19,10 +17,6 @@ mod monitor_run;
 #[cfg(test)]
 mod monitor_table;
 #[cfg(test)]
-mod objects;
-#[cfg(test)]
-mod parties;
+mod sure_calls;
 #[cfg(test)]
 mod system_files;
-#[cfg(test)]
-mod words;

@@ -203,3 +203,36 @@ fn live_over_a_cell(alloc: Global) -> Option<[Option<u16>; 3]> {
 fn of_two_segments_on_a_cell_the_live_one_answers(rt: HostRuntime) {
     assert!(rt; live_over_a_cell(rt.alloc()) == Some([None, Some(9), Some(8)]));
 }
+
+// Return records and names at the reset, after a call of the unit 5, after two calls within it, and after their returns
+// and a jump to the unit 6.
+fn depths_and_names(run: &mut Run) -> Option<[(u8, [u8; 8]); 4]> {
+    let reset = run.depth_and_named();
+    let _call = run.go(spot(b'R'), Act::Call, spot(b'J'))?;
+    let call = run.depth_and_named();
+    let _call = run.go(spot(b'J'), Act::Call, spot(b'L'))?;
+    let _call = run.go(spot(b'L'), Act::Call, spot(b'M'))?;
+    let within = run.depth_and_named();
+    let _return = run.go(spot(b'M'), Act::Ret, spot(b'L'))?;
+    let _return = run.go(spot(b'L'), Act::Ret, spot(b'J'))?;
+    let _jump = run.go(spot(b'J'), Act::Jump, spot(b'K'))?;
+    Some([reset, call, within, run.depth_and_named()])
+}
+
+// Those of a run from the reset on.
+fn depths_and_names_of_run(alloc: Global) -> Option<[(u8, [u8; 8]); 4]> {
+    let mut run = Run::start(alloc).ok()?;
+    depths_and_names(&mut run)
+}
+
+#[test]
+fn a_call_within_a_unit_names_no_unit_again(rt: HostRuntime) {
+    let want = [
+        (0, [1, 0, 0, 0, 0, 0, 0, 0]),
+        (1, [1, 0, 0, 0, 0, 1, 0, 0]),
+        (3, [1, 0, 0, 0, 0, 1, 0, 0]),
+        (1, [1, 0, 0, 0, 0, 1, 1, 0]),
+    ];
+    let found = depths_and_names_of_run(rt.alloc());
+    assert!(rt; found == Some(want), "{found:?}");
+}

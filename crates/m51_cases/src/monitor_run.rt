@@ -219,6 +219,15 @@ impl Run {
         ]
     }
 
+    /// How many return records there are, and how many name each unit.
+    pub(crate) fn depth_and_named(&self) -> (u8, [u8; 8]) {
+        let mut named = [0; 8];
+        for (place, count) in self.monitor.named().iter().take(8).enumerate() {
+            named[place] = *count;
+        }
+        (self.monitor.depth(), named)
+    }
+
     /// The live segment over a cell of internal RAM.
     pub(crate) fn segment_at(&self, at: u32) -> Option<u16> {
         self.monitor.segment_at(Cell {

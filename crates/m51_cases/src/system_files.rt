@@ -1,8 +1,7 @@
 //! The files of the system: the top call reads one that another call wrote there, names one that is absent, and keeps
-//! an object, which a further call links. The report is the one that README.md explains, the listing that of
-//! docs/COMMAND.md, the object that of docs/OBJECTS.md.
-use crate::calls::{call, words_in};
-use crate::failing_calls::{REPORT, SOURCE};
+//! an object over a longer file, which a further call links. The report is the one that README.md explains, the listing
+//! that of docs/COMMAND.md, the object that of docs/OBJECTS.md.
+use crate::calls::{REPORT, SOURCE, call, words_in};
 use m51_cells::NoMemory;
 use m51_chain::{DirShelf, MemSink, Status};
 use std::alloc::Global;
@@ -44,6 +43,8 @@ const OBJECT: &[u8] = b"\x02\x04\x00\x01A\x01\xB7\
 #[test]
 fn files_of_the_system_are_read_and_kept(rt: HostRuntime) {
     assert!(rt; fs::write(&rt, "a.a51", SOURCE).is_ok());
+    // It is longer than the object that is kept over it.
+    assert!(rt; fs::write(&rt, "a.obj", REPORT).is_ok());
     let mut files = DirShelf::make(&rt);
     for (words, status, want) in [
         ("build --steps 4 a.a51", Status::Ran, REPORT),

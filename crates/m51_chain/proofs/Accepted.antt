@@ -20,12 +20,12 @@ use Rattle.m51_module.specs.declared.source.SourceFile.{SourceFile}
 use Rattle.m51_script.specs.declared.error.ScriptError.{ScriptError}
 use Rattle.m51_script.specs.declared.script.Script.{Script}
 use Rattle.m51_script.specs.Reading.{plain_script, script_of}
-use Rattle.m51_words.specs.declared.endings.Ending.{Ending}
-use Rattle.m51_words.specs.declared.endings.Ending.TheVariants as ending
-use Rattle.m51_words.specs.Endings.{are_boards, ending_of, is_a_source, is_source}
-use Rattle.m51_words.specs.declared.job.Job.TheVariants.{Party}
-use Rattle.m51_words.specs.declared.job.PartyJob.{PartyJob}
-use Rattle.m51_words.specs.Files.{names_read}
+use Rattle.m51_jobs.specs.declared.endings.Ending.{Ending}
+use Rattle.m51_jobs.specs.declared.endings.Ending.TheVariants as ending
+use Rattle.m51_jobs.specs.Endings.{are_boards, ending_of, is_a_source, is_source}
+use Rattle.m51_jobs.specs.declared.job.Job.TheVariants.{Party}
+use Rattle.m51_jobs.specs.declared.job.PartyJob.{PartyJob}
+use Rattle.m51_jobs.specs.Files.{names_read}
 use Rattle.m51_chain.specs.FlatRuns.{script_in}
 use Rattle.m51_chain.specs.Optional.{content_if}
 use Rattle.m51_chain.specs.Parties.{party_files}

@@ -1,8 +1,8 @@
 -- Words and files have one answer, and it comes where no call fails.
 use Rattle.std.proofs.Common.{◌≡◌, ◌⊎◌, ℕ, ◌<◌, ◌≤◌, List, Option, Some, None, refl, sym, ap, ◌∙◌, subst, arith, inl, inr}
 use Rattle.m51_cells.specs.declared.limits.TheConstants.{MOST_FILES}
-use Rattle.m51_words.specs.declared.job.Job.{Job}
-use Rattle.m51_words.specs.Files.{file_count, name_kept, names_read}
+use Rattle.m51_jobs.specs.declared.job.Job.{Job}
+use Rattle.m51_jobs.specs.Files.{file_count, name_kept, names_read}
 use Rattle.m51_chain.specs.declared.status.Status.{Status}
 use Rattle.m51_chain.specs.declared.status.Status.TheVariants as status
 use Rattle.m51_words.specs.Jobs.{job_of}

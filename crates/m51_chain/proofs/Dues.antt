@@ -1,6 +1,6 @@
 -- What an answer that is due says of the status.
 use Rattle.std.proofs.Common.{◌≡◌, ◌⊎◌, ℕ, List, Option, Some, subst, inl, inr}
-use Rattle.m51_words.specs.Files.{names_read}
+use Rattle.m51_jobs.specs.Files.{names_read}
 use Rattle.m51_chain.specs.declared.status.Status.{Status}
 use Rattle.m51_chain.specs.declared.status.Status.TheVariants as status
 use Rattle.m51_shelf.specs.Shelf.{Files}

@@ -16,8 +16,8 @@ use Rattle.m51_module.specs.declared.source.SourceFile.{SourceFile}
 use Rattle.m51_print.specs.Listing.{listing_of}
 use Rattle.m51_records.specs.Spelling.{bytes_of}
 use Rattle.m51_chain.specs.Assembles.{assembled_outcome}
-use Rattle.m51_chain.specs.Libraries.{either, or_refused}
-use Rattle.m51_chain.specs.Outcome.{Comes, Outcome, outcome_of, refused, status_at, stopped, text_at, written}
+use Rattle.m51_chain.specs.Libraries.{either}
+use Rattle.m51_chain.specs.Outcome.{Comes, Outcome, or_refused, outcome_of, refused, status_at, stopped, text_at, written}
 
 -- a text that is written, with nothing after it
 pub ran_alone : (text : List ℕ) → outcome_of (record { keeps = None; text = text; ending = Ran }) ≡ written text

@@ -1,6 +1,6 @@
 -- What a shelf holds after the answer for words was kept.
 use Rattle.std.proofs.Common.{◌≡◌, inl, inr, ℕ, List, Option, Some, None, refl, sym, ap, subst, ◌∙◌}
-use Rattle.m51_words.specs.Files.{name_kept}
+use Rattle.m51_jobs.specs.Files.{name_kept}
 use Rattle.m51_shelf.specs.Shelf.{File, Files}
 use Rattle.m51_shelf.specs.States.{ReadAt}
 use Rattle.m51_chain.specs.Outcome.{Answer}

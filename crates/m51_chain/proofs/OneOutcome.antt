@@ -22,15 +22,15 @@ use Rattle.m51_script.specs.declared.script.Script.{Script}
 use Rattle.m51_sim.specs.Boards.{BoardState, IsStarted}
 use Rattle.m51_stackbound.proofs.Unique.{answer_is_unique}
 use Rattle.m51_text.specs.Answer.{text_of}
-use Rattle.m51_words.specs.declared.job.FlatJob.{FlatJob}
-use Rattle.m51_words.specs.declared.job.Job.{Job}
-use Rattle.m51_words.specs.declared.job.Job.TheVariants as jobs
+use Rattle.m51_jobs.specs.declared.job.FlatJob.{FlatJob}
+use Rattle.m51_jobs.specs.declared.job.Job.{Job}
+use Rattle.m51_jobs.specs.declared.job.Job.TheVariants as jobs
 use Rattle.m51_chain.specs.Assembles.{IsAssembledOutcome, IsOneOutcome, assembled_outcome}
 use Rattle.m51_chain.specs.Analyses.{IsBounded, IsDisassembled, bound_outcome, link_files}
 use Rattle.m51_chain.specs.Builds.{build_files}
 use Rattle.m51_asm.specs.Answer as answers
 use Rattle.m51_generator.specs.Lines.{generated}
-use Rattle.m51_words.specs.declared.job.GenJob.{GenJob}
+use Rattle.m51_jobs.specs.declared.job.GenJob.{GenJob}
 use Rattle.m51_chain.specs.Generates.{IsCounted, IsGenOutcome, IsGenerated}
 use Rattle.m51_chain.specs.FlatRuns as flats
 use Rattle.m51_chain.specs.FlatRuns.{IsFlatOutcome, IsFlatWork, IsScripted, flat_report}

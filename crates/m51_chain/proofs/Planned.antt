@@ -2,8 +2,8 @@
 use Rattle.std.proofs.Common.{◌≡◌, ℕ, Bool, true, false, List, Option, Some, None, Result, Ok, Err, refl, ap, ◌∙◌}
 use Rattle.std.specs.Prelude.{IfOk}
 use Rattle.m51_cells.specs.declared.memory.NoMemory.{NoMemory}
-use Rattle.m51_words.specs.declared.job.Job.{Job}
-use Rattle.m51_words.specs.Files.{name_kept}
+use Rattle.m51_jobs.specs.declared.job.Job.{Job}
+use Rattle.m51_jobs.specs.Files.{name_kept}
 use Rattle.m51_chain.specs.declared.work.Finished.{Finished}
 use Rattle.m51_chain.specs.declared.work.Ending.{Ending}
 use Rattle.m51_chain.specs.declared.work.Ending.TheVariants as ending

@@ -12,7 +12,7 @@ use Rattle.m51_module.specs.Sound.{IsSound}
 use Rattle.m51_print.specs.Stack.{stack_of, stack_refusal}
 use Rattle.m51_stackbound.specs.Bounds.{Answers}
 use Rattle.m51_stackbound.specs.Laws.{IsTied}
-use Rattle.m51_words.specs.declared.job.LinkJob.{LinkJob}
+use Rattle.m51_jobs.specs.declared.job.LinkJob.{LinkJob}
 use Rattle.m51_chain.specs.declared.work.Reason.{Reason}
 use Rattle.m51_chain.specs.declared.work.Reason.TheVariants as reason
 use Rattle.m51_chain.specs.Linking.{IsLinkedOutcome, link_outcome}

@@ -6,7 +6,7 @@ use Rattle.m51_inputs.specs.Files.{includes_of, sources_of}
 use Rattle.m51_module.specs.declared.source.SourceFile.{SourceFile}
 use Rattle.m51_print.specs.Listing.{listing_of}
 use Rattle.m51_records.specs.Spelling.{bytes_of}
-use Rattle.m51_words.specs.declared.job.AsmJob.{AsmJob}
+use Rattle.m51_jobs.specs.declared.job.AsmJob.{AsmJob}
 use Rattle.m51_chain.specs.declared.status.Status.TheVariants.{Ran}
 use Rattle.m51_chain.specs.declared.work.Reason.TheVariants as reason
 use Rattle.m51_chain.specs.FaultLines.{fault_lines}

@@ -1,6 +1,6 @@
 -- What build makes of its files.
 use Rattle.std.specs.Prelude.{ℕ, List}
-use Rattle.m51_words.specs.declared.job.BuildJob.{BuildJob}
+use Rattle.m51_jobs.specs.declared.job.BuildJob.{BuildJob}
 use Rattle.m51_chain.specs.Linking.{IsLinkedOutcome}
 use Rattle.m51_chain.specs.Outcome.{Outcome}
 use Rattle.m51_chain.specs.ProgramFiles.{ProgramFiles, named}

@@ -2,8 +2,8 @@
 use Rattle.std.specs.Prelude.{◌≡◌, ℕ, ◌<◌, ◌≤◌, List, Option, Some, None, Result, Ok, Err}
 use Rattle.m51_cells.specs.declared.limits.TheConstants.{MOST_FILES}
 use Rattle.m51_cells.specs.declared.memory.NoMemory.{NoMemory}
-use Rattle.m51_words.specs.declared.job.Job.{Job}
-use Rattle.m51_words.specs.Files.{file_count, names_read}
+use Rattle.m51_jobs.specs.declared.job.Job.{Job}
+use Rattle.m51_jobs.specs.Files.{file_count, names_read}
 use Rattle.m51_chain.specs.declared.work.Finished.{Finished}
 use Rattle.m51_chain.specs.declared.work.Plan.{Plan}
 use Rattle.m51_chain.specs.declared.work.Stop.{Stop}

@@ -1,8 +1,8 @@
 -- The answer for words and files.
 use Rattle.std.specs.Prelude.{◌≡◌, ℕ, ◌<◌, ◌≤◌, List, Option, Some, None}
 use Rattle.m51_cells.specs.declared.limits.TheConstants.{MOST_FILES}
-use Rattle.m51_words.specs.declared.job.Job.{Job}
-use Rattle.m51_words.specs.Files.{file_count, names_read, name_kept}
+use Rattle.m51_jobs.specs.declared.job.Job.{Job}
+use Rattle.m51_jobs.specs.Files.{file_count, names_read, name_kept}
 use Rattle.m51_chain.specs.declared.status.Status.{Status}
 use Rattle.m51_chain.specs.declared.status.Status.TheVariants as status
 use Rattle.m51_words.specs.Jobs.{job_of}

@@ -4,7 +4,7 @@ use Rattle.std.specs.Prelude.{unwrap_or}
 use Rattle.std.specs.List.{filter, slice_index_or}
 use Rattle.m51_inputs.specs.declared.error.SourceFaults.{SourceFaults}
 use Rattle.m51_module.specs.declared.source.Fault.{Fault}
-use Rattle.m51_words.specs.Endings.{is_include}
+use Rattle.m51_jobs.specs.Endings.{is_include}
 
 -- the include of that number among the file words, counted from 0
 abbrev pub include_at : List (List ℕ) → ℕ → List ℕ

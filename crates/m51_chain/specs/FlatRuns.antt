@@ -8,7 +8,7 @@ use Rattle.m51_script.specs.declared.error.ScriptError.{ScriptError}
 use Rattle.m51_script.specs.declared.script.Script.{Script}
 use Rattle.m51_script.specs.Reading.{plain_script, script_of}
 use Rattle.m51_sim.specs.Report.{flat_report_of}
-use Rattle.m51_words.specs.declared.job.FlatJob.{FlatJob}
+use Rattle.m51_jobs.specs.declared.job.FlatJob.{FlatJob}
 use Rattle.m51_chain.specs.InputRefusals.{script_outcome}
 use Rattle.m51_chain.specs.Optional.{content_if}
 use Rattle.m51_chain.specs.Outcome.{Outcome, status_by}

@@ -17,7 +17,7 @@ use Rattle.m51_sim.specs.FlatMachine.{reset_with}
 use Rattle.m51_sim.specs.Run.{tally_of}
 use Rattle.m51_sim.specs.Runs.{record_of}
 use Rattle.m51_sim.specs.SeparateMachine.{separate_machine, separate_start}
-use Rattle.m51_words.specs.declared.job.GenJob.{GenJob}
+use Rattle.m51_jobs.specs.declared.job.GenJob.{GenJob}
 use Rattle.m51_chain.specs.declared.work.Reason.TheVariants as reason
 use Rattle.m51_chain.specs.FaultLines.{fault_lines}
 use Rattle.m51_chain.specs.Linking.{IsProgramOutcome, alone}

@@ -14,6 +14,7 @@ pub mod Builds
 pub mod Analyses
 pub mod Assembles
 pub mod Generates
+pub mod Edits
 pub mod Libraries
 pub mod FlatRuns
 pub mod Parties

@@ -44,6 +44,16 @@ pub record Answer : Type 0 where
   pub text : List ℕ
   pub keeps : Option File
 
+-- the value, and what follows from it, or the first refusal
+abbrev pub then_do : {A B : Type 0} → Result A Outcome → (A → Result B Outcome) → Result B Outcome
+then_do (Ok value) next = next value
+then_do (Err refusal) next = Err refusal
+
+-- the value, or the outcome that refuses it
+abbrev pub or_refused : {A E : Type 0} → (E → Outcome) → Result A E → Result A Outcome
+or_refused refusal (Ok value) = Ok value
+or_refused refusal (Err error) = Err (refusal error)
+
 -- the status of a reason
 abbrev pub status_of : Reason → Status
 status_of reason.Source = status.Source

@@ -12,7 +12,7 @@ use Rattle.m51_party.specs.Report.{has_event}
 use Rattle.m51_party.specs.Text.{party_text}
 use Rattle.m51_script.specs.declared.script.Script.{Script}
 use Rattle.m51_sim.specs.Boards.{BoardState, IsStarted}
-use Rattle.m51_words.specs.declared.job.PartyJob.{PartyJob}
+use Rattle.m51_jobs.specs.declared.job.PartyJob.{PartyJob}
 use Rattle.m51_chain.specs.declared.work.Stop.{Stop}
 use Rattle.m51_chain.specs.Linking.{alone, link_outcome}
 use Rattle.m51_chain.specs.Outcome.{Outcome, status_if, stopped}

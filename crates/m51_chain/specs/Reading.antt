@@ -65,14 +65,17 @@ files_with names contents = []
 abbrev pub AreGiven : List (List ℕ) → ReadAt → ReadAt → List (List ℕ) → Type 0
 AreGiven names before after contents = Grows before.given after.given (files_with names contents)
 
--- The first of these names were started, in order, and no other file.
+-- The first of these names were started, in order, and no other file, and of each at most one byte past the limit was
+-- taken.
 pub record AreStarted (names : List (List ℕ)) (before after : ReadAt) : Type 0 where
   pub files : List File
   pub rest : List (List ℕ)
   pub given : Grows before.given after.given files
   pub are : names ≡ map (λ (file : File). file.0) files ++ rest
+  pub most : All (λ (file : File). length file.1 ≤ MOST_FILE_BYTES + 1) files
 
--- The file that was started last has one of these names, and at most one byte past the limit was taken of it.
+-- The file that was started last has one of these names, and at most one byte past the limit was taken of it, also where
+-- the shelf does not tell which files were started.
 pub record ReadsSome (names : List (List ℕ)) (before after : ReadAt) : Type 0 where
   pub started : AreStarted names before after
   pub named : Contains names after.named

@@ -1,7 +1,7 @@
 -- What each verb makes of the contents of its files. A verb is one line here.
 use Rattle.std.specs.Prelude.{◌≡◌, ℕ, List}
-use Rattle.m51_words.specs.declared.job.Job.{Job}
-use Rattle.m51_words.specs.declared.job.Job.TheVariants.{Build, Asm, Library, Flat, Gen, Dis, Stack, Party}
+use Rattle.m51_jobs.specs.declared.job.Job.{Job}
+use Rattle.m51_jobs.specs.declared.job.Job.TheVariants.{Build, Asm, Library, Flat, Gen, Dis, Stack, Party}
 use Rattle.m51_chain.specs.Analyses.{IsDisOutcome, IsStackOutcome}
 use Rattle.m51_chain.specs.Assembles.{IsAsmOutcome}
 use Rattle.m51_chain.specs.Builds.{IsBuildOutcome}

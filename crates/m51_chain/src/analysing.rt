@@ -5,8 +5,8 @@ ghost use Rattle.m51_cells.specs.declared.limits.TheConstants.{MOST_FILES, MOST_
 ghost use Rattle.m51_linker.specs.Link.{IsReady};
 ghost use Rattle.m51_print.specs.Stack.{stack_refusal};
 ghost use Rattle.m51_stackbound.specs.Bounds.{IsBound};
-ghost use Rattle.m51_words.specs.declared.job.Job.TheVariants.{Dis, Stack};
-ghost use Rattle.m51_words.specs.Files.{names_read};
+ghost use Rattle.m51_jobs.specs.declared.job.Job.TheVariants.{Dis, Stack};
+ghost use Rattle.m51_jobs.specs.Files.{names_read};
 ghost use Rattle.m51_chain.specs.Analyses.{IsBounded, IsDisOutcome, IsDisassembled, IsStackOutcome, bound_outcome};
 ghost use Rattle.m51_chain.specs.Analyses.{reason_of};
 ghost use Rattle.m51_chain.specs.Outcome.{Comes, outcome_of, refused, stopped};

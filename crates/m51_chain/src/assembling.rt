@@ -2,7 +2,7 @@
 ghost use Rattle.std.specs.Prelude.{◌≡◌, ◌≤◌, ℕ, List, IfOk, Some, count_by, length};
 ghost use Rattle.m51_asm.specs.Answer.{Gives, IsAnswer, tree_of};
 ghost use Rattle.m51_cells.specs.declared.limits.TheConstants.{MOST_FILES};
-ghost use Rattle.m51_words.specs.Endings.{is_source};
+ghost use Rattle.m51_jobs.specs.Endings.{is_source};
 ghost use Rattle.m51_chain.specs.Assembles.{IsAsmOutcome, assembled_outcome};
 ghost use Rattle.m51_print.specs.Listing.{AreOf};
 ghost use Rattle.m51_chain.specs.Outcome.{Comes, outcome_of, refused, stopped};

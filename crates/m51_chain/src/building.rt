@@ -2,8 +2,8 @@
 ghost use Rattle.std.specs.Prelude.{◌≡◌, ◌≤◌, length};
 ghost use Rattle.std.specs.List.{All};
 ghost use Rattle.m51_cells.specs.declared.limits.TheConstants.{MOST_FILES, MOST_FILE_BYTES};
-ghost use Rattle.m51_words.specs.declared.job.Job.TheVariants.{Build};
-ghost use Rattle.m51_words.specs.Files.{names_read};
+ghost use Rattle.m51_jobs.specs.declared.job.Job.TheVariants.{Build};
+ghost use Rattle.m51_jobs.specs.Files.{names_read};
 ghost use Rattle.m51_chain.specs.Builds.{IsBuildOutcome};
 ghost use Rattle.m51_chain.specs.Outcome.{Comes};
 

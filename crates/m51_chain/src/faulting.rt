@@ -2,7 +2,7 @@
 ghost use Rattle.std.specs.Prelude.{◌≡◌, ◌++◌, IfOk, OnOk, slice_get};
 ghost use Rattle.std.specs.List.{filter};
 ghost use Rattle.std.specs.Option.{option_copied};
-ghost use Rattle.m51_words.specs.Endings.{is_include};
+ghost use Rattle.m51_jobs.specs.Endings.{is_include};
 ghost use Rattle.m51_chain.specs.FaultLines.{fault_line, fault_lines, faults_text, faulty_lines, file_of_text, word_at};
 
 use m51_cells::NoMemory;

@@ -1,26 +1,56 @@
 //! The verb `flat`.
-ghost use Rattle.std.specs.Prelude.{◌≡◌, ◌≤◌, IfOk, length};
+ghost use Rattle.std.specs.Prelude.{◌≡◌, ◌≤◌, IfOk, length, option_map};
 ghost use Rattle.std.specs.List.{All};
 ghost use Rattle.std.specs.Option.{option_copied};
 ghost use Rattle.m51_cells.specs.Outcome.{Gives};
 ghost use Rattle.m51_cells.specs.declared.limits.TheConstants.{MOST_FILE_BYTES};
+ghost use Rattle.m51_hex.specs.Reading.{refusal_of as hex_refusal};
 ghost use Rattle.m51_script.specs.Reading.{refusal_of};
-ghost use Rattle.m51_words.specs.declared.job.Job.TheVariants.{Flat};
-ghost use Rattle.m51_words.specs.Files.{names_read};
-ghost use Rattle.m51_chain.specs.Outcome.{Comes, outcome_of};
+ghost use Rattle.m51_jobs.specs.declared.job.Job.TheVariants.{Flat};
+ghost use Rattle.m51_jobs.specs.Files.{names_read};
+ghost use Rattle.m51_chain.specs.Outcome.{Comes, outcome_of, stopped};
 ghost use Rattle.m51_chain.specs.FlatRuns.{IsFlatOutcome, IsFlatWork, IsScripted, flat_report, script_in};
+ghost use Rattle.m51_chain.specs.Refusals.{hex_outcome, hex_words};
 
 use crate::input_refusing::refuse_read_script;
+use crate::object_refusing::{numbered, refuse_file};
 use crate::optional::content_if;
-use crate::refusing::{bytes_of, refuse_hex};
+use crate::refusing::bytes_of;
 use crate::work::{Ending, Finished, Stop};
 use m51_cells::{Bytes, NoMemory};
-use m51_hex::read_hex;
+use m51_hex::{HexError, read_hex};
 use m51_module::Image;
 use m51_script::{Script, ScriptError, read_script};
 use m51_sim::FlatBoard;
 use m51_words::FlatJob;
 use std::alloc::Global;
+
+// What is wrong with a HEX file, and in which line.
+fn hex_words(alloc: Global, error: &HexError) -> Result<Bytes, NoMemory>
+    ensures { IfOk result (λ words. words ≡ hex_words error.now) }
+{
+    match error {
+        HexError::H1 { line } => numbered(alloc, "H1 LINE ", *line),
+        HexError::H2 { line } => numbered(alloc, "H2 LINE ", *line),
+        HexError::H3 { line } => numbered(alloc, "H3 LINE ", *line),
+        HexError::H4 { line } => numbered(alloc, "H4 LINE ", *line),
+        HexError::H5 => bytes_of(alloc, b"H5"),
+        HexError::Memory => Ok(Bytes::new(alloc)),
+    }
+}
+
+// The HEX file of this name is refused.
+fn refuse_hex(alloc: Global, file: &str, error: &HexError) -> Result<Stop, NoMemory>
+    ensures { IfOk result (λ stop. stopped stop ≡ option_map (hex_outcome file.now) (hex_refusal error.now)) }
+{
+    match error {
+        HexError::Memory => Ok(Stop::Memory),
+        _ => {
+            let words = hex_words(alloc, error)?;
+            refuse_file(alloc, file, words.as_slice())
+        }
+    }
+}
 
 // The run of an image with a script.
 fn run(alloc: Global, job: &FlatJob, image: Image, script: Script) -> Result<Finished, NoMemory>

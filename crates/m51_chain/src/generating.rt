@@ -1,6 +1,7 @@
 //! The verb `gen`.
 ghost use Rattle.std.specs.Prelude.{◌≡◌, ◌≤◌, [], IfOk, length};
 ghost use Rattle.m51_linker.specs.Link.{IsReady};
+ghost use Rattle.m51_jobs.specs.declared.numbers.TheConstants.{MOST_GENERATED_UNITS};
 ghost use Rattle.m51_chain.specs.Generates.{IsCounted, IsGenOutcome, overlaid_size, overlaid_sizes, summary_outcome};
 ghost use Rattle.m51_chain.specs.Linking.{IsProgramOutcome, alone};
 ghost use Rattle.m51_chain.specs.Outcome.{Comes, outcome_of, status_at, status_by, text_at};
@@ -81,7 +82,7 @@ fn count_program(alloc: Global, steps: Steps, parts: Module) -> Result<Finished,
 
 // Makes a source, assembles, links and runs it, and counts.
 pub(crate) fn count(alloc: Global, job: &GenJob) -> Result<Finished, Stop>
-    requires { (1 ≤ job.now.units) × (job.now.units ≤ 100) }
+    requires { (1 ≤ job.now.units) × (job.now.units ≤ MOST_GENERATED_UNITS) }
     ensures { Comes (IsGenOutcome job.now) result }
 {
     let source = generate(alloc, job.units, job.start)?;

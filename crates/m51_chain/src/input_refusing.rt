@@ -4,7 +4,8 @@ ghost use Rattle.m51_chain.specs.InputRefusals.{control_outcome, input_outcome, 
 ghost use Rattle.m51_chain.specs.Outcome.{refused, stopped};
 
 use crate::faulting::{faults_text, word_at};
-use crate::refusing::{bytes_of, joined, library_refused, object_refused};
+use crate::object_refusing::{library_refused, object_refused};
+use crate::refusing::{bytes_of, joined};
 use crate::work::{Reason, Stop};
 use m51_cells::{Bytes, NoMemory};
 use m51_control::ControlError;

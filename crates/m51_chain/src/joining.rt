@@ -6,9 +6,10 @@ ghost use Rattle.m51_cells.specs.declared.limits.TheConstants.{MOST_FILES, MOST_
 ghost use Rattle.m51_party.specs.Family.{IsFresh};
 ghost use Rattle.m51_party.specs.Rounds.{family_of};
 ghost use Rattle.m51_script.specs.declared.script.Script.{Script as ScriptState};
-ghost use Rattle.m51_words.specs.declared.job.Job.TheVariants.{Party};
-ghost use Rattle.m51_words.specs.Endings.{are_boards};
-ghost use Rattle.m51_words.specs.Files.{names_read};
+ghost use Rattle.m51_jobs.specs.declared.endings.TheConstants.{LEAST_BOARDS, MOST_BOARDS};
+ghost use Rattle.m51_jobs.specs.declared.job.Job.TheVariants.{Party};
+ghost use Rattle.m51_jobs.specs.Endings.{are_boards};
+ghost use Rattle.m51_jobs.specs.Files.{names_read};
 ghost use Rattle.m51_chain.specs.FlatRuns.{script_in};
 ghost use Rattle.m51_chain.specs.Outcome.{Comes, outcome_of};
 ghost use Rattle.m51_chain.specs.Parties.{AreBoardsOr, IsBoardOr, IsPartyOutcome, party_report};
@@ -18,7 +19,7 @@ use crate::linking::{board_of, inputs_in, link_alone};
 use crate::optional::content_if;
 use crate::unrun::UnrunParty;
 use crate::work::{Ending, Finished, Stop};
-use m51_cells::{Bytes, NoMemory};
+use m51_cells::{Bytes, ListOf, NoMemory};
 use m51_inputs::Inputs;
 use m51_module::Module;
 use m51_script::{Script, ScriptError};
@@ -63,18 +64,18 @@ fn boards_alone(
         → AreBoardsOr script modules.items result }
 {
     let mut left = VecDeque::from(modules);
-    let mut boards = Vec::new(alloc);
+    let mut boards = ListOf::new(alloc);
     while let Some(parts) = left.pop_front() {
         let board = board_alone(alloc, parts, file)?;
         boards.push(board)?;
     }
-    Ok(boards)
+    Ok(boards.into_vec())
 }
 
 // The run of boards on one line.
 fn together(alloc: Global, boards: Vec<Board>, steps: Steps) -> Result<Finished, NoMemory>
-    requires least { 2 ≤ length boards.items }
-    requires most { length boards.items ≤ 8 }
+    requires least { LEAST_BOARDS ≤ length boards.items }
+    requires most { length boards.items ≤ MOST_BOARDS }
     requires fresh { All IsFresh boards.items }
     ensures { IfOk result (λ work. outcome_of work
         ≡ party_report boards.items steps (family_of boards.items steps)) }

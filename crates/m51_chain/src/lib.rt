@@ -5,6 +5,7 @@ mod analysing;
 mod assembling;
 mod building;
 mod carrying;
+mod editing;
 mod faulting;
 mod flat;
 mod generating;
@@ -12,6 +13,7 @@ mod input_refusing;
 mod joining;
 mod library;
 mod linking;
+mod object_refusing;
 mod optional;
 mod planning;
 mod reading;
@@ -23,6 +25,7 @@ mod top;
 mod unrun;
 mod work;
 
+pub use m51_generator::generate;
 pub use m51_shelf::{
     Call, DirShelf, Failed, MemShelf, MemSink, Shelf, Sink, StdSink, SureShelf, SureSink,
 };

@@ -11,7 +11,7 @@ ghost use Rattle.m51_chain.specs.ProgramFiles.{AreAnsweredOr, HasParts, named};
 use crate::input_refusing::refuse_inputs;
 use crate::optional::content_if;
 use crate::work::{Reason, Stop};
-use m51_cells::{Bytes, NoMemory};
+use m51_cells::{Bytes, ListOf, NoMemory};
 use m51_control::Controls;
 use m51_inputs::{InputError, Inputs, read_inputs};
 use m51_linker::{Linked, link};
@@ -108,10 +108,10 @@ pub(crate) fn link_alone(alloc: Global, parts: Module) -> Result<Linked, Stop>
     ensures answer { IsLinkedOr (alone parts) result }
     ensures ready { IfOk result IsReady }
 {
-    let mut modules = Vec::new(alloc);
+    let mut modules = ListOf::new(alloc);
     modules.push(parts)?;
     let controls = Controls::none(alloc);
-    link_modules(alloc, modules, &[], &controls)
+    link_modules(alloc, modules.into_vec(), &[], &controls)
 }
 
 // Links what the files give.

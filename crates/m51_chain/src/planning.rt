@@ -3,13 +3,13 @@ ghost use Rattle.std.specs.Prelude.{◌≡◌, ◌⊎◌, ◌≤◌, IfOk, None,
 ghost use Rattle.std.specs.List.{All};
 ghost use Rattle.m51_cells.specs.declared.limits.TheConstants.{MOST_FILES, MOST_FILE_BYTES};
 ghost use Rattle.m51_shelf.specs.States.{OnlyReads};
-ghost use Rattle.m51_words.specs.Files.{file_count, name_kept, names_read};
+ghost use Rattle.m51_jobs.specs.Files.{file_count, name_kept, names_read};
 ghost use Rattle.m51_words.specs.Jobs.{job_of};
-ghost use Rattle.m51_words.specs.Texts.{texts};
+ghost use Rattle.m51_jobs.specs.Texts.{texts};
 ghost use Rattle.m51_chain.specs.Asked.{IsFit};
 ghost use Rattle.m51_chain.specs.Due.{IsDue, IsDueFor, IsPlanned, ReadsOnly};
 ghost use Rattle.m51_chain.specs.Expected.{HasOutcome};
-ghost use Rattle.m51_chain.specs.Outcome.{Comes, answer_of, file_of, status_of, under};
+ghost use Rattle.m51_chain.specs.Outcome.{Comes, answer_of, file_of, under};
 ghost use Rattle.m51_chain.specs.Reading.{ReadsSome};
 ghost use Rattle.m51_chain.specs.Verbs.{IsOutcome};
 
@@ -22,9 +22,8 @@ use crate::joining::join_files;
 use crate::library::operate;
 use crate::reading::{Contents, read_all};
 use crate::refusing::{refuse_long_file, refuse_many_files, refuse_unread_file, refuse_words};
-use crate::status::Status;
 use crate::target::Target;
-use crate::work::{Finished, Kept, Plan, Reason, Stop};
+use crate::work::{Finished, Kept, Plan, Stop, status_of};
 use m51_cells::{Bytes, MOST_FILES, NoMemory};
 use m51_shelf::{ReadError, Shelf};
 use m51_words::{Job, WordsError, file_count, job_of, name_kept, names_read};
@@ -47,20 +46,6 @@ fn work(alloc: Global, job: &Job, contents: &[Bytes]) -> Result<Finished, Stop>
         Job::Dis(job) => disassemble_files(alloc, job, contents),
         Job::Stack(job) => bound_files(alloc, job, contents),
         Job::Party(job) => join_files(alloc, job, contents),
-    }
-}
-
-// The status of a reason.
-fn status_of(why: Reason) -> Status
-    ensures { result ≡ status_of why }
-{
-    match why {
-        Reason::Source => Status::Source,
-        Reason::Link => Status::Link,
-        Reason::Object => Status::Object,
-        Reason::Script => Status::Script,
-        Reason::Limit => Status::Limit,
-        Reason::Stack => Status::Stack,
     }
 }
 

@@ -5,6 +5,7 @@ ghost use Rattle.m51_cells.specs.declared.limits.TheConstants.{MOST_STEPS};
 ghost use Rattle.m51_party.specs.Family.{IsFresh};
 ghost use Rattle.m51_party.specs.Report.{IsPartyReport};
 ghost use Rattle.m51_party.specs.Rounds.{family_of};
+ghost use Rattle.m51_jobs.specs.declared.endings.TheConstants.{LEAST_BOARDS, MOST_BOARDS};
 
 use m51_cells::NoMemory;
 use m51_party::{Party, PartyEnd};
@@ -34,8 +35,8 @@ impl Model for UnrunParty {
 impl UnrunParty {
     // A party of these boards.
     pub(crate) fn make(alloc: Global, boards: Vec<Board>) -> Result<UnrunParty, NoMemory>
-        requires least { 2 ≤ length boards.items }
-        requires most { length boards.items ≤ 8 }
+        requires least { LEAST_BOARDS ≤ length boards.items }
+        requires most { length boards.items ≤ MOST_BOARDS }
         requires fresh { All IsFresh boards.items }
         ensures { IfOk result (λ party. party ≡ boards.items) }
     {

@@ -1,6 +1,6 @@
 //! What the work of a verb comes to, and what is to be kept and written.
 ghost use Rattle.std.specs.Prelude.{◌≡◌};
-ghost use Rattle.m51_chain.specs.Outcome.{outcome_of, written};
+ghost use Rattle.m51_chain.specs.Outcome.{outcome_of, status_of, written};
 
 use crate::status::Status;
 use crate::target::Target;
@@ -8,7 +8,6 @@ use crate::unrun::UnrunParty;
 use m51_cells::{Bytes, NoMemory};
 use m51_sim::{Board, FlatBoard};
 use m51_words::Steps;
-use std::alloc::AllocFailed;
 
 // Why the work of a verb is refused.
 #[derive(Clone, Copy, Debug, PartialEq, Eq)]
@@ -25,6 +24,20 @@ pub(crate) enum Reason {
     Limit,
     // The stack of a program has no bound.
     Stack,
+}
+
+// The status of a reason.
+pub(crate) fn status_of(why: Reason) -> Status
+    ensures { result ≡ status_of why }
+{
+    match why {
+        Reason::Source => Status::Source,
+        Reason::Link => Status::Link,
+        Reason::Object => Status::Object,
+        Reason::Script => Status::Script,
+        Reason::Limit => Status::Limit,
+        Reason::Stack => Status::Stack,
+    }
 }
 
 // How accepted work ends.
@@ -80,17 +93,6 @@ impl From<NoMemory> for Stop {
     ghost from_gives = { λ _ stop. stop ≡ Memory };
 
     fn from(_error: NoMemory) -> Stop {
-        Stop::Memory
-    }
-}
-
-impl<T: Drop> From<AllocFailed<T>> for Stop {
-    ghost use Rattle.std.specs.Prelude.{◌≡◌};
-    ghost use Rattle.m51_chain.specs.declared.work.Stop.TheVariants.{Memory};
-
-    ghost from_gives = { λ _ stop. stop ≡ Memory };
-
-    fn from(_error: AllocFailed<T>) -> Stop {
         Stop::Memory
     }
 }

@@ -5,7 +5,7 @@ use Rattle.std.proofs.lemmas.Option.{slice_get_within}
 use Rattle.m51_expr.specs.declared.symbol.Symbol.{Symbol}
 use Rattle.m51_expr.specs.Tree.{Tree, One, Two}
 use Rattle.m51_expr.specs.Ranks.{prefix_of, is_open, is_close, leaf_of}
-use Rattle.m51_expr.specs.Reading.{Line, line_of, Reads, and_on, closed, leaf_at, read, more, enough, expression_in}
+use Rattle.m51_expr.specs.Reading.{Line, line_of, Reads, and_on, closed, leaf_at, read, more, enough, expression_in, expression_from}
 use Rattle.m51_expr.specs.Grammar.{Writes, Leaf, Parens, Before, Between, Tighter, Ends, IsExpression}
 use Rattle.m51_expr.proofs.Ranking.{of_prefix, infix_below, leaf_no_prefix, leaf_not_open, open_no_prefix, close_no_infix, no_tighter_infix, no_looser_prefix, ends_at, ends_above}
 use Rattle.m51_expr.proofs.Steps.{below, read_operand, read_prefix, read_plain, more_ends, more_goes}
@@ -139,6 +139,9 @@ ends_within symbols (Parens {last = last} is open' inner close end) = omega (ari
 ends_within symbols (Before is inner) = ends_within symbols inner
 ends_within symbols (Between lefts is rights) = ends_within symbols rights
 ends_within symbols (Tighter low inner) = ends_within symbols inner
+
+pub expression_from_is : (symbols : List Symbol) (from : ℕ) (e : Tree) (to : ℕ) → IsExpression (line_of symbols) 0 from e to → expression_from from symbols ≡ Some (e, to)
+expression_from_is symbols from e to found = complete_at (enough (length symbols - from) 0) (line_of symbols) from e to found (omega (arith, ends_within symbols found.writes))
 
 pub expression_is : (symbols : List Symbol) (e : Tree) (to : ℕ) → IsExpression (line_of symbols) 0 0 e to → expression_in symbols ≡ Some (e, to)
 expression_is symbols e to found = complete_at (enough (length symbols) 0) (line_of symbols) 0 e to found (omega (arith, ends_within symbols found.writes))

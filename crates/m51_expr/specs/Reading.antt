@@ -81,6 +81,10 @@ line_of symbols at = slice_get symbols at
 abbrev pub expression_in : List Symbol → Reads
 expression_in symbols = read (enough (length symbols) 0) (line_of symbols) 0 0
 
+-- the longest expression that begins at a place among the symbols, and the place after it, or none
+abbrev pub expression_from : ℕ → List Symbol → Reads
+expression_from from symbols = read (enough (length symbols - from) 0) (line_of symbols) 0 from
+
 -- the tree and the place that a function handed out
 abbrev pub tree_and_place : Expr × ℕ → Tree × ℕ
 tree_and_place r = (tree_of r.0, r.1)

@@ -1,6 +1,7 @@
 -- What a token is in an expression (the assembler's rules of words, texts and signs).
 use Rattle.std.specs.Prelude.{ℕ, ◌-◌, ◌==◌, if◌then◌else◌, List, [], ◌∷◌, length, Option, Some, None}
 use Rattle.std.specs.Prelude.{codes, slice_range, max}
+use Rattle.std.specs.Option.{option_or}
 use Rattle.std.specs.Str.{bytes_eq}
 use Rattle.m51_cells.specs.Name.{name_of}
 use Rattle.m51_lex.specs.Characters.{quote}
@@ -41,25 +42,39 @@ sign_symbol sign =
     else if sign == 0x40 then At  -- @
     else Other
 
--- the operator that a word is
-unfoldable pub operator_of : List ℕ → Option Symbol
-operator_of word =
+-- the operator before an operand that a word is
+unfoldable pub prefix_word : List ℕ → Option Symbol
+prefix_word word =
     if bytes_eq word (codes "HIGH") then Some (Prefix unary.High)
     else if bytes_eq word (codes "LOW") then Some (Prefix unary.Low)
     else if bytes_eq word (codes "NOT") then Some (Prefix unary.Not)
-    else if bytes_eq word (codes "MOD") then Some (Infix binary.Rem)
-    else if bytes_eq word (codes "SHL") then Some (Infix binary.Shl)
-    else if bytes_eq word (codes "SHR") then Some (Infix binary.Shr)
-    else if bytes_eq word (codes "EQ") then Some (Infix binary.Eq)
+    else None
+
+-- the relation that a word is
+unfoldable pub relation_word : List ℕ → Option Symbol
+relation_word word =
+    if bytes_eq word (codes "EQ") then Some (Infix binary.Eq)
     else if bytes_eq word (codes "NE") then Some (Infix binary.Ne)
     else if bytes_eq word (codes "LT") then Some (Infix binary.Lt)
     else if bytes_eq word (codes "LE") then Some (Infix binary.Le)
     else if bytes_eq word (codes "GT") then Some (Infix binary.Gt)
     else if bytes_eq word (codes "GE") then Some (Infix binary.Ge)
+    else None
+
+-- the operator on numbers or bits, between two operands, that a word is
+unfoldable pub arithmetic_word : List ℕ → Option Symbol
+arithmetic_word word =
+    if bytes_eq word (codes "MOD") then Some (Infix binary.Rem)
+    else if bytes_eq word (codes "SHL") then Some (Infix binary.Shl)
+    else if bytes_eq word (codes "SHR") then Some (Infix binary.Shr)
     else if bytes_eq word (codes "AND") then Some (Infix binary.And)
     else if bytes_eq word (codes "OR") then Some (Infix binary.Or)
     else if bytes_eq word (codes "XOR") then Some (Infix binary.Xor)
     else None
+
+-- the operator that a word is
+unfoldable pub operator_of : List ℕ → Option Symbol
+operator_of word = option_or (prefix_word word) (option_or (relation_word word) (arithmetic_word word))
 
 -- an operator, or else a word of the language or a name
 abbrev pub operator_or_word : List ℕ → Option Symbol → Symbol

@@ -1,6 +1,7 @@
 //! What may be wrong with an expression.
 ghost use Rattle.std.specs.Prelude.{◌≡◌};
 
+use m51_cells::NoMemory;
 use std::alloc::{AllocError, AllocFailed};
 
 /// What is wrong with an expression that is read.
@@ -12,6 +13,16 @@ pub enum ReadError {
     Fault { number: u8 },
     /// Out of memory.
     Memory,
+}
+
+impl From<NoMemory> for ReadError {
+    ghost use Rattle.m51_expr.specs.declared.fault.ReadError.TheVariants.{Memory};
+
+    ghost from_gives = { λ _ e. e ≡ Memory };
+
+    fn from(_error: NoMemory) -> ReadError {
+        ReadError::Memory
+    }
 }
 
 impl From<AllocError> for ReadError {

@@ -24,7 +24,7 @@ pub use lookup::{Lookup, is_absolute, is_unplaced};
 pub use m51_cells::Base;
 pub use operand::{Item, Items, Operand, Operands};
 pub use ranks::{is_close, is_open};
-pub use reading::read_expr;
+pub use reading::{read_expr, read_symbols};
 pub use symbol::{Symbol, symbols};
 pub use tree::{Binary, Expr, Unary};
 pub use value::{Part, Value, counted, is_whole, plain, whole};

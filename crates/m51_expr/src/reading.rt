@@ -1,14 +1,18 @@
 //! Reads expressions by the ranks of their operators.
-ghost use Rattle.std.specs.Prelude.{◌≡◌, ◌≤◌, ◌<◌, ◌-◌, ℕ, IfOk, IsSome, Some, length, ◌+◌, option_copied};
+ghost use Rattle.std.specs.Prelude.{◌≡◌, ◌≤◌, ◌<◌, ◌-◌, ℕ, All, IfOk, IsSome, Some, length, map, ◌+◌, option_copied};
+ghost use Rattle.m51_lex.specs.Tokens.{IsWithin};
+ghost use Rattle.m51_expr.specs.Symbol.{symbol_of};
 ghost use Rattle.m51_expr.specs.Tree.{Tree, tree_of};
 ghost use Rattle.m51_expr.specs.Grammar.{IsExpression};
 ghost use Rattle.m51_expr.specs.Reading.{GivesTree, line_of, read, more, operand, enough, expression_in};
+ghost use Rattle.m51_expr.specs.Reading.{expression_from};
 
 use crate::fault::ReadError;
 use crate::ranks::{OPERAND, infix_of, is_close, is_open, leaf_of, prefix_of};
-use crate::symbol::Symbol;
+use crate::symbol::{Symbol, symbols};
 use crate::tree::{Expr, one, two};
 use m51_cells::NO_EXPRESSION;
+use m51_lex::Token;
 use std::alloc::Global;
 
 // There is no expression.
@@ -98,12 +102,13 @@ fn operand(alloc: Global, symbols: &[Symbol], at: usize) -> Result<(Expr, usize)
     }
 }
 
-/// The longest expression that the symbols begin with, and how many of them it has.
+/// The longest expression that the symbols begin with, and how many of them it has: for a caller who has the symbols of
+/// a line once and reads parts of them.
 ///
 /// Errors: E6 where no expression begins them; or out of memory.
 ///
 /// Source: own choice ("Ranks of operators").
-pub fn read_expr(alloc: Global, symbols: &[Symbol]) -> Result<(Expr, usize), ReadError>
+pub fn read_symbols(alloc: Global, symbols: &[Symbol]) -> Result<(Expr, usize), ReadError>
     // The tree that reading by ranks gives, or E6.
     ensures gives { GivesTree result (expression_in symbols.now) }
     // It is an expression of the grammar.
@@ -114,4 +119,44 @@ pub fn read_expr(alloc: Global, symbols: &[Symbol]) -> Result<(Expr, usize), Rea
     ensures within { IfOk result (λ r. (0 < r.1) × (r.1 ≤ length symbols.now)) }
 {
     read(alloc, symbols, 0, 0)
+}
+
+// The expression that begins at a place among the symbols, and the place after it.
+fn read_from(alloc: Global, symbols: &[Symbol], from: usize) -> Result<(Expr, usize), ReadError>
+    ensures gives { GivesTree result (expression_from from symbols.now) }
+    ensures sound { IfOk result (λ r. IsExpression (line_of symbols.now) 0 from (tree_of r.0) r.1) }
+    ensures complete { (e : Tree) (to : ℕ) → IsExpression (line_of symbols.now) 0 from e to
+        → GivesTree result (Some (e, to)) }
+    ensures within { IfOk result (λ r. (from < r.1) × (r.1 ≤ length symbols.now)) }
+{
+    read(alloc, symbols, 0, from)
+}
+
+/// The longest expression that begins at a token of the line, and the index of the token after it. Both indices count
+/// from the first token of the line, which is 0.
+///
+/// Errors: E6 where no expression begins there; or out of memory.
+///
+/// Source: own choice ("Ranks of operators").
+pub fn read_expr(
+    alloc: Global,
+    line: &str,
+    tokens: &[Token],
+    from: usize,
+) -> Result<(Expr, usize), ReadError>
+    requires slices { All (IsWithin (length line.now)) tokens.now }
+    requires from { from ≤ length tokens.now }
+    // The tree that reading by ranks gives, or E6.
+    ensures gives { GivesTree result (expression_from from (map (symbol_of line.now) tokens.now)) }
+    // It is an expression of the grammar.
+    ensures sound { IfOk result (λ r.
+        IsExpression (line_of (map (symbol_of line.now) tokens.now)) 0 from (tree_of r.0) r.1) }
+    // An expression of the grammar is this one: so there is one at most, and E6 comes only where there is none.
+    ensures complete { (e : Tree) (to : ℕ) →
+        IsExpression (line_of (map (symbol_of line.now) tokens.now)) 0 from e to
+        → GivesTree result (Some (e, to)) }
+    ensures within { IfOk result (λ r. (from < r.1) × (r.1 ≤ length tokens.now)) }
+{
+    let symbols = symbols(alloc, line, tokens)?;
+    read_from(alloc, &symbols, from)
 }

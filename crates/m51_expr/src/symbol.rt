@@ -4,7 +4,7 @@ ghost use Rattle.m51_cells.specs.Name.{name_of};
 ghost use Rattle.m51_lex.specs.Tokens.{IsWithin};
 ghost use Rattle.m51_expr.specs.declared.symbol.Symbol.TheVariants.{Text};
 ghost use Rattle.m51_expr.specs.Symbol.{characters, between_quotes, sign_symbol, operator_of, word_or_other};
-ghost use Rattle.m51_expr.specs.Symbol.{word_symbol, symbol_of};
+ghost use Rattle.m51_expr.specs.Symbol.{word_symbol, symbol_of, prefix_word, relation_word, arithmetic_word};
 
 use crate::tree::{Binary, Unary};
 use crate::words::is_language_word;
@@ -89,10 +89,10 @@ fn sign_symbol(sign: u8) -> Symbol
     }
 }
 
-// The operator that a word is.
-#[tactic(auto, unfolding(crate::specs::Symbol::operator_of))]
-fn operator_of(word: &[u8]) -> Option<Symbol>
-    ensures { result ≡ operator_of word.now }
+// The operator before an operand that a word is.
+#[tactic(auto, unfolding(crate::specs::Symbol::prefix_word))]
+fn prefix_word(word: &[u8]) -> Option<Symbol>
+    ensures { result ≡ prefix_word word.now }
 {
     if word == b"HIGH".as_slice() {
         Some(Symbol::Prefix(Unary::High))
@@ -100,13 +100,17 @@ fn operator_of(word: &[u8]) -> Option<Symbol>
         Some(Symbol::Prefix(Unary::Low))
     } else if word == b"NOT".as_slice() {
         Some(Symbol::Prefix(Unary::Not))
-    } else if word == b"MOD".as_slice() {
-        Some(Symbol::Infix(Binary::Rem))
-    } else if word == b"SHL".as_slice() {
-        Some(Symbol::Infix(Binary::Shl))
-    } else if word == b"SHR".as_slice() {
-        Some(Symbol::Infix(Binary::Shr))
-    } else if word == b"EQ".as_slice() {
+    } else {
+        None
+    }
+}
+
+// The relation that a word is.
+#[tactic(auto, unfolding(crate::specs::Symbol::relation_word))]
+fn relation_word(word: &[u8]) -> Option<Symbol>
+    ensures { result ≡ relation_word word.now }
+{
+    if word == b"EQ".as_slice() {
         Some(Symbol::Infix(Binary::Eq))
     } else if word == b"NE".as_slice() {
         Some(Symbol::Infix(Binary::Ne))
@@ -118,6 +122,22 @@ fn operator_of(word: &[u8]) -> Option<Symbol>
         Some(Symbol::Infix(Binary::Gt))
     } else if word == b"GE".as_slice() {
         Some(Symbol::Infix(Binary::Ge))
+    } else {
+        None
+    }
+}
+
+// The operator on numbers or bits, between two operands, that a word is.
+#[tactic(auto, unfolding(crate::specs::Symbol::arithmetic_word))]
+fn arithmetic_word(word: &[u8]) -> Option<Symbol>
+    ensures { result ≡ arithmetic_word word.now }
+{
+    if word == b"MOD".as_slice() {
+        Some(Symbol::Infix(Binary::Rem))
+    } else if word == b"SHL".as_slice() {
+        Some(Symbol::Infix(Binary::Shl))
+    } else if word == b"SHR".as_slice() {
+        Some(Symbol::Infix(Binary::Shr))
     } else if word == b"AND".as_slice() {
         Some(Symbol::Infix(Binary::And))
     } else if word == b"OR".as_slice() {
@@ -126,6 +146,17 @@ fn operator_of(word: &[u8]) -> Option<Symbol>
         Some(Symbol::Infix(Binary::Xor))
     } else {
         None
+    }
+}
+
+// The operator that a word is.
+#[tactic(auto, unfolding(crate::specs::Symbol::operator_of))]
+fn operator_of(word: &[u8]) -> Option<Symbol>
+    ensures { result ≡ operator_of word.now }
+{
+    match (prefix_word(word), relation_word(word)) {
+        (Some(symbol), _) | (None, Some(symbol)) => Some(symbol),
+        (None, None) => arithmetic_word(word),
     }
 }
 

@@ -7,11 +7,11 @@ use Rattle.std.proofs.lemmas.Bool.Decides.{Decides-eqb}
 use Rattle.std.proofs.lemmas.List.Folds.{Any-from_list_any, list_any_at, list_any_more}
 use Rattle.m51_module.specs.Walks.{Edges, HasEdge, IsWalk, last_of, Reaches}
 use Rattle.m51_module.proofs.Reach.{reach_edge}
-use Rattle.m51_graph.specs.Rows.{closed_below, flipped, with_pair}
+use Rattle.m51_relations.specs.Rows.{closed_below, flipped, with_pair}
 use Rattle.m51_graph.specs.Drawing.{edge_test, same_edge}
 use Rattle.m51_graph.specs.Graph.{LeadWithin}
 use Rattle.m51_graph.specs.Leading.{leads}
-use Rattle.m51_graph.proofs.BitLaws.{same_pairs}
+use Rattle.m51_relations.proofs.BitLaws.{same_pairs}
 use Rattle.m51_graph.proofs.Deciding.{and_decides, leads_is, or_decides, reach_trans}
 
 -- the test of edges tells of them

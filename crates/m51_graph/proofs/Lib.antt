@@ -7,7 +7,6 @@ pub mod Drawn
 pub mod Within
 pub mod Fronts
 pub mod Bytes
-pub mod BitLaws
 pub mod Closed
 pub mod Cutting
 pub mod EdgeLaws

@@ -1,29 +1,19 @@
 -- Pairs joined by a pair of one set and then one of another, and which owners they say are related.
-use Rattle.std.proofs.Common.{◌≡◌, ℕ, zero, suc, ◌+◌, ◌<◌, ◌≤◌, true, false, Bool, ◌||◌, ◌&&◌, List, [], ◌∷◌, length, refl, sym, ap, ◌∙◌, arith, add-one}
+use Rattle.std.proofs.Common.{◌≡◌, ℕ, zero, suc, ◌+◌, ◌<◌, ◌≤◌, true, false, Bool, ◌||◌, ◌&&◌, List, [], ◌∷◌, length, refl, sym, ap, ◌∙◌, arith}
 use Rattle.std.specs.List.{list_any, range_with_len}
 use Rattle.std.proofs.lemmas.List.Folds.{list_any-append}
 use Rattle.std.proofs.Math.Bool.{or-false}
 use Rattle.m51_cells.proofs.Small.{range_suc}
-use Rattle.m51_graph.specs.declared.owner_pairs.Owned.{Owned}
+use Rattle.m51_relations.specs.declared.owner_pairs.Owned.{Owned}
 use Rattle.m51_graph.specs.declared.parts.GraphParts.{GraphParts}
 use Rattle.m51_graph.specs.declared.tables.Tables.{Tables}
 use Rattle.m51_graph.specs.Drawing.{edge_test}
 use Rattle.m51_graph.specs.Kept.{AreTables}
 use Rattle.m51_graph.specs.Leading.{leads}
-use Rattle.m51_graph.specs.Relating.{are_related, owner_pair, owner_related, owners_related, related_by}
-use Rattle.m51_graph.specs.Rows.{flipped, pairs, passed_below}
+use Rattle.m51_relations.specs.OwnerPairs.{owner_pair, related_by}
+use Rattle.m51_graph.specs.Relating.{are_related, owner_related, owners_related}
+use Rattle.m51_relations.specs.Rows.{flipped, pairs, passed_below}
 use Rattle.m51_graph.proofs.Closed.{and_swap}
-
-pub passed_first : (tests others has : ℕ → ℕ → Bool) (u v : ℕ) → has u v ≡ passed_below tests others has 0 u v
-unfolding passed_below
-passed_first tests others has u v = refl
-
--- one unit more
-pub passed_more : (tests others has : ℕ → ℕ → Bool) (k u v : ℕ) (now new : Bool) → new ≡ (now || (tests u k && others k v)) → now ≡ passed_below tests others has k u v
-    → new ≡ passed_below tests others has (k + 1) u v
-unfolding passed_below
-passed_more tests others has k u v now new is before =
-    is ∙ ap (λ b. b || (tests u k && others k v)) before ∙ ap (λ n. passed_below tests others has n u v) (sym (add-one k))
 
 or_three : (a b c : Bool) → ((a || b) || c) ≡ (a || (b || (c || false)))
 or_three true b c = refl

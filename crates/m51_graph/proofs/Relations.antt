@@ -13,15 +13,16 @@ use Rattle.m51_module.specs.Walks.{Edges, HasEdge, IsWalk, Reaches, last_of}
 use Rattle.m51_module.proofs.Conflicts.{related_back}
 use Rattle.m51_module.proofs.Reach.{under_on}
 use Rattle.m51_graph.specs.declared.parts.GraphParts.{GraphParts}
-use Rattle.m51_graph.specs.declared.owner_pairs.Owned.{Owned}
+use Rattle.m51_relations.specs.declared.owner_pairs.Owned.{Owned}
 use Rattle.m51_graph.specs.declared.tables.Tables.{Tables}
-use Rattle.m51_graph.specs.Rows.{pairs}
+use Rattle.m51_relations.specs.Rows.{pairs}
 use Rattle.m51_graph.specs.Drawing.{edge_test}
 use Rattle.m51_graph.specs.Graph.{AreBits, AreOfUnits, IsArgument, IsGraph, IsOwn, IsRootAt, Owns, SegmentsConflict, UnitLiesUnder, joined_graph}
 use Rattle.m51_graph.specs.Graphs.{lies_under}
 use Rattle.m51_graph.specs.Kept.{AreTables, IsKept}
 use Rattle.m51_graph.specs.Leading.{leads}
-use Rattle.m51_graph.specs.Relating.{IsOwned, are_apart, are_related, bits_of, owner_related, owners_related, root_byte}
+use Rattle.m51_relations.specs.OwnerPairs.{are_apart}
+use Rattle.m51_graph.specs.Relating.{IsOwned, are_related, bits_of, owner_related, owners_related, root_byte}
 use Rattle.m51_graph.proofs.Bytes.{Passes, bits_agree, bits_same, bits_some, bits_zero}
 use Rattle.m51_graph.proofs.Closed.{edge_tells}
 use Rattle.m51_graph.proofs.Deciding.{and_decides, leads_tells, or_decides}

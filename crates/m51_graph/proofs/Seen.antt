@@ -3,8 +3,8 @@ use Rattle.std.proofs.Common.{◌≡◌, ℕ, true, false, Bool, cond, ◌||◌,
 use Rattle.std.proofs.lemmas.List.Folds.{list_any-append}
 use Rattle.m51_module.specs.Walks.{Edges}
 use Rattle.m51_graph.specs.Drawing.{edge_test, has_edge, same_edge, with_edge}
-use Rattle.m51_graph.specs.Rows.{no_pair, with_pair}
-use Rattle.m51_graph.proofs.BitLaws.{same_pairs}
+use Rattle.m51_relations.specs.Rows.{no_pair, with_pair}
+use Rattle.m51_relations.proofs.BitLaws.{same_pairs}
 
 swap_last : (a b : Bool) → (a || b) ≡ (b || (a || false))
 swap_last true true = refl

@@ -3,12 +3,13 @@ use Rattle.std.specs.Prelude.{◌≡◌, ℕ, length, map}
 use Rattle.std.specs.List.{range_with_len}
 use Rattle.m51_graph.specs.declared.parts.GraphParts.{GraphParts}
 use Rattle.m51_graph.specs.declared.tables.Tables.{Tables}
-use Rattle.m51_graph.specs.Rows.{pairs}
+use Rattle.m51_relations.specs.Rows.{pairs}
 use Rattle.m51_graph.specs.Climbing.{AreSettled, AreWalked}
 use Rattle.m51_graph.specs.Drawing.{edge_test}
 use Rattle.m51_graph.specs.Graph.{IsGraph}
 use Rattle.m51_graph.specs.Leading.{leads}
-use Rattle.m51_graph.specs.Relating.{AreOwnerPairs, root_byte}
+use Rattle.m51_relations.specs.OwnerPairs.{AreOwnerPairs}
+use Rattle.m51_graph.specs.Relating.{root_byte}
 
 -- the tables are those of the parts
 pub record AreTables (g : GraphParts) (t : Tables) : Type 0 where

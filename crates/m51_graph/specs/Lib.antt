@@ -1,4 +1,3 @@
-pub mod Bits
 pub mod Climbing
 pub mod Conditions
 pub mod Drawing
@@ -14,6 +13,5 @@ pub mod Locals
 pub mod Numbered
 pub mod Ordering
 pub mod Relating
-pub mod Rows
 pub mod Targets
 pub mod Units

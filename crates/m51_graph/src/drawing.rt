@@ -5,10 +5,9 @@ ghost use Rattle.m51_resolve.specs.Joining.{segments_of, segment_at};
 ghost use Rattle.m51_graph.specs.Conditions.{IsTargetThere, IsWithin};
 ghost use Rattle.m51_graph.specs.Drawing.{added_by, cuts, edge_between, edge_named, edges_of, fixup_edge, fixup_edges};
 ghost use Rattle.m51_graph.specs.Drawing.{is_cut, is_edge, module_edges, with_added, with_edges};
-ghost use Rattle.m51_graph.specs.Rows.{pairs};
+ghost use Rattle.m51_relations.specs.Rows.{pairs};
 ghost use Rattle.m51_graph.specs.Units.{units_of};
 
-use crate::bit_rows::BitRows;
 use crate::edge_list::EdgeList;
 use crate::targets::{target_unit, unit_with};
 use crate::unit_names::UnitNames;
@@ -16,6 +15,7 @@ use crate::unit_table::UnitTable;
 use m51_cells::{Name, NoMemory};
 use m51_control::Control;
 use m51_module::{Fixup, Module};
+use m51_relations::BitRows;
 use m51_resolve::Joined;
 use std::alloc::{AllocError, Global};
 

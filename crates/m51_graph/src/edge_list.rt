@@ -5,8 +5,8 @@ ghost use Rattle.m51_graph.specs.Conditions.{IsWithin};
 ghost use Rattle.m51_graph.specs.Drawing.{has_edge, with_edge};
 ghost use Rattle.m51_graph.specs.DrawnEdges.{with_found};
 
-use crate::bit_rows::BitRows;
 use m51_cells::NoMemory;
+use m51_relations::BitRows;
 use std::alloc::Global;
 use std::marker::Model;
 
@@ -22,7 +22,7 @@ impl Model for EdgeList {
     ghost use Rattle.std.specs.Prelude.{◌≡◌};
     ghost use Rattle.m51_graph.specs.Drawing.{edge_test};
     ghost use Rattle.m51_graph.specs.DrawnEdges.{DrawnEdges};
-    ghost use Rattle.m51_graph.specs.Rows.{pairs};
+    ghost use Rattle.m51_relations.specs.Rows.{pairs};
 
     ghost Value = { DrawnEdges };
 

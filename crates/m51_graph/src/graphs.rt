@@ -1,18 +1,17 @@
 //! Graphs of units.
 ghost use Rattle.std.specs.Prelude.{◌≡◌, ◌≢◌, ◌<◌, ◌≤◌, ◌↔◌, ℕ, true, IfOk, IfSome, IsTrue, Some, length, slice_get};
 ghost use Rattle.m51_module.specs.Walks.{HasEdge, Reaches};
-ghost use Rattle.m51_graph.specs.Bits.{bit, words_for};
-ghost use Rattle.m51_graph.specs.Rows.{pairs};
+ghost use Rattle.m51_relations.specs.Bits.{bit, words_for};
+ghost use Rattle.m51_relations.specs.Rows.{pairs};
 ghost use Rattle.m51_graph.specs.Graph.{AreRootBits, IsGraph, IsOverlaid, SegmentsConflict};
 ghost use Rattle.m51_graph.specs.Leading.{leads};
 ghost use Rattle.m51_graph.specs.Levels.{IsLevel, level_of};
 ghost use Rattle.m51_graph.specs.Relating.{IsOwned};
 
-use crate::bit_rows::BitRows;
-use crate::owner_pairs::Owned;
 use crate::parts::GraphParts;
 use crate::tables::Tables;
 use m51_cells::NoMemory;
+use m51_relations::{BitRows, Owned};
 use std::alloc::Global;
 use std::marker::Model;
 

@@ -5,19 +5,19 @@ ghost use Rattle.std.specs.Option.{option_map_or};
 ghost use Rattle.m51_cells.specs.declared.limits.TheConstants.{MOST_UNITS};
 ghost use Rattle.m51_cells.specs.Outcome.{Gives};
 ghost use Rattle.m51_resolve.specs.Rules.{but_memory};
-ghost use Rattle.m51_graph.specs.Rows.{pairs};
+ghost use Rattle.m51_relations.specs.Rows.{pairs};
 ghost use Rattle.m51_graph.specs.Graph.{AreOfUnits};
 ghost use Rattle.m51_graph.specs.Graphs.{cyclic_from, first_under_two, has_overlaid, judged, judged_by, passed};
 ghost use Rattle.m51_graph.specs.Graphs.{under_two, unit_under_two};
 ghost use Rattle.m51_graph.specs.Leading.{leads};
 
-use crate::bit_rows::BitRows;
 use crate::graphs::Graph;
 use crate::parts::GraphParts;
 use crate::reaching::reach_rows;
 use crate::relating::roots_above;
 use m51_cells::{ListOf, Name, NoMemory};
 use m51_module::Refusal;
+use m51_relations::BitRows;
 use std::alloc::Global;
 
 // Whether there is a root at 0000H.

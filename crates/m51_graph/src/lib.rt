@@ -1,20 +1,16 @@
 //! Units, the edges between them, roots, levels and conflict: which segments may share cells.
 #![tactic(auto)]
 
-mod bit_row;
-mod bit_rows;
 mod building;
 mod drawing;
 mod edge_list;
 mod graphs;
-mod indexing;
 mod judging;
 mod laws;
 mod levels;
 mod lines;
 mod locals;
 mod ordering;
-mod owner_pairs;
 mod parts;
 mod reaching;
 mod relating;

@@ -4,16 +4,16 @@ ghost use Rattle.std.specs.Prelude.{IfOk, IfSome, option_and_then, option_map, p
 ghost use Rattle.std.specs.Option.{option_map_or};
 ghost use Rattle.std.specs.Str.{bytes_eq};
 ghost use Rattle.m51_cells.specs.declared.limits.TheConstants.{MOST_UNITS};
-ghost use Rattle.m51_graph.specs.Bits.{bit};
+ghost use Rattle.m51_relations.specs.Bits.{bit};
 ghost use Rattle.m51_graph.specs.Locals.{front_of, is_apart, is_lost, keeps_apart, local_front, lost_segment};
 ghost use Rattle.m51_graph.specs.Locals.{overlaid_unless, own_name, own_unit, own_units, unit_front, unit_name};
 ghost use Rattle.m51_graph.specs.Units.{named};
 
-use crate::bit_row::BitRow;
 use crate::unit_names::UnitNames;
 use crate::units::as_unit;
 use m51_cells::{Kind, Name, NoMemory};
 use m51_control::Control;
+use m51_relations::BitRow;
 use m51_resolve::JoinedSegment;
 use std::alloc::{AllocError, Global};
 

@@ -1,13 +1,13 @@
 //! The pairs of units that edges join, and those that walks along edges join.
 ghost use Rattle.std.specs.Prelude.{◌≡◌, ◌≤◌, IfOk};
 ghost use Rattle.m51_cells.specs.declared.limits.TheConstants.{MOST_UNITS};
-ghost use Rattle.m51_graph.specs.Rows.{flipped, pairs};
+ghost use Rattle.m51_relations.specs.Rows.{flipped, pairs};
 ghost use Rattle.m51_graph.specs.Drawing.{edge_test};
 ghost use Rattle.m51_graph.specs.Graph.{LeadWithin};
 ghost use Rattle.m51_graph.specs.Leading.{leads};
 
-use crate::bit_rows::BitRows;
 use m51_cells::NoMemory;
+use m51_relations::BitRows;
 use std::alloc::Global;
 
 // The pairs of which the first unit has an edge to the second.

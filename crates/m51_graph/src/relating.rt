@@ -1,13 +1,13 @@
 //! The roots above units.
 ghost use Rattle.std.specs.Prelude.{◌≡◌, ◌&&◌, ◌||◌, IfOk, map, nat_eq};
 ghost use Rattle.std.specs.List.{range_with_len};
-ghost use Rattle.m51_graph.specs.Rows.{pairs};
+ghost use Rattle.m51_relations.specs.Rows.{pairs};
 ghost use Rattle.m51_graph.specs.Graphs.{lies_under, roots_above};
 ghost use Rattle.m51_graph.specs.Relating.{root_byte};
 
-use crate::bit_rows::BitRows;
 use m51_cells::NoMemory;
 use m51_module::VECTORS;
+use m51_relations::BitRows;
 use std::alloc::{AllocError, Global};
 
 // Whether the root is at the vector, and is the unit or reaches it.

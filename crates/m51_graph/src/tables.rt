@@ -1,19 +1,17 @@
 //! What a graph keeps beside its parts.
 ghost use Rattle.std.specs.Prelude.{◌≡◌, IfOk, length, slice_index};
 ghost use Rattle.m51_module.specs.Walks.{Reaches};
-ghost use Rattle.m51_graph.specs.Rows.{pairs};
+ghost use Rattle.m51_relations.specs.Rows.{pairs};
 ghost use Rattle.m51_graph.specs.Graph.{IsGraph};
 ghost use Rattle.m51_graph.specs.Kept.{AreTables};
 ghost use Rattle.m51_graph.specs.Leading.{leads};
 
-use crate::bit_rows::BitRows;
-use crate::indexing::item_or;
 use crate::levels::levels;
-use crate::owner_pairs::OwnerPairs;
 use crate::parts::GraphParts;
 use crate::reaching::{caller_rows, edge_rows};
 use crate::relating::root_bytes;
 use m51_cells::NoMemory;
+use m51_relations::{BitRows, OwnerPairs, item_or};
 use std::alloc::Global;
 
 // What a graph keeps beside its parts: the pairs of units that edges join, and those that walks join; for each unit a

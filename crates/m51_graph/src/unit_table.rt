@@ -4,9 +4,9 @@ ghost use Rattle.m51_cells.specs.declared.limits.TheConstants.{MOST_UNITS, MOST_
 ghost use Rattle.m51_graph.specs.Numbered.{units_by_segment};
 ghost use Rattle.m51_graph.specs.Units.{units_of};
 
-use crate::indexing::item_or;
 use crate::units::unit_numbers;
 use m51_cells::{NoMemory, is_code};
+use m51_relations::item_or;
 use m51_resolve::JoinedSegment;
 use std::alloc::Global;
 use std::marker::Model;

@@ -1,11 +1,15 @@
 -- Answers, source by source.
-use Rattle.std.proofs.Common.{◌≡◌, ◌∙◌, ℕ, suc, ◌+◌, ◌<◌, List, [], ◌∷◌, ◌++◌, length, take, drop, get_or, map, refl, ap, sym, subst, append_assoc, add-one, drop-cons, length-drop, arith}
-use Rattle.std.proofs.lemmas.List.{take_more}
+use Rattle.std.proofs.Common.{◌≡◌, ◌∙◌, ℕ, suc, ◌+◌, ◌<◌, List, [], ◌∷◌, ◌++◌, length, take, drop, get_or, map, refl, ap, sym, subst, append_assoc, append-nil, arith}
+use Rattle.std.specs.List.{slice_index_or}
+use Rattle.std.proofs.lemmas.List.{take_more, length-map}
 use Rattle.m51_module.specs.declared.parts.ModuleParts.{ModuleParts}
 use Rattle.m51_module.specs.declared.source.SourceFile.{SourceFile}
-use Rattle.m51_asm.specs.declared.outcome.Assembled.{Assembled}
 use Rattle.m51_asm.specs.Answer.{AnswerTree, Gives, Faults, IsAnswer, tree_of}
 use Rattle.m51_inputs.specs.declared.error.SourceFaults.{SourceFaults}
+use Rattle.m51_inputs.specs.declared.sorting.Source.{Source}
+use Rattle.m51_inputs.specs.declared.sources.Answered.{Answered}
+use Rattle.m51_inputs.specs.Answered.{answers_of, words_of}
+use Rattle.m51_inputs.specs.Sorting.{files_in, words_in}
 use Rattle.m51_inputs.specs.Sources.{AreAnswers, modules_in, faults_in}
 
 -- one more source with its answer
@@ -18,21 +22,34 @@ one_more includes (first ∷ sources) (given ∷ answers) source answer are is =
 one_more includes [] (given ∷ answers) source answer are is = absurd are
 one_more includes (first ∷ sources) [] source answer are is = absurd are
 
-trees_more : (all : List Assembled) (one : Assembled) → map tree_of (all ++ one ∷ []) ≡ map tree_of all ++ tree_of one ∷ []
-trees_more [] one = refl
-trees_more (first ∷ all) one = ap (λ (ts : List AnswerTree). tree_of first ∷ ts) (trees_more all one)
+map_push : {A B : Type 0} (f : A → B) (xs : List A) (x : A) → map f (xs ++ x ∷ []) ≡ map f xs ++ f x ∷ []
+map_push f [] x = refl
+map_push f (y ∷ xs) x = ap (λ zs. f y ∷ zs) (map_push f xs x)
+
+taken : (sources : List Source) (i : ℕ) (source : Source) → i < length sources → source ≡ get_or sources i source
+    → take (i + 1) sources ≡ take i sources ++ source ∷ []
+taken sources i source some is = take_more sources i source some ∙ ap (λ (s : Source). take i sources ++ s ∷ []) (sym is)
 
 -- the source at an index is assembled after those before it
-pub assembled_more : (includes sources : List SourceFile) (i : ℕ) (source : SourceFile) (old new : List Assembled) (assembled : Assembled)
-    → i < length sources → source ≡ get_or sources i source → new ≡ old ++ assembled ∷ [] → IsAnswer source includes (tree_of assembled)
-    → AreAnswers includes (take i sources) (map tree_of old) → AreAnswers includes (take (i + 1) sources) (map tree_of new)
-assembled_more includes sources i source old new assembled some is put answer are =
-    let taken : take (i + 1) sources ≡ take i sources ++ source ∷ [] =
-    take_more sources i source some ∙ ap (λ (s : SourceFile). take i sources ++ s ∷ []) (sym is) in
-    let told : map tree_of new ≡ map tree_of old ++ tree_of assembled ∷ [] = ap (map tree_of) put ∙ trees_more old assembled in
-    let P : List SourceFile → Type 0 = λ ss. AreAnswers includes ss (map tree_of new) in
-    let Q : List AnswerTree → Type 0 = λ ts. AreAnswers includes (take i sources ++ source ∷ []) ts in
-    subst P (sym taken) (subst Q (sym told) (one_more includes (take i sources) (map tree_of old) source (tree_of assembled) are answer))
+pub assembled_more : (includes : List SourceFile) (sources : List Source) (i : ℕ) (source : Source) (old new : List Answered) (one : Answered)
+    → i < length sources → source ≡ get_or sources i source → new ≡ old ++ one ∷ [] → IsAnswer source.file includes (tree_of one.assembled)
+    → AreAnswers includes (files_in (take i sources)) (answers_of old) → AreAnswers includes (files_in (take (i + 1) sources)) (answers_of new)
+assembled_more includes sources i source old new one some is put answer are =
+    let files : files_in (take (i + 1) sources) ≡ files_in (take i sources) ++ source.file ∷ [] =
+    ap files_in (taken sources i source some is) ∙ map_push (λ (s : Source). s.file) (take i sources) source in
+    let told : answers_of new ≡ answers_of old ++ tree_of one.assembled ∷ [] =
+    ap answers_of put ∙ map_push (λ (a : Answered). tree_of a.assembled) old one in
+    let P : List SourceFile → Type 0 = λ ss. AreAnswers includes ss (answers_of new) in
+    let Q : List AnswerTree → Type 0 = λ ts. AreAnswers includes (files_in (take i sources) ++ source.file ∷ []) ts in
+    subst P (sym files) (subst Q (sym told) (one_more includes (files_in (take i sources)) (answers_of old) source.file (tree_of one.assembled) are answer))
+
+pub words_more : (sources : List Source) (i : ℕ) (source : Source) (old new : List Answered) (one : Answered)
+    → i < length sources → source ≡ get_or sources i source → new ≡ old ++ one ∷ [] → one.word ≡ source.word
+    → words_of old ≡ words_in (take i sources) → words_of new ≡ words_in (take (i + 1) sources)
+words_more sources i source old new one some is put word before =
+    ap words_of put ∙ map_push (λ (a : Answered). a.word) old one
+    ∙ ap (λ (ws : List ℕ). ws ++ one.word ∷ []) before ∙ ap (λ (w : ℕ). words_in (take i sources) ++ w ∷ []) word
+    ∙ sym (map_push (λ (s : Source). s.word) (take i sources) source) ∙ ap words_in (sym (taken sources i source some is))
 
 -- the first of several answers
 modules_first : (answer : AnswerTree) (answers : List AnswerTree) → modules_in (answer ∷ answers) ≡ modules_in (answer ∷ []) ++ modules_in answers
@@ -44,34 +61,49 @@ faults_first : (word : ℕ) (words : List ℕ) (answer : AnswerTree) (answers : 
 faults_first word words (Gives parts rows) answers = refl
 faults_first word words (Faults faults) answers = refl
 
-pub modules_step : (old new whole : List ModuleParts) (answers rest : List Assembled) (one : Assembled)
-    → answers ≡ one ∷ rest → new ≡ old ++ modules_in (tree_of one ∷ []) → old ++ modules_in (map tree_of answers) ≡ whole
-    → new ++ modules_in (map tree_of rest) ≡ whole
+pub modules_step : (old new whole : List ModuleParts) (answers rest : List Answered) (one : Answered)
+    → answers ≡ one ∷ rest → new ≡ old ++ modules_in (tree_of one.assembled ∷ []) → old ++ modules_in (answers_of answers) ≡ whole
+    → new ++ modules_in (answers_of rest) ≡ whole
 modules_step old new whole answers rest one is put before =
-    ap (λ (ms : List ModuleParts). ms ++ modules_in (map tree_of rest)) put
-    ∙ append_assoc old (modules_in (tree_of one ∷ [])) (modules_in (map tree_of rest))
-    ∙ ap (λ (ms : List ModuleParts). old ++ ms) (sym (modules_first (tree_of one) (map tree_of rest)))
-    ∙ ap (λ (all : List Assembled). old ++ modules_in (map tree_of all)) (sym is)
+    ap (λ (ms : List ModuleParts). ms ++ modules_in (answers_of rest)) put
+    ∙ append_assoc old (modules_in (tree_of one.assembled ∷ [])) (modules_in (answers_of rest))
+    ∙ ap (λ (ms : List ModuleParts). old ++ ms) (sym (modules_first (tree_of one.assembled) (answers_of rest)))
+    ∙ ap (λ (all : List Answered). old ++ modules_in (answers_of all)) (sym is)
     ∙ before
 
-pub faults_step : (old new whole : List SourceFaults) (words : List ℕ) (i word : ℕ) (answers rest : List Assembled) (one : Assembled)
-    → i < length words → word ≡ get_or words i 0
-    → answers ≡ one ∷ rest → new ≡ old ++ faults_in (word ∷ []) (tree_of one ∷ []) → old ++ faults_in (drop i words) (map tree_of answers) ≡ whole
-    → new ++ faults_in (drop (i + 1) words) (map tree_of rest) ≡ whole
-faults_step old new whole words i word answers rest one some at is put before =
-    let cut : drop i words ≡ word ∷ drop (i + 1) words =
-    drop-cons words i 0 some ∙ ap (λ (n : ℕ). n ∷ drop (suc i) words) (sym at) ∙ ap (λ (k : ℕ). word ∷ drop k words) (sym (add-one i)) in
-    ap (λ (fs : List SourceFaults). fs ++ faults_in (drop (i + 1) words) (map tree_of rest)) put
-    ∙ append_assoc old (faults_in (word ∷ []) (tree_of one ∷ [])) (faults_in (drop (i + 1) words) (map tree_of rest))
-    ∙ ap (λ (fs : List SourceFaults). old ++ fs) (sym (faults_first word (drop (i + 1) words) (tree_of one) (map tree_of rest)))
-    ∙ ap (λ (all : List Assembled). old ++ faults_in (word ∷ drop (i + 1) words) (map tree_of all)) (sym is)
-    ∙ ap (λ (ws : List ℕ). old ++ faults_in ws (map tree_of answers)) (sym cut)
+pub faults_step : (old new whole : List SourceFaults) (answers rest : List Answered) (one : Answered)
+    → answers ≡ one ∷ rest → new ≡ old ++ faults_in (one.word ∷ []) (tree_of one.assembled ∷ []) → old ++ faults_in (words_of answers) (answers_of answers) ≡ whole
+    → new ++ faults_in (words_of rest) (answers_of rest) ≡ whole
+faults_step old new whole answers rest one is put before =
+    ap (λ (fs : List SourceFaults). fs ++ faults_in (words_of rest) (answers_of rest)) put
+    ∙ append_assoc old (faults_in (one.word ∷ []) (tree_of one.assembled ∷ [])) (faults_in (words_of rest) (answers_of rest))
+    ∙ ap (λ (fs : List SourceFaults). old ++ fs) (sym (faults_first one.word (words_of rest) (tree_of one.assembled) (answers_of rest)))
+    ∙ ap (λ (all : List Answered). old ++ faults_in (words_of all) (answers_of all)) (sym is)
     ∙ before
 
-pub count_step : {A B : Type 0} (xs : List A) (i : ℕ) (old new : List B) (one : B) → i < length xs → old ≡ one ∷ new → length (drop i xs) ≡ length old
-    → length (drop (i + 1) xs) ≡ length new
-count_step xs i old new one some is count = omega (arith, length-drop i xs, length-drop (i + 1) xs, ap length is, count)
+-- no answer is left
+pub none_left : {A : Type 0} (left rest : List A) → left ≡ rest → rest ≡ drop 1 left → left ≡ []
+none_left [] rest same is = refl
+none_left (first ∷ left) rest same is = absurd (omega (arith, ap length same, ap length is))
 
--- none is left only at the end
-pub some_left : {A B : Type 0} (xs : List A) (i : ℕ) (old new : List B) → i < length xs → old ≡ new → new ≡ drop 1 old → length (drop i xs) ≡ length old → ⊥
-some_left xs i old new some same rest count = omega (arith, length-drop i xs, length-drop 1 old, ap length same, ap length rest, count)
+pub all_modules : (found whole : List ModuleParts) (left : List Answered) → left ≡ [] → found ++ modules_in (answers_of left) ≡ whole → found ≡ whole
+all_modules found whole left none before =
+    sym (append-nil found) ∙ ap (λ (l : List Answered). found ++ modules_in (answers_of l)) (sym none) ∙ before
+
+pub all_faults : (found whole : List SourceFaults) (left : List Answered) → left ≡ [] → found ++ faults_in (words_of left) (answers_of left) ≡ whole → found ≡ whole
+all_faults found whole left none before =
+    sym (append-nil found) ∙ ap (λ (l : List Answered). found ++ faults_in (words_of l) (answers_of l)) (sym none) ∙ before
+
+-- The one source, where there is one.
+pub only_source : (sources : List Source) (found : Source) (files : List SourceFile) → files_in sources ≡ files → length files ≡ 1
+    → found ≡ slice_index_or sources 0 found → files ≡ found.file ∷ []
+only_source [] found files is one at = absurd (omega (arith, ap length is, one))
+only_source (source ∷ []) found files is one at = sym is ∙ ap (λ (s : Source). s.file ∷ []) (sym at)
+only_source (source ∷ other ∷ more) found files is one at =
+    let count : length (files_in (source ∷ other ∷ more)) ≡ length (source ∷ other ∷ more) = length-map (source ∷ other ∷ more) (λ (s : Source). s.file) in
+    absurd (omega (arith, ap length is, count, one))
+
+pub some_source : (sources : List Source) (files : List SourceFile) → files_in sources ≡ files → length files ≡ 1 → 0 < length sources
+some_source sources files is one =
+    let count : length (files_in sources) ≡ length sources = length-map sources (λ (s : Source). s.file) in
+    omega (arith, ap length is, count, one)

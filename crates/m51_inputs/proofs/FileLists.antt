@@ -2,7 +2,7 @@
 use Rattle.std.proofs.Common.{◌≡◌, ◌∙◌, ℕ, suc, ◌+◌, ◌<◌, Bool, true, false, cond, List, [], ◌∷◌, ◌++◌, length, drop, get_or, length-append, append_assoc, add-one, drop-cons, count_by, filter, refl, ap, sym, arith}
 use Rattle.std.proofs.lemmas.List.Sums.{length-filter}
 use Rattle.m51_module.specs.declared.source.SourceFile.{SourceFile}
-use Rattle.m51_words.specs.Endings.{is_source}
+use Rattle.m51_jobs.specs.Endings.{is_source}
 use Rattle.m51_inputs.specs.Files.{files_that, sources_of, source_words}
 
 -- one more of both, or of none
@@ -21,19 +21,6 @@ length-files_that is (name ∷ names) (bytes ∷ contents) h =
 -- as many files of a kind as words of the kind
 pub count-files_that : (is : List ℕ → Bool) (names contents : List (List ℕ)) → length contents ≡ length names → length (files_that is names contents) ≡ count_by is names
 count-files_that is names contents h = length-files_that is names contents h ∙ length-filter is names
-
--- a word for each source
-pub length-source_words : (word : ℕ) (names contents : List (List ℕ)) → length contents ≡ length names → length (source_words word names) ≡ length (sources_of names contents)
-length-source_words word [] contents h = refl
-length-source_words word (name ∷ names) [] h = absurd (omega (arith, h))
-length-source_words word (name ∷ names) (bytes ∷ contents) h =
-    let file : SourceFile = record { name = name; bytes = bytes } in
-    one_of_both (is_source name) word file (source_words (word + 1) names) (sources_of names contents) (length-source_words (word + 1) names contents (omega (arith, h)))
-
--- the last of files is the only one, where there is one
-pub only_file : (files before : List SourceFile) (file : SourceFile) → files ≡ before ++ file ∷ [] → length files ≡ 1 → files ≡ file ∷ []
-only_file files [] file is one = is
-only_file files (first ∷ before) file is one = absurd (omega (arith, ap length is, length-append before (file ∷ []), one))
 
 -- the files from an index on
 file_at : (is : List ℕ → Bool) (names contents : List (List ℕ)) (i : ℕ) (name bytes other : List ℕ)

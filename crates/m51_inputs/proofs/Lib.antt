@@ -2,3 +2,5 @@ pub mod FileLists
 pub mod AnswerLists
 pub mod LinkedLists
 pub mod OneEach
+pub mod SortedFiles
+pub mod ToldInputs

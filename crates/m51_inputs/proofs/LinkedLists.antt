@@ -1,11 +1,14 @@
 -- Modules and libraries, word by word.
-use Rattle.std.proofs.Common.{◌≡◌, ◌∙◌, ℕ, suc, ◌+◌, ◌<◌, List, [], ◌∷◌, ◌++◌, length, drop, get_or, Some, None, Option, Result, Ok, Err, refl, ap, sym, append_assoc, add-one, drop-cons, arith}
+use Rattle.std.proofs.Common.{◌≡◌, ◌∙◌, ℕ, suc, ◌+◌, ◌<◌, List, [], ◌∷◌, ◌++◌, length, map, drop, get_or, Some, None, Option, Result, Ok, Err, refl, ap, sym, append_assoc, add-one, drop-cons, arith}
+use Rattle.std.specs.Prelude.{IsErrAnd}
 use Rattle.m51_cells.specs.Outcome.{and_then, RefusesWith}
 use Rattle.m51_module.specs.declared.parts.ModuleParts.{ModuleParts}
-use Rattle.m51_words.specs.Endings.{ending_of}
+use Rattle.m51_jobs.specs.declared.endings.Ending.{Ending}
+use Rattle.m51_jobs.specs.declared.endings.Ending.TheVariants as ending
+use Rattle.m51_jobs.specs.Endings.{ending_of}
 use Rattle.m51_inputs.specs.declared.error.InputError.{InputError}
-use Rattle.m51_inputs.specs.Objects.{Linked, with_module, with_library, with_source, linked_by, linked_from}
-use Rattle.m51_inputs.specs.Steps.{linked_before}
+use Rattle.m51_inputs.specs.Objects.{Linked, with_module, with_library, with_source, with_object, with_archive, linked_by, linked_from}
+use Rattle.m51_inputs.specs.Steps.{linked_before, linked_kinds}
 
 -- one more module
 module_after : (modules : List ModuleParts) (libraries : List (List ModuleParts)) (after : Result Linked InputError) (parts : ModuleParts)
@@ -66,13 +69,37 @@ rest_refused None modules libraries rest whole is h = tt
 rest_refused (Some why) modules libraries rest whole is h = sym is ∙ ap (linked_before modules libraries) h
 
 -- the word at an index, and those after it
-pub word_at : (names contents : List (List ℕ)) (i : ℕ) (name bytes : List ℕ) (sources : List ModuleParts)
-    → i < length names → i < length contents → name ≡ get_or names i name → bytes ≡ get_or contents i bytes
-    → linked_from i (drop i names) (drop i contents) sources ≡ linked_by (ending_of name) i bytes sources (linked_from (i + 1) (drop (i + 1) names) (drop (i + 1) contents))
-word_at names contents i name bytes sources some more is has =
-    let cut : drop i names ≡ name ∷ drop (i + 1) names =
-    drop-cons names i name some ∙ ap (λ (n : List ℕ). n ∷ drop (suc i) names) (sym is) ∙ ap (λ (k : ℕ). name ∷ drop k names) (sym (add-one i)) in
+pub word_at : (kinds : List (Option Ending)) (contents : List (List ℕ)) (i : ℕ) (kind : Option Ending) (bytes : List ℕ) (sources : List ModuleParts)
+    → i < length kinds → i < length contents → kind ≡ get_or kinds i None → bytes ≡ get_or contents i bytes
+    → linked_kinds i (drop i kinds) (drop i contents) sources ≡ linked_by kind i bytes sources (linked_kinds (i + 1) (drop (i + 1) kinds) (drop (i + 1) contents))
+word_at kinds contents i kind bytes sources some more is has =
+    let cut : drop i kinds ≡ kind ∷ drop (i + 1) kinds =
+    drop-cons kinds i None some ∙ ap (λ (n : Option Ending). n ∷ drop (suc i) kinds) (sym is) ∙ ap (λ (k : ℕ). kind ∷ drop k kinds) (sym (add-one i)) in
     let cut_too : drop i contents ≡ bytes ∷ drop (i + 1) contents =
     drop-cons contents i bytes more ∙ ap (λ (n : List ℕ). n ∷ drop (suc i) contents) (sym has) ∙ ap (λ (k : ℕ). bytes ∷ drop k contents) (sym (add-one i)) in
-    ap (λ (ns : List (List ℕ)). linked_from i ns (drop i contents) sources) cut
-    ∙ ap (λ (cs : List (List ℕ)). linked_from i (name ∷ drop (i + 1) names) cs sources) cut_too
+    ap (λ (ks : List (Option Ending)). linked_kinds i ks (drop i contents) sources) cut
+    ∙ ap (λ (cs : List (List ℕ)). linked_kinds i (kind ∷ drop (i + 1) kinds) cs sources) cut_too
+
+-- what follows decides nothing else
+same_by : (kind : Option Ending) (word : ℕ) (bytes : List ℕ) (sources : List ModuleParts) (one two : List ModuleParts → Result Linked InputError)
+    → ((left : List ModuleParts) → one left ≡ two left) → linked_by kind word bytes sources one ≡ linked_by kind word bytes sources two
+same_by (Some ending.Source) word bytes [] one two h = h []
+same_by (Some ending.Source) word bytes (parts ∷ sources) one two h = ap (λ after. with_module after parts) (h sources)
+same_by (Some ending.Include) word bytes sources one two h = h sources
+same_by (Some ending.Object) word bytes sources one two h = ap (with_object word bytes) (h sources)
+same_by (Some ending.Library) word bytes sources one two h = ap (with_archive word bytes) (h sources)
+same_by None word bytes sources one two h = h sources
+
+-- words by what they are, and by their names
+pub kinds_linked : (names contents : List (List ℕ)) (word : ℕ) (sources : List ModuleParts)
+    → linked_kinds word (map ending_of names) contents sources ≡ linked_from word names contents sources
+kinds_linked [] contents word sources = refl
+kinds_linked (name ∷ names) [] word sources = refl
+kinds_linked (name ∷ names) (bytes ∷ contents) word sources =
+    same_by (ending_of name) word bytes sources (linked_kinds (word + 1) (map ending_of names) contents) (linked_from (word + 1) names contents)
+    (kinds_linked names contents (word + 1))
+
+-- what the exit of a `?` returns, where the error stays
+pub came : {T : Type 0} (result : Result T InputError) (why : InputError) → IsErrAnd result (λ e. e ≡ why) → result ≡ Err why
+came (Ok value) why h = absurd h
+came (Err e) why h = ap (λ (error : InputError). Err error) h

@@ -1,7 +1,7 @@
 -- The sources and the includes among the files of a program.
 use Rattle.std.specs.Prelude.{ℕ, ◌+◌, Bool, if◌then◌else◌, List, [], ◌∷◌}
 use Rattle.m51_module.specs.declared.source.SourceFile.{SourceFile}
-use Rattle.m51_words.specs.Endings.{is_include, is_source}
+use Rattle.m51_jobs.specs.Endings.{is_include, is_source}
 
 -- the files of a kind, by their names, in word order: each under its word, with its bytes
 abbrev pub files_that : (List ℕ → Bool) → List (List ℕ) → List (List ℕ) → List SourceFile

@@ -6,9 +6,9 @@ use Rattle.m51_module.specs.declared.object_error.ObjError.{ObjError}
 use Rattle.m51_module.specs.declared.parts.ModuleParts.{ModuleParts}
 use Rattle.m51_records.specs.Reading.{module_at}
 use Rattle.m51_library.specs.Reading.{at_end, library_of}
-use Rattle.m51_words.specs.declared.endings.Ending.{Ending}
-use Rattle.m51_words.specs.declared.endings.Ending.TheVariants as ending
-use Rattle.m51_words.specs.Endings.{ending_of}
+use Rattle.m51_jobs.specs.declared.endings.Ending.{Ending}
+use Rattle.m51_jobs.specs.declared.endings.Ending.TheVariants as ending
+use Rattle.m51_jobs.specs.Endings.{ending_of}
 use Rattle.m51_inputs.specs.declared.error.InputError.{InputError}
 use Rattle.m51_inputs.specs.declared.error.InputError.TheVariants.{Object, Library}
 use Rattle.m51_inputs.specs.declared.objects.LinkedFiles.{LinkedFiles}
@@ -36,7 +36,7 @@ pub record Linked : Type 0 where
   pub libraries : List (List ModuleParts)
 
 abbrev pub linked : LinkedFiles → Linked
-linked files = record { modules = files.modules.items; libraries = files.libraries.items }
+linked files = record { modules = files.modules; libraries = files.libraries }
 
 -- these before what the words after give, unless that is refused
 abbrev pub with_module : Result Linked InputError → ModuleParts → Result Linked InputError

@@ -3,7 +3,6 @@ use m51_cells::{ListOf, NoMemory};
 use m51_control::ControlError;
 use m51_module::{Faults, LibError, ObjError};
 use m51_script::ScriptError;
-use std::alloc::AllocFailed;
 
 /// The faults of a source.
 ///
@@ -47,17 +46,6 @@ impl From<NoMemory> for InputError {
     ghost from_gives = { λ _ error. error ≡ Memory };
 
     fn from(_error: NoMemory) -> InputError {
-        InputError::Memory
-    }
-}
-
-impl<T: Drop> From<AllocFailed<T>> for InputError {
-    ghost use Rattle.std.specs.Prelude.{◌≡◌};
-    ghost use Rattle.m51_inputs.specs.declared.error.InputError.TheVariants.{Memory};
-
-    ghost from_gives = { λ _ error. error ≡ Memory };
-
-    fn from(_error: AllocFailed<T>) -> InputError {
         InputError::Memory
     }
 }

@@ -3,21 +3,21 @@ ghost use Rattle.std.specs.Prelude.{◌≡◌, ◌<◌, ◌≤◌, ◌^◌, List
 ghost use Rattle.m51_cells.specs.declared.limits.TheConstants.{MOST_FILE_BYTES};
 ghost use Rattle.m51_cells.specs.Outcome.{Gives};
 ghost use Rattle.m51_library.specs.Reading.{at_end, library_of};
-ghost use Rattle.m51_records.specs.Fields.{Reads};
+ghost use Rattle.m51_frame.specs.Fields.{Reads};
 ghost use Rattle.m51_inputs.specs.Inputs.{refusal_of};
 ghost use Rattle.m51_inputs.specs.declared.error.InputError.{InputError as Error};
-ghost use Rattle.m51_inputs.specs.Objects.{Linked, module_in, or_object, or_library, linked_by, linked_from, linked};
+ghost use Rattle.m51_inputs.specs.Objects.{Linked, module_in, or_object, or_library, linked_by, linked};
 ghost use Rattle.m51_inputs.specs.Objects.{with_source, with_object, with_archive};
-ghost use Rattle.m51_inputs.specs.Steps.{Steps};
+ghost use Rattle.m51_inputs.specs.Steps.{Steps, linked_kinds};
 ghost use Rattle.m51_module.specs.declared.parts.ModuleParts.{ModuleParts};
-ghost use Rattle.m51_words.specs.Endings.{ending_of};
 
 use crate::error::InputError;
-use m51_cells::Bytes;
+use m51_cells::{Bytes, ListOf};
+use m51_frame::place;
+use m51_jobs::Ending;
 use m51_library::read_library;
 use m51_module::{LibError, Library, Module, ObjError};
-use m51_records::{module_at, place};
-use m51_words::{Ending, FileName, ending_of};
+use m51_records::module_at;
 use std::alloc::Global;
 use std::collections::VecDeque;
 
@@ -76,8 +76,8 @@ fn library_at(alloc: Global, file: usize, bytes: &Bytes) -> Result<Library, Inpu
 // The given modules and the libraries, in word order.
 #[derive(Drop)]
 pub(crate) struct LinkedFiles {
-    pub(crate) modules: Vec<Module>,
-    pub(crate) libraries: Vec<Library>,
+    pub(crate) modules: ListOf<Module>,
+    pub(crate) libraries: ListOf<Library>,
 }
 
 // Adds the first of the sources' modules.
@@ -128,7 +128,7 @@ fn add_library(
 fn add_word(
     alloc: Global,
     word: usize,
-    name: &FileName,
+    ending: Option<Ending>,
     bytes: &Bytes,
     sources: &mut VecDeque<Module>,
     linked: &mut LinkedFiles,
@@ -136,9 +136,9 @@ fn add_word(
     requires { length bytes.now ≤ MOST_FILE_BYTES }
     ensures { (after : List ModuleParts → Result Linked Error) →
         Steps linked.old linked.new result (after sources.new.items)
-        (linked_by (ending_of name.now) word bytes.now sources.old.items after) }
+        (linked_by ending word bytes.now sources.old.items after) }
 {
-    match ending_of(name.as_str()) {
+    match ending {
         Some(Ending::Source) => add_source(sources, linked),
         Some(Ending::Object) => add_object(alloc, word, bytes, linked),
         Some(Ending::Library) => add_library(alloc, word, bytes, linked),
@@ -146,30 +146,23 @@ fn add_word(
     }
 }
 
-// The given modules and the libraries, where the sources give these modules.
+// The given modules and the libraries of files with these endings, where the sources give these modules.
 pub(crate) fn linked_files(
     alloc: Global,
-    files: &[FileName],
+    endings: &[Option<Ending>],
     contents: &[Bytes],
     mut sources: VecDeque<Module>,
 ) -> Result<LinkedFiles, InputError>
-    requires count { length contents.now ≡ length files.now }
+    requires count { length contents.now ≡ length endings.now }
     requires within { All (λ bytes. length bytes ≤ MOST_FILE_BYTES) contents.now }
-    ensures { Gives linked refusal_of result (linked_from 0 files.now contents.now sources.items) }
+    ensures { Gives linked refusal_of result (linked_kinds 0 endings.now contents.now sources.items) }
 {
     let mut linked = LinkedFiles {
-        modules: Vec::new(alloc),
-        libraries: Vec::new(alloc),
+        modules: ListOf::new(alloc),
+        libraries: ListOf::new(alloc),
     };
-    for (word, name) in files.iter().enumerate() {
-        add_word(
-            alloc,
-            word,
-            name,
-            &contents[word],
-            &mut sources,
-            &mut linked,
-        )?;
+    for (word, bytes) in contents.iter().enumerate() {
+        add_word(alloc, word, endings[word], bytes, &mut sources, &mut linked)?;
     }
     Ok(linked)
 }

@@ -1,25 +1,21 @@
 //! Reads the files of a program.
-ghost use Rattle.std.specs.Prelude.{◌≡◌, ◌≤◌, length, map, is_some, All};
-ghost use Rattle.std.specs.List.{list_all};
+ghost use Rattle.std.specs.Prelude.{◌≡◌, ◌≤◌, length, All};
 ghost use Rattle.std.specs.Option.{option_copied};
-ghost use Rattle.m51_asm.specs.Answer.{tree_of};
 ghost use Rattle.m51_cells.specs.declared.limits.TheConstants.{MOST_FILE_BYTES};
 ghost use Rattle.m51_cells.specs.Outcome.{Gives};
-ghost use Rattle.m51_control.specs.Controls.{refusal_of as control_refusal};
-ghost use Rattle.m51_script.specs.Reading.{refusal_of as script_refusal};
-ghost use Rattle.m51_inputs.specs.Files.{source_words};
-ghost use Rattle.m51_inputs.specs.Inputs.{IsTold, inputs_of, inputs_tree, refusal_of, controls_in, script_in};
+ghost use Rattle.m51_inputs.specs.Answered.{answers_of, words_of};
+ghost use Rattle.m51_inputs.specs.Inputs.{IsTold, inputs_tree, refusal_of, controls_in, script_in};
+ghost use Rattle.m51_inputs.specs.Steps.{inputs_by};
 
 use crate::error::InputError;
-use crate::files::{includes_of, source_words, sources_of};
 use crate::inputs::Inputs;
 use crate::objects::linked_files;
-use crate::sources::{assemble_each, modules_of};
-use m51_asm::Assembled;
-use m51_cells::Bytes;
+use crate::sorting::{Sorted, sort};
+use crate::sources::{Answered, assemble_sources, modules_of};
+use m51_cells::{Bytes, ListOf};
 use m51_control::{ControlError, Controls, read_controls};
+use m51_jobs::FileName;
 use m51_script::{Script, ScriptError, read_script};
-use m51_words::FileName;
 use std::alloc::Global;
 
 // The control lines of a file, if there is one.
@@ -50,30 +46,28 @@ fn script_in(alloc: Global, file: Option<&Bytes>) -> Result<Script, InputError>
     }
 }
 
-// What is linked and run, where the sources give this.
-#[tactic(auto, unfolding(crate::specs::Inputs::inputs_of))]
+// What is linked and run, where the files have these endings and the sources give this.
+#[tactic(auto, unfolding(crate::specs::Steps::inputs_by))]
 fn inputs_with(
     alloc: Global,
-    files: &[FileName],
+    sorted: &Sorted,
     contents: &[Bytes],
     control: Option<&Bytes>,
     script: Option<&Bytes>,
-    assembled: Vec<Assembled>,
+    answers: ListOf<Answered>,
 ) -> Result<Inputs, InputError>
-    requires count { length contents.now ≡ length files.now }
+    requires count { length contents.now ≡ length sorted.now.endings }
     requires within { All (λ bytes. length bytes ≤ MOST_FILE_BYTES) contents.now }
-    requires each { length (source_words 0 files.now) ≡ length assembled.items }
-    ensures { Gives inputs_tree refusal_of result (inputs_of files.now contents.now (option_copied control.entry)
-        (option_copied script.entry) (map tree_of assembled.items)) }
+    ensures { Gives inputs_tree refusal_of result (inputs_by sorted.now.endings contents.now (option_copied control.entry)
+        (option_copied script.entry) (words_of answers) (answers_of answers)) }
 {
-    let words = source_words(alloc, files)?;
-    let sources = modules_of(alloc, &words, assembled)?;
-    let linked = linked_files(alloc, files, contents, sources)?;
+    let sources = modules_of(alloc, answers)?;
+    let linked = linked_files(alloc, sorted.endings.as_slice(), contents, sources)?;
     let controls = controls_in(alloc, control)?;
     let script = script_in(alloc, script)?;
     Ok(Inputs {
-        modules: linked.modules,
-        libraries: linked.libraries,
+        modules: linked.modules.into_vec(),
+        libraries: linked.libraries.into_vec(),
         controls,
         script,
     })
@@ -109,8 +103,7 @@ pub fn read_inputs(
     requires within { All (λ bytes. length bytes ≤ MOST_FILE_BYTES) contents.now }
     ensures { IsTold files.now contents.now (option_copied control.entry) (option_copied script.entry) result }
 {
-    let sources = sources_of(alloc, files, contents)?;
-    let includes = includes_of(alloc, files, contents)?;
-    let assembled = assemble_each(alloc, &sources, &includes)?;
-    inputs_with(alloc, files, contents, control, script, assembled)
+    let sorted = sort(alloc, files, contents)?;
+    let answers = assemble_sources(alloc, &sorted)?;
+    inputs_with(alloc, &sorted, contents, control, script, answers)
 }

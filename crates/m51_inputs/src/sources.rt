@@ -1,41 +1,60 @@
 //! What the sources of a program give.
-ghost use Rattle.std.specs.Prelude.{◌≡◌, ◌≤◌, [], ◌∷◌, ◌++◌, length, map, count_by, IfOk, OnOk};
+ghost use Rattle.std.specs.Prelude.{◌≡◌, ◌≤◌, [], ◌∷◌, ◌++◌, length, count_by, IfOk, OnOk};
 ghost use Rattle.m51_cells.specs.Outcome.{Gives};
 ghost use Rattle.m51_asm.specs.Answer.{IsAnswer, tree_of};
-ghost use Rattle.m51_words.specs.Endings.{is_source};
+ghost use Rattle.m51_jobs.specs.Endings.{is_source};
+ghost use Rattle.m51_inputs.specs.Answered.{answers_of, words_of};
 ghost use Rattle.m51_inputs.specs.Files.{sources_of, includes_of};
 ghost use Rattle.m51_inputs.specs.Inputs.{refusal_of};
+ghost use Rattle.m51_inputs.specs.Sorting.{files_in, words_in};
 ghost use Rattle.m51_inputs.specs.Sources.{AreAnswers, module_or_faults, modules_in, faults_in, unless_faults};
 
 use crate::error::{FaultySources, InputError, SourceFaults};
-use crate::files::{includes_of, sources_of};
+use crate::sorting::{Sorted, Source, sort};
 use m51_asm::{Assembled, assemble};
-use m51_cells::{Bytes, NoMemory};
+use m51_cells::{Bytes, ListOf, NoMemory};
+use m51_jobs::FileName;
 use m51_module::{Faults, Module, SourceFile};
-use m51_words::FileName;
 use std::alloc::Global;
 use std::collections::VecDeque;
 
-/// What each source gives, assembled with these includes, of which there are at most 65,535.
-///
-/// Error: out of memory.
-///
-/// Source: own choice ("Inputs").
-pub fn assemble_each(
+// What a source gives, and the index of its word.
+#[derive(Drop)]
+pub(crate) struct Answered {
+    pub(crate) word: usize,
+    pub(crate) assembled: Assembled,
+}
+
+// What each source gives, assembled with these includes, of which there are at most 65,535.
+fn assemble_each(
     alloc: Global,
-    sources: &[SourceFile],
+    sources: &[Source],
     includes: &[SourceFile],
-) -> Result<Vec<Assembled>, NoMemory>
+) -> Result<ListOf<Answered>, NoMemory>
     requires { length includes.now ≤ 65535 }
     // Each source has its answer.
-    ensures answers { IfOk result (λ all. AreAnswers includes.now sources.now (map tree_of all.items)) }
-    ensures count { IfOk result (λ all. length all.items ≡ length sources.now) }
+    ensures answers { IfOk result (λ all. AreAnswers includes.now (files_in sources.now) (answers_of all)) }
+    ensures words { IfOk result (λ all. words_of all ≡ words_in sources.now) }
 {
-    let mut assembled = Vec::new(alloc);
+    let mut answered = ListOf::new(alloc);
     for source in sources {
-        assembled.push(assemble(alloc, source, includes)?)?;
+        let assembled = assemble(alloc, &source.file, includes)?;
+        answered.push(Answered {
+            word: source.word,
+            assembled,
+        })?;
     }
-    Ok(assembled)
+    Ok(answered)
+}
+
+// What each of these sources gives, assembled with all includes, of which there are at most 65,535.
+pub(crate) fn assemble_sources(alloc: Global, sorted: &Sorted) -> Result<ListOf<Answered>, NoMemory>
+    requires { length sorted.now.includes ≤ 65535 }
+    ensures answers { IfOk result (λ all. AreAnswers sorted.now.includes (files_in sorted.now.sources)
+        (answers_of all)) }
+    ensures words { IfOk result (λ all. words_of all ≡ words_in sorted.now.sources) }
+{
+    assemble_each(alloc, sorted.sources.as_slice(), sorted.includes.as_slice())
 }
 
 // The module that a source gives, or its faults.
@@ -48,18 +67,19 @@ fn module_or_faults(assembled: Assembled) -> Result<Module, Faults>
     }
 }
 
-// Puts what the source of this word gives at the end of the modules or of the faults.
+// Puts what a source gives at the end of the modules or of the faults.
 fn put_answer(
-    word: usize,
-    answer: Assembled,
+    answer: Answered,
     modules: &mut VecDeque<Module>,
     faulty: &mut Vec<SourceFaults>,
 ) -> Result<(), NoMemory>
-    ensures modules { OnOk result (modules.new.items ≡ modules.old.items ++ modules_in (tree_of answer ∷ [])) }
+    ensures modules { OnOk result (modules.new.items
+        ≡ modules.old.items ++ modules_in (tree_of answer.assembled ∷ [])) }
     ensures faulty { OnOk result (faulty.new.items
-        ≡ faulty.old.items ++ faults_in (word ∷ []) (tree_of answer ∷ [])) }
+        ≡ faulty.old.items ++ faults_in (answer.word ∷ []) (tree_of answer.assembled ∷ [])) }
 {
-    match module_or_faults(answer) {
+    let Answered { word, assembled } = answer;
+    match module_or_faults(assembled) {
         Ok(module) => modules.push_back(module)?,
         Err(faults) => faulty.push(SourceFaults { file: word, faults })?,
     }
@@ -80,24 +100,19 @@ fn unless_faults(
     }
 }
 
-// The modules of the sources of these words, or the faults of all that have some.
+// The modules that these answers give, or the faults of all that have some.
 pub(crate) fn modules_of(
     alloc: Global,
-    words: &[usize],
-    assembled: Vec<Assembled>,
+    answers: ListOf<Answered>,
 ) -> Result<VecDeque<Module>, InputError>
-    requires { length words.now ≡ length assembled.items }
-    ensures { let answers = map tree_of assembled.items in
-        Gives (λ all. all.items) refusal_of result (unless_faults (faults_in words.now answers) (modules_in answers)) }
+    ensures { Gives (λ all. all.items) refusal_of result
+        (unless_faults (faults_in (words_of answers) (answers_of answers)) (modules_in (answers_of answers))) }
 {
-    let mut answers = VecDeque::from(assembled);
+    let mut left = VecDeque::from(answers.into_vec());
     let mut modules = VecDeque::new(alloc);
     let mut faulty = Vec::new(alloc);
-    for word in words {
-        let Some(answer) = answers.pop_front() else {
-            unreachable!()
-        };
-        put_answer(*word, answer, &mut modules, &mut faulty)?;
+    while let Some(answer) = left.pop_front() {
+        put_answer(answer, &mut modules, &mut faulty)?;
     }
     unless_faults(modules, faulty)
 }
@@ -133,15 +148,17 @@ pub fn assemble_source(
     ensures includes { IfOk result (λ all. all.includes.items ≡ includes_of files.now contents.now) }
     ensures answer { IfOk result (λ all. IsAnswer all.source all.includes.items (tree_of all.assembled)) }
 {
-    let mut sources = sources_of(alloc, files, contents)?;
-    let includes = includes_of(alloc, files, contents)?;
-    let Some(source) = sources.pop() else {
-        unreachable!()
-    };
-    let assembled = assemble(alloc, &source, &includes)?;
+    let Sorted {
+        sources,
+        includes,
+        ..
+    } = sort(alloc, files, contents)?;
+    let mut sources = sources.into_vec();
+    let Source { file: source, .. } = sources.remove(0);
+    let assembled = assemble(alloc, &source, includes.as_slice())?;
     Ok(AssembledSource {
         source,
-        includes,
+        includes: includes.into_vec(),
         assembled,
     })
 }

@@ -166,9 +166,30 @@ MOV A,B ''+1\n\
 EXTRN DATA ()\n\
 EXTRN DATA (X\n\
 EXTRN DATA (+)\n\
+EXTRN DATA (X+)\n\
+EXTRN DATA (X,+)\n\
+EXTRN DATA (X),CODE #\n\
 END (AND)\n\
 END (-NOT X)\n\
 END ((X Y))\n\
+END (20H AND)\n\
+END +\n\
+L: END +\n\
+CSEG #\n\
+CSEG -NOT X\n\
+CSEG (1+)\n\
+BSEG X AT /\n\
+RSEG X MOD\n\
+RSEG HIGH\n\
+RSEG A+\n\
+PUBLIC X,+\n\
+PUBLIC X,Y.\n\
+PUBLIC (X+)\n\
+PUBLIC 'abc'+1\n\
+NAME /\n\
+NAME X#,Y\n\
+S SEGMENT CODE *\n\
+S SEGMENT NOT\n\
 ";
 
 // Lines of fault 11: no instruction, or out of its form.
@@ -205,21 +226,30 @@ L: X EQU 5\n\
 RSEG MOV\n\
 NAME ADD\n\
 RSEG\n\
-END +\n\
 DS 5 'abc'\n\
 DW 5 ''\n\
 CSEG AT 5 'abc'\n\
-PUBLIC (X+)\n\
-CSEG (1+)\n\
-END (20H AND)\n\
 END (NOT -X)\n\
+END (X Y)\n\
+CSEG -1\n\
+CSEG (1+2)\n\
+RSEG X+1\n\
+RSEG X MOD Y\n\
+PUBLIC X #5\n\
+PUBLIC X,,Y\n\
+PUBLIC X,(Y,Z)\n\
+PUBLIC @A+\n\
+PUBLIC 'abc'\n\
+NAME X/Y\n\
+S SEGMENT CODE NOT 1\n\
 EXTRN ((X),A\n\
 EXTRN ) ( AR3 X\n\
-PUBLIC X,+\n\
 DB 'abc' 5\n\
 EXTRN DATA (X,)\n\
 EXTRN DATA (5)\n\
 EXTRN DATA (X Y)\n\
+EXTRN DATA (X+1)\n\
+EXTRN DATA (HIGH)\n\
 EXTRN DATA (MOV\n\
 S SEGMENT DATA INPAGE\n\
 S SEGMENT CODE OVERLAYABLE\n\

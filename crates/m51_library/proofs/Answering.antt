@@ -10,7 +10,7 @@ use Rattle.m51_module.specs.declared.parts.ModuleParts.{ModuleParts}
 use Rattle.m51_cells.specs.Outcome.{and_then}
 use Rattle.m51_module.specs.Library.{IsLibrary, refusal_of, built}
 use Rattle.m51_module.specs.Validity.{IsValid}
-use Rattle.m51_records.specs.Fields.{refusal_of as byte_refusal_of}
+use Rattle.m51_frame.specs.Fields.{refusal_of as byte_refusal_of}
 use Rattle.m51_library.specs.Spelling.{library_bytes}
 use Rattle.m51_library.specs.Reading.{modules_of, refused_by, or_object, library_of}
 use Rattle.m51_library.proofs.LibraryLaws.{library_again}

@@ -5,7 +5,7 @@ use Rattle.std.proofs.lemmas.List.{flat_map_more}
 use Rattle.m51_cells.specs.Outcome.{RefusesWith}
 use Rattle.m51_module.specs.declared.object_error.ObjError.{ObjError}
 use Rattle.m51_module.specs.declared.parts.ModuleParts.{ModuleParts}
-use Rattle.m51_records.specs.Fields.{◌>>=◌}
+use Rattle.m51_frame.specs.Fields.{◌>>=◌}
 use Rattle.m51_records.specs.Reading.{module_at}
 use Rattle.m51_records.specs.Spelling.{bytes_of, records_in}
 use Rattle.m51_library.specs.Reading.{modules_at}

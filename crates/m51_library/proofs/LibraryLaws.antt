@@ -9,7 +9,7 @@ use Rattle.m51_module.specs.declared.parts.ModuleParts.{ModuleParts}
 use Rattle.m51_module.specs.Library.{IsLibrary}
 use Rattle.m51_module.specs.Validity.{IsValid}
 use Rattle.m51_records.specs.declared.types.TheConstants.{LIBRARY_HEADER}
-use Rattle.m51_records.specs.Fields.{pair, pair_at, checked}
+use Rattle.m51_frame.specs.Fields.{pair, pair_at, checked}
 use Rattle.m51_records.specs.Reading.{one_at, module_at}
 use Rattle.m51_records.specs.Spelling.{bytes_of, records_in}
 use Rattle.m51_records.proofs.FieldLaws.{IsBytes, pair_takes}

@@ -9,7 +9,7 @@ use Rattle.m51_cells.specs.declared.limits.TheConstants.{MOST_MODULES}
 use Rattle.m51_cells.specs.Outcome.{and_then}
 use Rattle.m51_module.specs.Library.{built}
 use Rattle.m51_records.specs.declared.types.TheConstants.{LIBRARY_HEADER}
-use Rattle.m51_records.specs.Fields.{◌>>=◌, place, pair_at, checked, ended}
+use Rattle.m51_frame.specs.Fields.{◌>>=◌, place, pair_at, checked, ended}
 use Rattle.m51_records.specs.Reading.{one_at, module_at}
 use Rattle.m51_records.specs.Spelling.{records_in}
 

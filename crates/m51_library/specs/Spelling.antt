@@ -3,8 +3,8 @@ use Rattle.std.specs.Prelude.{ℕ, List, ◌++◌, length}
 use Rattle.std.specs.List.{flat_map}
 use Rattle.m51_module.specs.declared.parts.ModuleParts.{ModuleParts}
 use Rattle.m51_records.specs.declared.types.TheConstants.{LIBRARY_HEADER}
-use Rattle.m51_records.specs.Fields.{pair}
-use Rattle.m51_records.specs.Frame.{record_of}
+use Rattle.m51_frame.specs.Fields.{pair}
+use Rattle.m51_frame.specs.Frame.{record_of}
 use Rattle.m51_records.specs.Spelling.{bytes_of}
 
 -- the first record: how many modules there are

@@ -1,7 +1,7 @@
 //! The modules of a library's bytes.
 ghost use Rattle.std.specs.Prelude.{◌≡◌, ◌<◌, ◌+◌, ◌^◌, [], ◌∷◌, ◌++◌, length, IfOk, OnOk};
 ghost use Rattle.std.specs.List.{flat_map};
-ghost use Rattle.m51_records.specs.Fields.{Reads};
+ghost use Rattle.m51_frame.specs.Fields.{Reads};
 ghost use Rattle.m51_records.specs.Spelling.{bytes_of};
 ghost use Rattle.m51_records.specs.Reading.{one_at};
 ghost use Rattle.m51_library.specs.Spelling.{library_bytes};

@@ -16,3 +16,4 @@ pub use checking::Spot;
 pub use fields::Field;
 pub use linked::Linked;
 pub use linking::link;
+pub use m51_module::{Run, Runs};

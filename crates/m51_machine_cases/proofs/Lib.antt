@@ -1,3 +1,1 @@
-mod CodeUnitsSound
 mod OneUnitSound
-mod TwoHandlersSound

@@ -1,3 +1,1 @@
-pub mod CodeUnits
 pub mod OneUnit
-pub mod TwoHandlers

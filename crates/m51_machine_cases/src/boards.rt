@@ -1,4 +1,4 @@
-//! Boards of one unit, for the tests of boards alone and on one line.
+//! Boards of one unit.
 ghost use Rattle.std.specs.Prelude.{◌≡◌, ◌<◌, ◌≤◌, [], IfOk, length};
 ghost use Rattle.m51_cells.specs.Name.{title_at};
 ghost use Rattle.m51_machine_cases.specs.OneUnit.{one_unit};
@@ -10,8 +10,8 @@ use m51_script::Script;
 use m51_sim::Board;
 use std::alloc::Global;
 
-/// An image whose first bytes are these.
-pub(crate) fn image(alloc: Global, bytes: &[u8]) -> Result<Image, NoMemory>
+// An image whose first bytes are these.
+fn image(alloc: Global, bytes: &[u8]) -> Result<Image, NoMemory>
     requires { length bytes.now ≤ 100 }
 {
     let mut image = Image::blank(alloc)?;

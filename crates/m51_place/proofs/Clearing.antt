@@ -21,8 +21,10 @@ use Rattle.m51_cells.proofs.Meeting.{parted}
 use Rattle.m51_module.specs.declared.placed.Placed.{Placed}
 use Rattle.m51_module.specs.Cells.{extent_at}
 use Rattle.std.proofs.lemmas.Bool.{cases_Bool}
-use Rattle.m51_place.specs.Bases.{fits_at, is_free, least_base, same_space, share}
-use Rattle.m51_place.specs.Raising.{extents_in, IsClear, IsFirstClear, IsOutside, NoneIsClear}
+use Rattle.m51_bases.specs.Raising.{same_space}
+use Rattle.m51_place.specs.Bases.{fits_at, is_free, least_base, share}
+use Rattle.m51_place.specs.InTheWay.{extents_in}
+use Rattle.m51_bases.specs.Raising.{IsClear, IsFirstClear, IsOutside, NoneIsClear}
 use Rattle.m51_place.proofs.Deciding.{fits_tells, share_tells, space_tells}
 use Rattle.m51_place.proofs.Ranges.{find_nothing}
 

@@ -25,11 +25,11 @@ use Rattle.m51_graph.proofs.Closed.{edge_tells}
 use Rattle.m51_graph.proofs.Deciding.{and_decides, leads_tells, or_decides}
 use Rattle.m51_graph.proofs.Relations.{above_tells}
 use Rattle.m51_place.specs.declared.numbered.Numbered.{Numbered}
-use Rattle.m51_place.specs.Bases.{same_space}
+use Rattle.m51_bases.specs.Raising.{same_space}
 use Rattle.m51_place.specs.Conflicts.{are_apart, are_on_walk, are_owners_related, are_related, are_under_two, callers_of, in_conflict, is_argument_at, is_under, is_under_none, owners_at, owners_with}
 use Rattle.m51_place.specs.Order.{own_at}
 use Rattle.m51_place.specs.Placement.{conflicting, in_conflict_with}
-use Rattle.m51_place.specs.Raising.{extents_in, in_the_way}
+use Rattle.m51_place.specs.InTheWay.{extents_in, in_the_way}
 
 -- some item passes the test
 pub record Passes (xs : List ℕ) (p : ℕ → Bool) : Type 0 where

@@ -16,7 +16,8 @@ use Rattle.m51_cells.specs.Fits.{Fits, FitsBlock, FitsMemory}
 use Rattle.m51_cells.proofs.Meeting.{shared, parted}
 use Rattle.m51_graph.proofs.Deciding.{and_decides}
 use Rattle.std.proofs.lemmas.Bool.{cases_Bool}
-use Rattle.m51_place.specs.Bases.{same_space, overlap, share, fits_block, fits_memory, fits_at}
+use Rattle.m51_bases.specs.Raising.{same_space}
+use Rattle.m51_place.specs.Bases.{overlap, share, fits_block, fits_memory, fits_at}
 
 pub le_decides : (a b : ℕ) → Decides (nat_le a b) (a ≤ b)
 le_decides a b = elim (leb_tells a b) as (λ _. Decides (nat_le a b) (a ≤ b)) [

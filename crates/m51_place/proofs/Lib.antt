@@ -20,7 +20,6 @@ pub mod Ordered
 pub mod Piled
 pub mod PlacedAt
 pub mod Putting
-pub mod Raised
 pub mod Ranges
 pub mod Ranking
 pub mod Ranks

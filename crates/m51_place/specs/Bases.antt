@@ -2,8 +2,6 @@
 use Rattle.std.specs.Prelude.{ℕ, zero, suc, ◌+◌, ◌/◌, ◌%◌, ◌<◌, Bool, true, false, not, ◌&&◌, nat_eq, nat_lt, nat_le}
 use Rattle.std.specs.Prelude.{List, find, Option}
 use Rattle.std.specs.List.{All, list_all, range_with_len}
-use Rattle.m51_cells.specs.declared.cell.Space.{Space}
-use Rattle.m51_cells.specs.declared.cell.Space.TheVariants.{Ram, Xram, Code as CodeSpace}
 use Rattle.m51_cells.specs.declared.extent.Extent.{Extent}
 use Rattle.m51_cells.specs.declared.kind.Kind.{Kind}
 use Rattle.m51_cells.specs.declared.kind.Kind.TheVariants.{Code, Xdata, Direct, Idata, Bits, Number}
@@ -11,6 +9,7 @@ use Rattle.m51_cells.specs.declared.kind.Reloc.{Reloc}
 use Rattle.m51_cells.specs.declared.kind.Reloc.TheVariants.{Bitaddressable, Inpage, Inblock, Page}
 use Rattle.m51_cells.specs.Extent.{extent_of, Meet}
 use Rattle.m51_cells.specs.Fits.{Fits}
+use Rattle.m51_bases.specs.Raising.{same_space}
 use Rattle.m51_module.specs.declared.placed.Placed.{Placed}
 use Rattle.m51_module.specs.Cells.{extent_at}
 
@@ -33,12 +32,6 @@ abbrev pub HasNoBase : List Placed → Kind → Reloc → ℕ → Type 0
 HasNoBase conflicting kind reloc size = (base : ℕ) → IsFree conflicting kind reloc size base → ⊥
 
 -- The same as decisions.
-
-abbrev pub same_space : Space → Space → Bool
-same_space Ram Ram = true
-same_space Xram Xram = true
-same_space CodeSpace CodeSpace = true
-same_space _ _ = false
 
 -- neither is empty, and each begins before the other ends
 abbrev pub overlap : Extent → Extent → Bool

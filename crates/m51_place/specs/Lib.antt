@@ -3,11 +3,11 @@ pub mod Bound
 pub mod Conflicts
 pub mod Fixed
 pub mod Heaviest
+pub mod InTheWay
 pub mod Laws
 pub mod Naming
 pub mod Order
 pub mod Overlay
 pub mod Placement
 pub mod Places
-pub mod Raising
 pub mod Ready

@@ -8,8 +8,8 @@ ghost use Rattle.m51_place.specs.Placement.{base_for};
 ghost use Rattle.m51_place.specs.Ready.{IsNumbered, IsReady};
 
 use crate::conflicts::in_the_way;
-use crate::searching::{arrange, first_clear};
 use crate::{Numbered, Ranked};
+use m51_bases::{arrange, first_clear};
 use m51_cells::{Extent, Kind, NoMemory, Space, cells_of, meets};
 use m51_graph::Graph;
 use m51_module::Placed;

@@ -3,12 +3,13 @@ ghost use Rattle.std.specs.Prelude.{◌≡◌, ◌<◌, IfOk, length};
 ghost use Rattle.std.specs.List.{All};
 ghost use Rattle.m51_place.specs.Conflicts.{in_conflict};
 ghost use Rattle.m51_place.specs.Placement.{in_conflict_with};
-ghost use Rattle.m51_place.specs.Raising.{EndsWithin, in_the_way};
+ghost use Rattle.m51_bases.specs.Raising.{EndsWithin};
+ghost use Rattle.m51_place.specs.InTheWay.{in_the_way};
 ghost use Rattle.m51_place.specs.Ready.{IsNumbered};
 
 use crate::Numbered;
 use crate::bases::cells;
-use crate::searching::same_space;
+use m51_bases::same_space;
 use m51_cells::{Extent, NoMemory, Space};
 use m51_graph::Graph;
 use std::alloc::Global;

@@ -12,7 +12,6 @@ mod numbered;
 mod ordering;
 mod placing;
 mod ranked;
-mod searching;
 mod sharing;
 
 pub use chaining::heaviest;
@@ -20,6 +19,7 @@ pub use laws::{
     conflict_is_conflict, figure_is_weight, least_is_least, order_rises, overlay_fits,
     overlay_is_refused, placing_is_tight, sharing_is_meeting, weight_is_least, weights_agree,
 };
+pub use m51_module::Chain;
 pub use numbered::Numbered;
 pub use placing::{Placing, place, place_all};
 pub use ranked::{Group, Rank, Ranked};

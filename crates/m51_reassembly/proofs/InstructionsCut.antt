@@ -16,7 +16,7 @@ use Rattle.m51_isa.specs.Moves.{moves}
 use Rattle.m51_isa.specs.Branches.{branches}
 use Rattle.m51_isa.specs.Jumps.{jumps}
 use Rattle.m51_expr.specs.declared.symbol.Symbol.TheVariants as symbols
-use Rattle.m51_expr.specs.Symbol.{operator_of, word_symbol}
+use Rattle.m51_expr.specs.Symbol.{operator_of, prefix_word, relation_word, arithmetic_word, word_symbol}
 use Rattle.m51_expr.specs.Words.{is_language_word}
 use Rattle.m51_expr.specs.Looks.{has_form}
 use Rattle.m51_stmt.specs.Statement.{OperandTree, Code}
@@ -181,7 +181,7 @@ mnemonic_written Nop = refl
 mnemonic_written i = refl
 
 mnemonic_word : (i : Instr) → word_symbol (text_of i).mnemonic ≡ symbols.Word (text_of i).mnemonic
-unfolding operator_of is_language_word
+unfolding operator_of prefix_word relation_word arithmetic_word is_language_word
 mnemonic_word Nop = refl
 mnemonic_word i = refl
 

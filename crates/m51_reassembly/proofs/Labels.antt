@@ -9,7 +9,7 @@ use Rattle.std.proofs.lemmas.Slice.Eq.{bytes_eq-Decides}
 use Rattle.m51_cells.specs.Name as cells
 use Rattle.m51_cells.specs.Name.{name_of}
 use Rattle.m51_expr.specs.declared.symbol.Symbol.TheVariants as symbols
-use Rattle.m51_expr.specs.Symbol.{operator_of, word_symbol, operator_or_word}
+use Rattle.m51_expr.specs.Symbol.{operator_of, prefix_word, relation_word, arithmetic_word, word_symbol, operator_or_word}
 use Rattle.m51_expr.specs.Words.{is_language_word, is_reserved}
 use Rattle.m51_stmt.proofs.PrintedTrees.{IsLeafName}
 use Rattle.m51_stmt.proofs.PrintedExterns.{IsFree}
@@ -73,7 +73,7 @@ module _ (p q r s : ℕ) (a : IsGlyph p) (b : IsGlyph q) (c : IsGlyph r) (d : Is
   no_word = rw no_lcall (rw no_ljmp refl)
 
   no_operator : operator_of label ≡ None
-  unfolding operator_of
+  unfolding operator_of prefix_word relation_word arithmetic_word
   no_operator = rw no_low_before (rw no_lt_before (rw no_le_before refl))
 
   free : is_reserved label ≡ false

@@ -4,7 +4,7 @@ use Rattle.std.specs.Prelude.{nat_lt, ◌||◌}
 use Rattle.std.proofs.lemmas.Bool.{eqb-true, eq-eqb, lt-ltb, ltb-true, and_from, and_parts}
 use Rattle.m51_cells.specs.Name.{IsWritten}
 use Rattle.m51_module.specs.Validity.{IsVersion}
-use Rattle.m51_records.specs.Fields.{◌>>=◌, checked, or_broken, text_field, text_at, same, upper_name, ended}
+use Rattle.m51_frame.specs.Fields.{◌>>=◌, checked, or_broken, text_field, text_at, same, upper_name, ended}
 use Rattle.m51_records.specs.Ends.{header_contents, is_version, version_at, header_in, end_contents, again_at, are_banks, banks_at, end_in}
 use Rattle.m51_records.proofs.Tools.{on_ok, checked_ok, broken_ok, ended_ok}
 use Rattle.m51_records.proofs.FieldLaws.{text_read, text_takes, same_is, same_of, upper_takes, upper_read}

@@ -13,7 +13,7 @@ use Rattle.m51_module.specs.Validity.{numbered, IsPublicBase, IsPublicValid}
 use Rattle.m51_cells.specs.Kinds.{same_kind}
 use Rattle.m51_cells.proofs.KindLaws.{kind_same}
 use Rattle.m51_records.specs.Codes.{kind_number, kind_of}
-use Rattle.m51_records.specs.Fields.{◌>>=◌, checked, or_broken, or_absent, pair, pair_at, text_field, upper_name, is_among, new_name_at}
+use Rattle.m51_frame.specs.Fields.{◌>>=◌, checked, or_broken, or_absent, pair, pair_at, text_field, upper_name, is_among, new_name_at}
 use Rattle.m51_records.specs.Externals.{external_contents, kind_at, external_in}
 use Rattle.m51_records.specs.Publics.{base_number, public_contents, base_of, public_base_at, public_in}
 use Rattle.m51_records.proofs.Tools.{on_ok, bind_ok, ok_is, checked_ok, broken_ok, absent_ok, all_push, all_front, all_last, pairs_push, pairs_front, pairs_last}

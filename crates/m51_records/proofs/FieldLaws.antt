@@ -16,7 +16,7 @@ use Rattle.m51_module.specs.declared.object_error.ObjError.{ObjError}
 use Rattle.m51_cells.specs.Kinds.{same_kind}
 use Rattle.m51_cells.proofs.KindLaws.{kind_again}
 use Rattle.m51_records.specs.Codes.{kind_number, kind_of, reloc_number, reloc_of, form_number, form_of}
-use Rattle.m51_records.specs.Fields.{place, pair, pair_at, text_field, text_at, same, if_same, upper_name}
+use Rattle.m51_frame.specs.Fields.{place, pair, pair_at, text_field, text_at, same, if_same, upper_name}
 use Rattle.m51_records.proofs.Tools.{ok_is, some_is}
 
 -- each is a byte

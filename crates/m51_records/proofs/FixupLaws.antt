@@ -12,7 +12,7 @@ use Rattle.m51_module.specs.declared.symbol.External.{External}
 use Rattle.m51_module.specs.Validity.{numbered, IsTarget}
 use Rattle.m51_records.specs.Codes.{form_number, form_of}
 use Rattle.m51_records.specs.Contents.{latest}
-use Rattle.m51_records.specs.Fields.{◌>>=◌, checked, or_broken, or_absent, byte_at, pair, pair_at, ended}
+use Rattle.m51_frame.specs.Fields.{◌>>=◌, checked, or_broken, or_absent, byte_at, pair, pair_at, ended}
 use Rattle.m51_records.specs.Fixups.{target_fields, fixup_contents, field_segment_follows, fixup_segment_at, field_follows, fixup_offset_at, is_inside, form_at, is_bit, bit_at, target_of, tag_at, target_at, addend_at, fixup_in}
 use Rattle.m51_records.proofs.Tools.{on_ok, ok_is, checked_ok, broken_ok, absent_ok, ended_ok}
 use Rattle.m51_records.proofs.FieldLaws.{IsBytes, pair_read, pair_takes, form_takes, form_read}

@@ -5,8 +5,8 @@ use Rattle.std.proofs.lemmas.List.{take_at, drop_at, take-append-drop, length-ta
 use Rattle.std.proofs.Math.Nat.{mod-add-div}
 use Rattle.m51_module.specs.declared.object_error.ObjError.{ObjError}
 use Rattle.m51_module.specs.declared.object_error.ObjError.TheVariants.{O1, O2, O3, O4}
-use Rattle.m51_records.specs.Fields.{place, pair}
-use Rattle.m51_records.specs.Frame.{checksum_of, front_of, record_of, Framed, summed, closed, lengthed, record_at}
+use Rattle.m51_frame.specs.Fields.{place, pair}
+use Rattle.m51_frame.specs.Frame.{checksum_of, front_of, record_of, Framed, summed, closed, lengthed, record_at}
 use Rattle.m51_records.proofs.Tools.{ok_is}
 use Rattle.m51_records.proofs.FieldLaws.{IsBytes, pair_back}
 

@@ -4,8 +4,8 @@ use Rattle.std.specs.List.{flat_map}
 use Rattle.std.proofs.lemmas.List.{take_at}
 use Rattle.m51_module.specs.declared.parts.ModuleParts.{ModuleParts}
 use Rattle.m51_module.specs.Validity.{IsValid}
-use Rattle.m51_records.specs.Fields.{◌>>=◌}
-use Rattle.m51_records.specs.Frame.{begins, checksum_place}
+use Rattle.m51_frame.specs.Fields.{◌>>=◌}
+use Rattle.m51_frame.specs.Frame.{begins, checksum_place}
 use Rattle.m51_records.specs.Ends.{header_contents, header_in, end_contents, end_in}
 use Rattle.m51_records.specs.Segments.{segment_contents, segment_in}
 use Rattle.m51_records.specs.Externals.{external_contents, external_in}

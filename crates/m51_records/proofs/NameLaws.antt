@@ -4,7 +4,7 @@ use Rattle.std.specs.Prelude.{not, map}
 use Rattle.std.specs.List.{list_any}
 use Rattle.std.proofs.lemmas.List.Folds.{list_any_none, list_any_at}
 use Rattle.m51_cells.specs.Name.{IsWritten}
-use Rattle.m51_records.specs.Fields.{same, is_among}
+use Rattle.m51_frame.specs.Fields.{same, is_among}
 use Rattle.m51_records.proofs.FieldLaws.{same_is, same_of}
 use Rattle.m51_records.proofs.SeenLaws.{any_map}
 

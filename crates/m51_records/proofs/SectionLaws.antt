@@ -4,8 +4,8 @@ use Rattle.std.specs.List.{flat_map}
 use Rattle.std.proofs.lemmas.Bool.{eq-eqb}
 use Rattle.std.proofs.lemmas.List.{append-nil}
 use Rattle.std.proofs.lemmas.List.Concat.{flat_map-cons}
-use Rattle.m51_records.specs.Fields.{◌>>=◌}
-use Rattle.m51_records.specs.Frame.{checksum_of, front_of, record_of, begins, record_at, checksum_place}
+use Rattle.m51_frame.specs.Fields.{◌>>=◌}
+use Rattle.m51_frame.specs.Frame.{checksum_of, front_of, record_of, begins, record_at, checksum_place}
 use Rattle.m51_records.specs.Reading.{Reader, one_at, many_at, all_at}
 use Rattle.m51_records.proofs.Tools.{on_ok, ok_is, done}
 use Rattle.m51_records.proofs.FieldLaws.{IsBytes, fit_front, fit_back}

@@ -5,7 +5,7 @@ use Rattle.std.specs.Global.{Vec}
 use Rattle.std.specs.List.{list_any}
 use Rattle.std.specs.Prelude.{map, ◌||◌}
 use Rattle.indexmap.specs.IndexSet.{insert_key}
-use Rattle.m51_records.specs.Fields.{is_among}
+use Rattle.m51_frame.specs.Fields.{is_among}
 use Rattle.m51_records.specs.WorkNames.{items_of}
 
 -- a test of the values of a function

@@ -9,7 +9,7 @@ use Rattle.m51_cells.specs.declared.kind.Reloc.TheVariants.{Abs, Unit as UnitTyp
 use Rattle.m51_cells.specs.Kinds.{same_kind, is_absolute, allows}
 use Rattle.m51_module.specs.declared.segment.Segment.{Segment}
 use Rattle.m51_records.specs.Codes.{kind_number, kind_of, reloc_number, reloc_of}
-use Rattle.m51_records.specs.Fields.{◌>>=◌, checked, or_broken, pair, pair_at, text_field, text_at, ended}
+use Rattle.m51_frame.specs.Fields.{◌>>=◌, checked, or_broken, pair, pair_at, text_field, text_at, ended}
 use Rattle.m51_records.specs.Segments.{flags_of, marks_of, are_marks, segment_contents, segment_kind_at, reloc_at, marks_at, base_at, is_size, size_at, no_text, segment_name, may_have, segment_name_at, segment_in}
 use Rattle.m51_records.proofs.Tools.{bind_ok, on_ok, ok_is, some_is, checked_ok, broken_ok, ended_ok}
 use Rattle.m51_records.proofs.FieldLaws.{IsBytes, pair_read, pair_takes, text_read, text_takes, upper_takes, kind_takes, kind_read, reloc_takes, reloc_read}

@@ -10,7 +10,7 @@ use Rattle.m51_cells.proofs.KindLaws.{kind_same, absolute_is, not_absolute}
 use Rattle.m51_module.specs.Arguments.{is_argument_name}
 use Rattle.m51_module.specs.declared.segment.Segment.{Segment}
 use Rattle.m51_module.specs.Validity.{IsAbsolute, IsRelocatable, IsArgument, IsSegmentValid, Differ}
-use Rattle.m51_records.specs.Fields.{upper_name}
+use Rattle.m51_frame.specs.Fields.{upper_name}
 use Rattle.m51_records.specs.Segments.{may_mark, are_marks, limit, is_placed, is_size, names_segment, no_text, segment_name, is_new, may_have}
 use Rattle.m51_records.proofs.Placing.{ends_from_fits, fits_from_ends}
 use Rattle.m51_records.proofs.Tools.{all_push, all_front, all_last, pairs_push, pairs_front, pairs_last}

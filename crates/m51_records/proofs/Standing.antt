@@ -3,8 +3,8 @@ use Rattle.std.proofs.Common.{◌≡◌, ℕ, zero, suc, ◌+◌, ◌≤◌, ◌
 use Rattle.m51_module.specs.declared.object_error.ObjError.{ObjError}
 use Rattle.m51_module.specs.declared.object_error.ObjError.TheVariants.{Memory}
 use Rattle.m51_cells.specs.Outcome.{RefusesWith}
-use Rattle.m51_records.specs.Fields.{◌>>=◌, refusal_of}
-use Rattle.m51_records.specs.Frame.{begins, record_at, checksum_place}
+use Rattle.m51_frame.specs.Fields.{◌>>=◌, refusal_of}
+use Rattle.m51_frame.specs.Frame.{begins, record_at, checksum_place}
 use Rattle.m51_records.specs.Reading.{Reader, one_at, many_at}
 
 -- a loop that has read some records stands where reading the rest gives the whole

@@ -4,7 +4,7 @@ use Rattle.std.proofs.lemmas.Bool.{cases_lt}
 use Rattle.std.proofs.Math.ListN.{get_or-append}
 use Rattle.std.proofs.Math.Seq.{get_or-append_seam}
 use Rattle.m51_module.specs.declared.object_error.ObjError.{ObjError}
-use Rattle.m51_records.specs.Fields.{◌>>=◌, checked, or_broken, or_absent, ended}
+use Rattle.m51_frame.specs.Fields.{◌>>=◌, checked, or_broken, or_absent, ended}
 
 -- the value of a step that was not refused
 pub bind_ok : {A B : Type 0} (r : Result A ObjError) (f : A → Result B ObjError) (y : B) → (r >>= f) ≡ Ok y → (x : A) × (r ≡ Ok x) × (f x ≡ Ok y)

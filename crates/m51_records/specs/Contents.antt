@@ -7,7 +7,7 @@ use Rattle.m51_module.specs.declared.segment.Segment.{Segment}
 use Rattle.m51_module.specs.Validity.{numbered}
 use Rattle.m51_module.specs.declared.object_error.ObjError.{ObjError}
 use Rattle.m51_cells.specs.Kinds.{is_code}
-use Rattle.m51_records.specs.Fields.{◌>>=◌, checked, or_absent, byte_at, pair, pair_at}
+use Rattle.m51_frame.specs.Fields.{◌>>=◌, checked, or_absent, byte_at, pair, pair_at}
 
 -- segment, offset, bytes
 abbrev pub piece_contents : Piece → List ℕ

@@ -5,7 +5,7 @@ use Rattle.m51_cells.specs.declared.limits.TheConstants.{MOST_EXTERNALS}
 use Rattle.m51_module.specs.declared.symbol.External.{External}
 use Rattle.m51_module.specs.declared.object_error.ObjError.{ObjError}
 use Rattle.m51_records.specs.Codes.{kind_number, kind_of}
-use Rattle.m51_records.specs.Fields.{◌>>=◌, checked, or_broken, byte_at, text_field, new_name_at}
+use Rattle.m51_frame.specs.Fields.{◌>>=◌, checked, or_broken, byte_at, text_field, new_name_at}
 
 -- kind, name
 abbrev pub external_contents : External → List ℕ

@@ -15,7 +15,7 @@ use Rattle.m51_module.specs.Validity.{numbered, field_len}
 use Rattle.m51_module.specs.declared.object_error.ObjError.{ObjError}
 use Rattle.m51_records.specs.Codes.{form_number, form_of}
 use Rattle.m51_records.specs.Contents.{latest}
-use Rattle.m51_records.specs.Fields.{◌>>=◌, checked, or_broken, or_absent, byte_at, pair, pair_at, ended}
+use Rattle.m51_frame.specs.Fields.{◌>>=◌, checked, or_broken, or_absent, byte_at, pair, pair_at, ended}
 
 -- 0 for a segment, 1 for an external; then its number
 abbrev pub target_fields : Base → List ℕ

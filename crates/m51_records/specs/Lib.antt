@@ -1,6 +1,4 @@
 pub mod Codes
-pub mod Fields
-pub mod Frame
 pub mod Ends
 pub mod Segments
 pub mod Externals

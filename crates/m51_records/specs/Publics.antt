@@ -10,7 +10,7 @@ use Rattle.m51_module.specs.declared.object_error.ObjError.{ObjError}
 use Rattle.m51_cells.specs.Kinds.{same_kind}
 use Rattle.m51_records.specs.Codes.{kind_number}
 use Rattle.m51_records.specs.Externals.{kind_at}
-use Rattle.m51_records.specs.Fields.{◌>>=◌, checked, or_absent, byte_at, pair, pair_at, text_field, new_name_at}
+use Rattle.m51_frame.specs.Fields.{◌>>=◌, checked, or_absent, byte_at, pair, pair_at, text_field, new_name_at}
 
 -- the segment's number, or 0
 abbrev pub base_number : Base → ℕ

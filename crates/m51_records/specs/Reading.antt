@@ -9,8 +9,8 @@ use Rattle.m51_module.specs.declared.symbol.Public.{Public}
 use Rattle.m51_module.specs.declared.object_error.ObjError.{ObjError}
 use Rattle.m51_records.specs.declared.types.TheConstants.{HEADER, END, CONTENT, FIXUP}
 use Rattle.m51_records.specs.declared.types.TheConstants.{SEGMENT, PUBLIC, EXTERNAL}
-use Rattle.m51_records.specs.Fields.{◌>>=◌}
-use Rattle.m51_records.specs.Frame.{begins, record_at, checksum_place}
+use Rattle.m51_frame.specs.Fields.{◌>>=◌}
+use Rattle.m51_frame.specs.Frame.{begins, record_at, checksum_place}
 use Rattle.m51_records.specs.Ends.{header_in, end_in}
 use Rattle.m51_records.specs.Segments.{segment_in}
 use Rattle.m51_records.specs.Externals.{external_in}

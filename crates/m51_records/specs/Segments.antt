@@ -11,8 +11,8 @@ use Rattle.m51_module.specs.Arguments.{is_argument_name}
 use Rattle.m51_module.specs.declared.segment.Segment.{Segment}
 use Rattle.m51_module.specs.declared.object_error.ObjError.{ObjError}
 use Rattle.m51_records.specs.Codes.{kind_number, kind_of, reloc_number, reloc_of}
-use Rattle.m51_records.specs.Fields.{◌>>=◌, checked, or_broken, byte_at, pair, pair_at, text_field, text_at, same}
-use Rattle.m51_records.specs.Fields.{upper_name, ended}
+use Rattle.m51_frame.specs.Fields.{◌>>=◌, checked, or_broken, byte_at, pair, pair_at, text_field, text_at, same}
+use Rattle.m51_frame.specs.Fields.{upper_name, ended}
 
 -- bit 0 of the flags is OVERLAYABLE, bit 1 ARGUMENT
 abbrev pub flags_of : Bool → Bool → ℕ

@@ -9,7 +9,7 @@ use Rattle.m51_module.specs.declared.symbol.External.{External}
 use Rattle.m51_module.specs.declared.symbol.Public.{Public}
 use Rattle.m51_records.specs.declared.types.TheConstants.{HEADER, END, CONTENT, FIXUP}
 use Rattle.m51_records.specs.declared.types.TheConstants.{SEGMENT, PUBLIC, EXTERNAL}
-use Rattle.m51_records.specs.Frame.{record_of}
+use Rattle.m51_frame.specs.Frame.{record_of}
 use Rattle.m51_records.specs.Ends.{header_contents, end_contents}
 use Rattle.m51_records.specs.Segments.{segment_contents}
 use Rattle.m51_records.specs.Externals.{external_contents}

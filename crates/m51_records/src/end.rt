@@ -1,11 +1,10 @@
 //! The last record of a module: its name once more, and the register banks in use.
 ghost use Rattle.std.specs.Prelude.{◌≡◌, IfOk, ◌<◌, length};
-ghost use Rattle.m51_records.specs.Fields.{Reads};
+ghost use Rattle.m51_frame.specs.Fields.{Reads};
 ghost use Rattle.m51_records.specs.Ends.{end_contents, again_at, are_banks, banks_at, end_in};
 
-use crate::fields::{broken, byte_at, put_text, text_at};
-use crate::names::same;
 use m51_cells::{Name, NoMemory};
+use m51_frame::{broken, byte_at, put_text, same, text_at};
 use m51_module::ObjError;
 use std::alloc::Global;
 

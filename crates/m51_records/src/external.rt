@@ -1,16 +1,16 @@
 //! The record of an external.
 ghost use Rattle.std.specs.Prelude.{◌≡◌, ◌<◌, ◌++◌, ◌∷◌, [], false, IfOk, length, map};
 ghost use Rattle.m51_module.specs.declared.symbol.External.{External};
-ghost use Rattle.m51_records.specs.Fields.{Reads, is_among};
+ghost use Rattle.m51_frame.specs.Fields.{Reads, is_among};
 ghost use Rattle.m51_records.specs.Externals.{external_contents, kind_at, external_in};
 ghost use Rattle.m51_records.specs.declared.types.TheConstants.{EXTERNAL};
 
 use crate::codes::{kind_number, kind_of};
-use crate::fields::{broken, byte_at, put_text};
 use crate::record::{Reader, Record};
 use crate::seen::{Seen, new_name_at};
 use crate::types::EXTERNAL;
 use m51_cells::{Kind, MOST_EXTERNALS, NoMemory};
+use m51_frame::{broken, byte_at, put_text};
 use m51_module::{External, ObjError};
 use std::alloc::Global;
 

@@ -4,7 +4,7 @@ ghost use Rattle.std.specs.Prelude.{drop};
 ghost use Rattle.std.specs.List.{All};
 ghost use Rattle.m51_module.specs.Validity.{field_len};
 ghost use Rattle.m51_records.specs.Contents.{latest};
-ghost use Rattle.m51_records.specs.Fields.{Reads};
+ghost use Rattle.m51_frame.specs.Fields.{Reads};
 ghost use Rattle.m51_records.specs.Fixups.{target_fields, fixup_contents, field_segment_follows, fixup_segment_at};
 ghost use Rattle.m51_records.specs.Fixups.{field_follows, fixup_offset_at, holds, is_held, is_inside, form_at, is_bit};
 ghost use Rattle.m51_records.specs.Fixups.{bit_at, target_of, tag_at, target_at, addend_at, fixup_in};
@@ -12,10 +12,10 @@ ghost use Rattle.m51_records.specs.WorkPieces.{ends_by, EndBy, ArePassed};
 ghost use Rattle.m51_records.specs.declared.types.TheConstants.{FIXUP};
 
 use crate::codes::{form_number, form_of};
-use crate::fields::{absent, broken, byte_at, pair_at, put_pair};
 use crate::record::{Reader, Record};
 use crate::types::FIXUP;
 use m51_cells::{Base, MOST_FIXUPS, NoMemory};
+use m51_frame::{absent, broken, byte_at, pair_at, put_pair};
 use m51_module::{
     External, Fixup, Form, ObjError, Piece, Segment, external_numbered, segment_numbered,
 };

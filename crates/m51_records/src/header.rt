@@ -1,11 +1,10 @@
 //! The first record of a module: its name, and the version of the object.
 ghost use Rattle.std.specs.Prelude.{◌≡◌, IfOk, ◌<◌, length};
-ghost use Rattle.m51_records.specs.Fields.{Reads};
+ghost use Rattle.m51_frame.specs.Fields.{Reads};
 ghost use Rattle.m51_records.specs.Ends.{header_contents, is_version, version_at, header_in};
 
-use crate::fields::{broken, byte_at, put_text, text_at};
-use crate::names::upper_name;
 use m51_cells::{Name, NoMemory};
+use m51_frame::{broken, byte_at, put_text, text_at, upper_name};
 use m51_module::ObjError;
 use std::alloc::Global;
 

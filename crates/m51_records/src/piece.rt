@@ -1,16 +1,16 @@
 //! The record of a piece of content.
 ghost use Rattle.std.specs.Prelude.{◌≡◌, ◌<◌, length, ◌≤◌};
 ghost use Rattle.m51_module.specs.declared.content.Piece.{Piece};
-ghost use Rattle.m51_records.specs.Fields.{Reads};
+ghost use Rattle.m51_frame.specs.Fields.{Reads};
 ghost use Rattle.m51_records.specs.Contents.{piece_contents, segment_follows, latest, code_segment_at, ends_before};
 ghost use Rattle.m51_records.specs.Contents.{piece_follows, piece_offset_at, limited, content_at, piece_in};
 ghost use Rattle.m51_cells.specs.declared.limits.TheConstants.{MOST_PIECE_BYTES};
 ghost use Rattle.m51_records.specs.declared.types.TheConstants.{CONTENT};
 
-use crate::fields::{absent, broken, byte_at, pair_at, put_pair};
 use crate::record::{Reader, Record};
 use crate::types::CONTENT;
 use m51_cells::{MOST_PIECE_BYTES, NoMemory, copy_of, is_code};
+use m51_frame::{absent, broken, byte_at, pair_at, put_pair};
 use m51_module::{ObjError, Piece, Segment, segment_numbered};
 use std::alloc::Global;
 

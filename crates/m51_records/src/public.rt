@@ -2,17 +2,17 @@
 ghost use Rattle.std.specs.Prelude.{◌≡◌, ◌<◌, ◌++◌, ◌∷◌, [], false, IfOk, length, map};
 ghost use Rattle.m51_module.specs.Validity.{numbered};
 ghost use Rattle.m51_module.specs.declared.symbol.Public.{Public};
-ghost use Rattle.m51_records.specs.Fields.{Reads, is_among};
+ghost use Rattle.m51_frame.specs.Fields.{Reads, is_among};
 ghost use Rattle.m51_records.specs.Publics.{base_number, public_contents, base_of, public_base_at, public_in};
 ghost use Rattle.m51_records.specs.declared.types.TheConstants.{PUBLIC};
 
 use crate::codes::kind_number;
 use crate::external::kind_at;
-use crate::fields::{absent, broken, byte_at, pair_at, put_pair, put_text};
 use crate::record::{Reader, Record};
 use crate::seen::{Seen, new_name_at};
 use crate::types::PUBLIC;
 use m51_cells::{Base, Kind, NoMemory, same_kind};
+use m51_frame::{absent, broken, byte_at, pair_at, put_pair, put_text};
 use m51_module::{ObjError, Public, Segment, segment_numbered};
 use std::alloc::Global;
 

@@ -2,7 +2,7 @@
 ghost use Rattle.std.specs.Prelude.{◌≡◌, ◌<◌, ◌≤◌, ◌+◌, ◌-◌, ◌^◌, ◌++◌, ℕ, List, IfOk, Ok, length, take, drop};
 ghost use Rattle.m51_module.specs.declared.parts.ModuleParts.{ModuleParts};
 ghost use Rattle.m51_module.specs.Validity.{IsValid};
-ghost use Rattle.m51_records.specs.Fields.{Reads};
+ghost use Rattle.m51_frame.specs.Fields.{Reads};
 ghost use Rattle.m51_records.specs.Reading.{segments_at, externals_at, publics_at, pieces_at, fixups_at, module_at};
 ghost use Rattle.m51_records.specs.Reading.{read_of};
 ghost use Rattle.m51_records.specs.Spelling.{bytes_of, records_in};
@@ -10,7 +10,6 @@ ghost use Rattle.m51_records.specs.Spelling.{bytes_of, records_in};
 use crate::end::read_end;
 use crate::external::ExternalReader;
 use crate::fixup::FixupReader;
-use crate::frame::{checksum_place, record_at};
 use crate::header::read_header;
 use crate::piece::PieceReader;
 use crate::public::PublicReader;
@@ -19,6 +18,7 @@ use crate::seen::Seen;
 use crate::segment::SegmentReader;
 use crate::types::{CONTENT, END, EXTERNAL, FIXUP, HEADER, PUBLIC, SEGMENT};
 use m51_cells::ListOf;
+use m51_frame::{checksum_place, record_at};
 use m51_module::{External, Fixup, Module, ModuleParts, ObjError, Piece, Public, Segment};
 use std::alloc::Global;
 

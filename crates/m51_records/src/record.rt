@@ -3,12 +3,12 @@
 ghost use Rattle.std.specs.Prelude.{◌≡◌, ◌<◌, ◌≤◌, ◌+◌, ◌^◌, ◌++◌, ◌∷◌, [], ℕ, List, Result, IfOk, OnOk, length};
 ghost use Rattle.std.specs.List.{All, flat_map};
 ghost use Rattle.m51_module.specs.declared.object_error.ObjError.{ObjError};
-ghost use Rattle.m51_records.specs.Fields.{Reads};
-ghost use Rattle.m51_records.specs.Frame.{record_of};
+ghost use Rattle.m51_frame.specs.Fields.{Reads};
+ghost use Rattle.m51_frame.specs.Frame.{record_of};
 ghost use Rattle.m51_records.specs.Reading.{all_at};
 
-use crate::frame::{begins, checksum_place, put_record, record_at};
 use m51_cells::NoMemory;
+use m51_frame::{begins, checksum_place, put_record, record_at};
 use m51_module::ObjError;
 use std::alloc::Global;
 

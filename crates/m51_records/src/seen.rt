@@ -1,11 +1,10 @@
 //! The names that records before a record have.
 ghost use Rattle.std.specs.Prelude.{◌≡◌, ◌<◌, false, [], ◌∷◌, ◌++◌, IfOk, OnOk};
-ghost use Rattle.m51_records.specs.Fields.{Reads, is_among, new_name_at};
+ghost use Rattle.m51_frame.specs.Fields.{Reads, is_among, new_name_at};
 
-use crate::fields::{broken, text_at};
-use crate::names::upper_name;
 use indexmap::IndexSet;
 use m51_cells::{Name, NoMemory};
+use m51_frame::{broken, text_at, upper_name};
 use m51_module::ObjError;
 use std::alloc::Global;
 use std::marker::Model;
@@ -65,7 +64,7 @@ impl Seen {
 /// left over.
 ///
 /// Source: own choice ("Object records").
-#[tactic(auto, unfolding(crate::specs::Fields::new_name_at))]
+#[tactic(auto, unfolding(m51_frame::specs::Fields::new_name_at))]
 pub(crate) fn new_name_at(seen: &Seen, end: u32, bytes: &[u8]) -> Result<Name, ObjError>
     ensures value { Reads (λ x. x) result (new_name_at seen.now end bytes.now) }
     ensures new { IfOk result (λ name. is_among seen.now name ≡ false) }

@@ -1,6 +1,6 @@
 //! The record of a segment.
 ghost use Rattle.std.specs.Prelude.{◌≡◌, ◌≢◌, ◌<◌, ◌++◌, ◌∷◌, [], IfOk, length};
-ghost use Rattle.m51_records.specs.Fields.{Reads};
+ghost use Rattle.m51_frame.specs.Fields.{Reads};
 ghost use Rattle.m51_records.specs.Segments.{flags_of, marks_of, may_mark, are_marks, segment_contents};
 ghost use Rattle.m51_records.specs.Segments.{segment_kind_at, reloc_at, marks_at, base_at, limit, is_placed, is_size};
 ghost use Rattle.m51_records.specs.Segments.{size_at, names_segment, no_text, segment_name, is_new, may_have};
@@ -8,14 +8,13 @@ ghost use Rattle.m51_records.specs.Segments.{segment_name_at, segment_in};
 ghost use Rattle.m51_records.specs.declared.types.TheConstants.{SEGMENT};
 
 use crate::codes::{kind_number, kind_of, reloc_number, reloc_of};
-use crate::fields::{broken, byte_at, pair_at, put_pair, put_text, text_at};
-use crate::names::{same, upper_name};
 use crate::record::{Reader, Record};
 use crate::types::SEGMENT;
 use m51_cells::{
     Kind, MOST_MODULE_SEGMENTS, Name, NoMemory, Reloc, allows, fits, is_absolute, largest,
     may_overlay, same_kind,
 };
+use m51_frame::{broken, byte_at, pair_at, put_pair, put_text, same, text_at, upper_name};
 use m51_module::{ObjError, Segment, is_argument_name};
 use std::alloc::Global;
 

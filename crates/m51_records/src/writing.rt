@@ -3,11 +3,11 @@ ghost use Rattle.std.specs.Prelude.{◌≡◌, ◌++◌, IfOk, OnOk};
 ghost use Rattle.m51_records.specs.Spelling.{header_record, end_record, bytes_of};
 
 use crate::end::end_contents;
-use crate::frame::put_record;
 use crate::header::header_contents;
 use crate::record::write_records;
 use crate::types::{END, HEADER};
 use m51_cells::{Name, NoMemory};
+use m51_frame::put_record;
 use m51_module::Module;
 use std::alloc::Global;
 

@@ -1,5 +1,5 @@
 //! The files of a folder.
-use crate::texts::byte;
+use crate::texts::{byte, not_in_form, number};
 use m51_cells::Bytes;
 use std::io::ErrorKind;
 use std::{fs, io};
@@ -25,6 +25,15 @@ pub(crate) fn contents_of(rt: &HostRuntime, folder: &str, name: &str) -> io::Res
     fs::read(rt, path.as_str())
 }
 
+/// The text of the file of this name in a folder. One that is not there has none.
+pub(crate) fn text_of(rt: &HostRuntime, folder: &str, name: &str) -> io::Result<String> {
+    let path = format!(in rt.alloc(); "{folder}/{name}")?;
+    match fs::read_to_string(rt, path.as_str()) {
+        Err(error) if error.kind() == ErrorKind::NotFound => Ok(String::new(rt.alloc())),
+        read => read,
+    }
+}
+
 /// The files of a folder, by name.
 pub(crate) fn files_in(rt: &HostRuntime, folder: &str) -> io::Result<Vec<(Bytes, Bytes)>> {
     let mut files = Vec::new(rt.alloc());
@@ -36,15 +45,15 @@ pub(crate) fn files_in(rt: &HostRuntime, folder: &str) -> io::Result<Vec<(Bytes,
 }
 
 /// The file of a line with its name, how many bytes it has, and the byte in hexadecimal.
-pub(crate) fn filled(rt: &HostRuntime, line: &str) -> io::Result<Option<(Bytes, Bytes)>> {
+pub(crate) fn filled(rt: &HostRuntime, line: &str) -> io::Result<(Bytes, Bytes)> {
     let mut parts = line.split(' ');
     let (Some(name), Some(count), Some(digits)) = (parts.next(), parts.next(), parts.next()) else {
-        return Ok(None);
+        return Err(not_in_form());
     };
-    let (Ok(count), Some(byte)) = (count.parse::<u32>(), byte(digits)) else {
-        return Ok(None);
+    let (Some(count), Some(byte)) = (number(count), byte(digits)) else {
+        return Err(not_in_form());
     };
     let name = name.as_bytes().to_vec(rt.alloc())?;
     let contents = vec![in rt.alloc(); byte; count as usize]?;
-    Ok(Some((Bytes::of(name), Bytes::of(contents))))
+    Ok((Bytes::of(name), Bytes::of(contents)))
 }

@@ -3,7 +3,9 @@
 
 mod answering;
 mod cases;
+mod failing;
 mod files;
+mod pieces;
 mod report;
 mod sources;
 mod texts;
@@ -21,5 +23,9 @@ fn main(rt: HostRuntime) -> io::Result<()> {
     sources::run_all(&rt, &mut report)?;
     words::run_all(&rt, &mut report)?;
     let Report { passed, failed } = report;
-    println!(rt; "{passed} passed, {failed} failed")
+    println!(rt; "{passed} passed, {failed} failed")?;
+    if failed > 0 {
+        return Err(io::Error::other("a case failed"));
+    }
+    Ok(())
 }

@@ -9,13 +9,15 @@ pub(crate) struct Report {
 }
 
 impl Report {
-    /// Counts the case of this name, and prints the name of one that failed.
-    pub(crate) fn count(&mut self, rt: &impl Print, name: &str, passed: bool) -> io::Result<()> {
+    /// Counts the case of this name. That of one that failed is printed, and comes on standard error too, where `rt ci`
+    /// says it.
+    pub(crate) fn count(&mut self, rt: &HostRuntime, name: &str, passed: bool) -> io::Result<()> {
         if passed {
             self.passed = self.passed.saturating_add(1);
             return Ok(());
         }
         self.failed = self.failed.saturating_add(1);
+        eprintln!(rt; "{name}: failed")?;
         println!(rt; "{name}: failed")
     }
 }

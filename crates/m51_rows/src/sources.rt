@@ -1,13 +1,14 @@
 //! The rows of `sources.txt`: a source, and its faults or bytes of its image.
 use crate::answering::answer;
+use crate::failing::Failure;
 use crate::report::Report;
-use crate::texts::{byte, put_bytes, repeated};
+use crate::texts::{byte, not_in_form, put_bytes, repeated};
 use m51_cells::Bytes;
 use std::alloc::{AllocError, Global};
 use std::{fs, io};
 
-// The answer that tells the faults of a row, as `E14@2, E14@3`.
-fn told(alloc: Global, faults: &str) -> Result<String, AllocError> {
+// The answer that has the faults of a row, as `E14@2, E14@3`.
+fn faults_of(alloc: Global, faults: &str) -> Result<String, AllocError> {
     let mut text = String::from_str(alloc, "3\n")?;
     for fault in faults.split(", ") {
         let (number, line) = fault.split_once('@').unwrap_or((fault, ""));
@@ -35,6 +36,9 @@ fn byte_at(text: &str, address: usize) -> Option<u8> {
 fn has_part(text: &str, part: &str) -> Option<bool> {
     let (at, digits) = part.split_once(':')?;
     let first = usize::from_str_radix(at, 16).ok()?;
+    if digits.is_empty() || digits.len() % 2 != 0 {
+        return None;
+    }
     for offset in 0..digits.len() / 2 {
         let wanted = byte(digits.get(2 * offset..2 * offset + 2)?)?;
         if byte_at(text, first.saturating_add(offset))? != wanted {
@@ -44,17 +48,22 @@ fn has_part(text: &str, part: &str) -> Option<bool> {
     Some(true)
 }
 
+/// Whether the HEX lines of a text have all parts such as 0000:7455, with commas between them.
+pub(crate) fn is_image(text: &str, parts: &str) -> bool {
+    for part in parts.split(',') {
+        if has_part(text, part) != Some(true) {
+            return false;
+        }
+    }
+    true
+}
+
 // Whether a text is an answer that the row wants.
 fn is_right(alloc: Global, text: &str, wanted: &str) -> Result<bool, AllocError> {
     if wanted.starts_with('E') {
-        return Ok(text == told(alloc, wanted)?.as_str());
+        return Ok(text == faults_of(alloc, wanted)?.as_str());
     }
-    for part in wanted.split(',') {
-        if has_part(text, part) != Some(true) {
-            return Ok(false);
-        }
-    }
-    Ok(true)
+    Ok(is_image(text, wanted))
 }
 
 // The lines of a source that are parted by ` / `.
@@ -87,13 +96,13 @@ fn answer_of(alloc: Global, text: &str) -> io::Result<Vec<u8>> {
     }
     let name = b"a.a51".to_vec(alloc)?;
     let file = (Bytes::of(name), Bytes::of(source_of(alloc, text)?));
-    answer(alloc, &words, vec![in alloc; file]?)
+    answer(alloc, &words, vec![in alloc; file]?, Failure::None)
 }
 
 // Whether a row is answered as it says.
 fn passes(alloc: Global, row: &str) -> io::Result<bool> {
     let Some((wanted, text)) = row.split_once(" = ") else {
-        return Ok(false);
+        return Err(not_in_form());
     };
     let answer = answer_of(alloc, text)?;
     match str::from_utf8(&answer) {

@@ -1,9 +1,24 @@
 //! Texts in which bytes are written by their numbers, and pieces by how often they stand there.
 use std::alloc::AllocError;
+use std::io;
+use std::io::ErrorKind;
 
 /// The byte of these hexadecimal digits.
 pub(crate) fn byte(digits: &str) -> Option<u8> {
     u8::from_str_radix(digits, 16).ok()
+}
+
+/// The number of these decimal digits.
+pub(crate) fn number(digits: &str) -> Option<u32> {
+    digits.parse::<u32>().ok()
+}
+
+/// The error of a table that is not in its form.
+pub(crate) fn not_in_form() -> io::Error {
+    io::Error::new(
+        ErrorKind::InvalidData,
+        "a row of a table is not in its form",
+    )
 }
 
 /// Puts the bytes of a text to those before, with `\x` and two digits for a byte.
@@ -26,5 +41,5 @@ pub(crate) fn put_bytes(to: &mut Vec<u8>, text: &str) -> Result<(), AllocError> 
 pub(crate) fn repeated(text: &str) -> Option<(u32, &str, &str)> {
     let (inside, rest) = text.strip_prefix('{')?.split_once('}')?;
     let (count, piece) = inside.split_once('*')?;
-    Some((count.parse::<u32>().ok()?, piece, rest))
+    Some((number(count)?, piece, rest))
 }

@@ -5,7 +5,8 @@ use Rattle.std.specs.Option.{option_or}
 use Rattle.std.specs.List.{find}
 use Rattle.std.specs.Str.{bytes_eq}
 use Rattle.std.proofs.lemmas.List.{drop_more}
-use Rattle.m51_sfr.specs.Registers.{Row, TableRow, address_in, bits_among, bits_of, register_of}
+use Rattle.m51_sfr.specs.Registers.{Row, address_in, bits_among, bits_of}
+use Rattle.m51_sfr.specs.Coded.{CodedRow, register_in}
 
 found_step : {A : Type 0} (f : A → ℕ) (b : Bool) (x : A) (rest : Option A) (o : Option ℕ) → option_map f rest ≡ o
     → option_map f (cond b (Some x) rest) ≡ cond b (Some (f x)) o
@@ -40,27 +41,27 @@ found_twice row_of made (x ∷ xs) name =
     (address_in (map row_of (map made xs)) name) (found_twice row_of made xs name)
 
 -- the search among registers of which the first is at hand
-first_of : (rows : List TableRow) (i : ℕ) (d : TableRow) (name : List ℕ) → i < length rows
-    → address_in (bits_among (map register_of (drop i rows))) name
-    ≡ option_or (address_in (bits_of (register_of (get_or rows i d))) name) (address_in (bits_among (map register_of (drop (i + 1) rows))) name)
+first_of : (rows : List CodedRow) (i : ℕ) (d : CodedRow) (name : List ℕ) → i < length rows
+    → address_in (bits_among (map register_in (drop i rows))) name
+    ≡ option_or (address_in (bits_of (register_in (get_or rows i d))) name) (address_in (bits_among (map register_in (drop (i + 1) rows))) name)
 first_of rows i d name below =
-    ap (λ (rest : List TableRow). address_in (bits_among (map register_of rest)) name) (drop_more rows i d below)
-    ∙ address_or (bits_of (register_of (get_or rows i d))) (bits_among (map register_of (drop (i + 1) rows))) name
+    ap (λ (rest : List CodedRow). address_in (bits_among (map register_in rest)) name) (drop_more rows i d below)
+    ∙ address_or (bits_of (register_in (get_or rows i d))) (bits_among (map register_in (drop (i + 1) rows))) name
 
 -- it has the bit
-pub among_here : (rows : List TableRow) (i : ℕ) (d : TableRow) (name : List ℕ) (address : ℕ) (o : Option ℕ) → i < length rows
-    → address_in (bits_among (map register_of rows)) name ≡ address_in (bits_among (map register_of (drop i rows))) name
-    → o ≡ address_in (bits_of (register_of (get_or rows i d))) name → o ≡ Some address
-    → Some address ≡ address_in (bits_among (map register_of rows)) name
+pub among_here : (rows : List CodedRow) (i : ℕ) (d : CodedRow) (name : List ℕ) (address : ℕ) (o : Option ℕ) → i < length rows
+    → address_in (bits_among (map register_in rows)) name ≡ address_in (bits_among (map register_in (drop i rows))) name
+    → o ≡ address_in (bits_of (register_in (get_or rows i d))) name → o ≡ Some address
+    → Some address ≡ address_in (bits_among (map register_in rows)) name
 among_here rows i d name address o below so_far is some =
     sym (so_far ∙ first_of rows i d name below
-    ∙ ap (λ p. option_or p (address_in (bits_among (map register_of (drop (i + 1) rows))) name)) (sym is ∙ some))
+    ∙ ap (λ p. option_or p (address_in (bits_among (map register_in (drop (i + 1) rows))) name)) (sym is ∙ some))
 
 -- it has not
-pub among_later : (rows : List TableRow) (i : ℕ) (d : TableRow) (name : List ℕ) (o : Option ℕ) → i < length rows
-    → address_in (bits_among (map register_of rows)) name ≡ address_in (bits_among (map register_of (drop i rows))) name
-    → o ≡ address_in (bits_of (register_of (get_or rows i d))) name → o ≡ None
-    → address_in (bits_among (map register_of rows)) name ≡ address_in (bits_among (map register_of (drop (i + 1) rows))) name
+pub among_later : (rows : List CodedRow) (i : ℕ) (d : CodedRow) (name : List ℕ) (o : Option ℕ) → i < length rows
+    → address_in (bits_among (map register_in rows)) name ≡ address_in (bits_among (map register_in (drop i rows))) name
+    → o ≡ address_in (bits_of (register_in (get_or rows i d))) name → o ≡ None
+    → address_in (bits_among (map register_in rows)) name ≡ address_in (bits_among (map register_in (drop (i + 1) rows))) name
 among_later rows i d name o below so_far is none =
     so_far ∙ first_of rows i d name below
-    ∙ ap (λ p. option_or p (address_in (bits_among (map register_of (drop (i + 1) rows))) name)) (sym is ∙ none)
+    ∙ ap (λ p. option_or p (address_in (bits_among (map register_in (drop (i + 1) rows))) name)) (sym is ∙ none)

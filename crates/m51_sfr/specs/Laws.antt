@@ -1,7 +1,16 @@
 -- What the table of the registers promises.
-use Rattle.std.specs.Prelude.{◌≢◌, ◌<◌, ◌≤◌, ◌++◌, All}
+use Rattle.std.specs.Prelude.{◌≡◌, ◌≢◌, ◌<◌, ◌≤◌, ◌∷◌, [], ◌++◌, All, codes}
 use Rattle.std.specs.List.{AllPairs}
-use Rattle.m51_sfr.specs.Registers.{Row, bits, registers}
+use Rattle.m51_sfr.specs.Manual.{manual}
+use Rattle.m51_sfr.specs.Registers.{Row, bits, registers, row, table, unwritable_among}
+use Rattle.m51_sfr.specs.Coded.{coded}
+use Rattle.m51_sfr.specs.declared.bits.TheConstants.{CPRL2, CT2}
+
+-- The code's table is the manual's: the same registers in the same order, each with its address, its named bits and
+-- their numbers; and so are the numbers of the two bits that no source can name.
+pub record TableIsTheManuals : Type 0 where
+  pub rows : coded ≡ table
+  pub unwritable : row (codes "CP/RL2") CPRL2 ∷ row (codes "C/T2") CT2 ∷ [] ≡ unwritable_among manual
 
 -- no two rows have the same name
 abbrev pub NamesDiffer : Type 0

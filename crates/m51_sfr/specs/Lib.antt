@@ -1,2 +1,4 @@
+pub mod Manual
 pub mod Registers
+pub mod Coded
 pub mod Laws

@@ -1,9 +1,8 @@
--- The special function registers of the 8052 and their named bits (family manual): what the one table says.
-use Rattle.std.specs.Prelude.{ℕ, ◌+◌, ◌%◌, Bool, false, ◌||◌, ◌==◌, if◌then◌else◌, List, [], ◌∷◌, ◌++◌, map}
-use Rattle.std.specs.Prelude.{Option, Some, None}
-use Rattle.std.specs.Borrow.{Bor}
+-- What the manual's map of the special function registers says, by name and by address.
+use Rattle.std.specs.Prelude.{ℕ, ◌+◌, ◌%◌, Bool, true, false, not, ◌||◌, ◌==◌, if◌then◌else◌, List, [], ◌∷◌, ◌++◌}
+use Rattle.std.specs.Prelude.{map, reverse, filter, Option, Some, None}
 use Rattle.std.specs.Str.{bytes_eq}
-use Rattle.m51_sfr.specs.declared.table.TheConstants.{REGISTERS}
+use Rattle.m51_sfr.specs.Manual.{Printed, manual}
 
 -- a name, and the address that it means; or that of a bit, and its number
 pub record Row : Type 0 where
@@ -19,7 +18,7 @@ abbrev pub address_in : List Row → List ℕ → Option ℕ
 address_in [] name = None
 address_in (r ∷ more) name = if bytes_eq r.name name then Some r.address else address_in more name
 
--- a register: its name, its direct address, and the names of its bits with their numbers
+-- a register: its name, its direct address, and the names of its bits with their numbers, from bit 0 upward
 pub record Register : Type 0 where
   pub name : List ℕ
   pub address : ℕ
@@ -28,19 +27,33 @@ pub record Register : Type 0 where
 abbrev pub register : List ℕ → ℕ → List Row → Register
 register name address bits = record { name = name; address = address; bits = bits }
 
--- a row of the code's table, and the register that it gives
-abbrev pub TableBit : Type 0
-TableBit = Bor (List ℕ) × ℕ
+-- the names of bits with their numbers, counted from this one; a bit without a name has no row
+abbrev pub numbered : ℕ → List (List ℕ) → List Row
+numbered k [] = []
+numbered k ([] ∷ more) = numbered (k + 1) more
+numbered k ((c ∷ cs) ∷ more) = row (c ∷ cs) k ∷ numbered (k + 1) more
 
-abbrev pub TableRow : Type 0
-TableRow = Bor (List ℕ) × ℕ × Bor (List TableBit)
+-- all named bits of a register
+abbrev pub printed_bits : Printed → List Row
+printed_bits p = numbered 0 (reverse p.bits)
 
-abbrev pub register_of : TableRow → Register
-register_of r = register r.0.now r.1 (map (λ b. row b.0.now b.1) r.2.now)
+-- the name has no `/`, which no source can write in a name
+abbrev pub is_writable : List ℕ → Bool
+is_writable [] = true
+is_writable (c ∷ more) = if c == 0x2F then false else is_writable more
+
+-- a register with those bits that a source can name
+abbrev pub register_of : Printed → Register
+register_of p = register p.name p.address (filter (λ (b : Row). is_writable b.name) (printed_bits p))
+
+-- the bits that no source can name
+abbrev pub unwritable_among : List Printed → List Row
+unwritable_among [] = []
+unwritable_among (p ∷ more) = filter (λ (b : Row). not (is_writable b.name)) (printed_bits p) ++ unwritable_among more
 
 -- all registers
 unfoldable pub table : List Register
-table = map (λ r. register r.0.now r.1 (map (λ b. row b.0.now b.1) r.2.now)) REGISTERS
+table = map register_of manual
 
 -- the address of a bit is that of its register plus its number
 abbrev pub bit_row : ℕ → Row → Row
@@ -66,6 +79,6 @@ abbrev pub is_one_of : List ℕ → ℕ → Bool
 is_one_of [] a = false
 is_one_of (x ∷ xs) a = a == x || is_one_of xs a
 
--- a register stands at this address
+-- a register has this address
 unfoldable pub has_register : ℕ → Bool
-has_register a = is_one_of (map (λ r. r.1) REGISTERS) a
+has_register a = is_one_of (map (λ (p : Printed). p.address) manual) a

@@ -1,5 +1,12 @@
 //! What the table promises. Each law is the contract of a function that does nothing.
-ghost use Rattle.m51_sfr.specs.Laws.{NamesDiffer, AddressesDiffer};
+ghost use Rattle.m51_sfr.specs.Laws.{TableIsTheManuals, NamesDiffer, AddressesDiffer};
+
+/// The table of the code is the manual's map of the registers: names, addresses, bits and their numbers.
+///
+/// Source: family manual.
+pub fn table_is_the_manuals()
+    ensures { TableIsTheManuals }
+{}
 
 /// No two names, of registers or of bits, are the same.
 ///

@@ -7,5 +7,5 @@ mod laws;
 mod searching;
 mod table;
 
-pub use laws::{addresses_differ, names_differ};
+pub use laws::{addresses_differ, names_differ, table_is_the_manuals};
 pub use searching::{bit_named, is_register, register_named};

@@ -3,7 +3,8 @@ ghost use Rattle.std.specs.Prelude.{◌≡◌, ◌+◌, ◌≤◌, IsTrue, find,
 ghost use Rattle.std.specs.Option.{option_copied};
 ghost use Rattle.std.specs.Str.{bytes_eq};
 ghost use Rattle.m51_sfr.specs.Registers.{address_in, bit_row, bits, bits_among, bits_of, has_register};
-ghost use Rattle.m51_sfr.specs.Registers.{register_of, registers, row};
+ghost use Rattle.m51_sfr.specs.Registers.{registers, row};
+ghost use Rattle.m51_sfr.specs.Coded.{register_in};
 
 use crate::addresses::{
     ACC, B, DPH, IE, IP, P0, P1, P2, P3, PCON, PSW, RCAP2L, SBUF, SCON, T2CON, TH1, TH2,
@@ -75,7 +76,7 @@ fn bit_in(address: u8, bits: &[Bit], name: &[u8]) -> Option<u16>
 
 // The bit address of the bit with this name, if the register has it and its bits have addresses.
 fn bit_of(register: &Row, name: &[u8]) -> Option<u16>
-    ensures { result ≡ address_in (bits_of (register_of register.now)) name.now }
+    ensures { result ≡ address_in (bits_of (register_in register.now)) name.now }
 {
     if register.1 % 8 == 0 {
         bit_in(register.1, register.2, name)
@@ -86,7 +87,7 @@ fn bit_of(register: &Row, name: &[u8]) -> Option<u16>
 
 // The bit address of the bit with this name, if one of these registers has it.
 fn bit_among(rows: &[Row], name: &[u8]) -> Option<u16>
-    ensures { result ≡ address_in (bits_among (map register_of rows.now)) name.now }
+    ensures { result ≡ address_in (bits_among (map register_in rows.now)) name.now }
 {
     for row in rows {
         if let Some(address) = bit_of(row, name) {

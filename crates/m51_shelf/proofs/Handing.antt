@@ -1,5 +1,6 @@
 -- What a shelf hands out of an open file, piece by piece.
-use Rattle.std.proofs.Common.{◌≡◌, ℕ, List, [], ◌∷◌, ◌++◌, Option, Some, None, Result, Ok, Err, sym, ap, ◌∙◌, subst, append_assoc, append-nil}
+use Rattle.std.proofs.Common.{◌≡◌, ℕ, ◌+◌, ◌≤◌, length, List, [], ◌∷◌, ◌++◌, Option, Some, None, Result, Ok, Err, sym, ap, ◌∙◌, subst, append_assoc, append-nil}
+use Rattle.m51_cells.specs.declared.limits.TheConstants.{MOST_FILE_BYTES}
 use Rattle.m51_shelf.specs.declared.reading.ReadError.{ReadError}
 use Rattle.m51_shelf.specs.Shelf.{File, Grows, GoesOn}
 use Rattle.m51_shelf.specs.States.{ReadAt}
@@ -46,15 +47,20 @@ goes_on {T} {E} first before after old new value one h =
 pub all_over : (first before after : ReadAt) (old new all : List ℕ) (count : ℕ) → GoesOn first.given before.given old
     → GivesOn {T = ℕ} {E = ReadError} before after old new (Ok count) → all ≡ new → HandsOver first after (Ok all)
 all_over first before after old new all count one h is =
-    record { bytes = new; goes = goes_on first.given before after old new count one h; all = is }
+    record {
+      bytes = new;
+      most = subst (λ (x : List ℕ). length x ≤ MOST_FILE_BYTES + 1) (sym h.all) h.most;
+      goes = goes_on first.given before after old new count one h;
+      all = is;
+    }
 
 pub part_over : (first before after : ReadAt) (old new : List ℕ) (result : Result ℕ ReadError) (error : ReadError) → GoesOn first.given before.given old
     → GivesOn before after old new result → HandsOver first after (Err error)
 part_over first before after old new result error one h =
-    record { bytes = old ++ h.piece; goes = goes_given first.given before after old new result one h; all = tt }
+    record { bytes = old ++ h.piece; most = h.most; goes = goes_given first.given before after old new result one h; all = tt }
 
 -- a file that was started, and read on
 pub started_given : (before between after : ReadAt) (name : List ℕ) (result : Result (List ℕ) ReadError)
     → Grows before.given between.given ((name, []) ∷ []) → HandsOver between after result → IsGiven before after name result
 started_given before between after name result one h =
-    record { bytes = h.bytes; grows = grows_then before.given between.given after.given name h.bytes one h.goes; all = h.all }
+    record { bytes = h.bytes; most = h.most; grows = grows_then before.given between.given after.given name h.bytes one h.goes; all = h.all }

@@ -1,5 +1,5 @@
 -- Files that are read piece by piece.
-use Rattle.std.proofs.Common.{◌≡◌, ℕ, true, ◌+◌, ◌-◌, ◌^◌, ◌<◌, ◌≤◌, min, List, ◌++◌, length, take, drop, Option, Some, None, sym, ap, ◌∙◌, subst, arith, length-append, append-nil, take-add, take_all}
+use Rattle.std.proofs.Common.{◌≡◌, ℕ, true, ◌+◌, ◌-◌, ◌^◌, ◌<◌, ◌≤◌, min, List, [], ◌++◌, length, take, drop, Option, Some, None, sym, ap, ◌∙◌, subst, arith, length-append, append-nil, take-add, take_all}
 use Rattle.std.specs.Prelude.{IfSome, IsSomeAnd}
 use Rattle.std.proofs.lemmas.List.{length-take, length-take-le}
 use Rattle.m51_cells.specs.declared.limits.TheConstants.{MOST_FILE_BYTES}
@@ -55,6 +55,15 @@ pub taken_more : (taken count : ℕ) (bytes piece : List ℕ) → taken ≡ leng
     → min (taken + count) (2 ^ 64 - 1) ≡ length (bytes ++ take count piece)
 taken_more taken count bytes piece is room few short =
     omega (arith, is, room, few, short, length-append bytes (take count piece), length-take-le count piece room)
+
+-- what was read before, alone and with a piece, has at most one byte past the limit
+pub most_before : (bytes : List ℕ) → length bytes ≤ MOST_FILE_BYTES → length (bytes ++ []) ≤ MOST_FILE_BYTES + 1
+most_before bytes few = omega (arith, few, ap length (append-nil bytes))
+
+pub most_with : (bytes piece : List ℕ) (count : ℕ) → length bytes ≤ MOST_FILE_BYTES → count ≤ length piece → length piece ≤ MOST_FILE_BYTES + 1 - length bytes
+    → length (bytes ++ take count piece) ≤ MOST_FILE_BYTES + 1
+most_with bytes piece count few within room =
+    omega (arith, few, within, room, length-append bytes (take count piece), length-take-le count piece within)
 
 -- what was taken of the open file, after a piece of it
 pub taken_on : (before after : ReadAt) (bytes piece more : List ℕ) (count : ℕ) → HasTaken before bytes → length bytes ≤ MOST_FILE_BYTES

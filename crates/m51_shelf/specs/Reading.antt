@@ -29,9 +29,11 @@ abbrev pub IsThat : List ℕ → Result (List ℕ) ReadError → Type 0
 IsThat bytes (Ok all) = all ≡ bytes
 IsThat bytes (Err error) = Unit {0}
 
--- The file of this name was started, and these bytes were handed out of it; where all are answered, they are these.
+-- The file of this name was started, and these bytes were handed out of it, at most one past the limit; where all are
+-- answered, they are these.
 pub record IsGiven (before after : ReadAt) (name : List ℕ) (result : Result (List ℕ) ReadError) : Type 0 where
   pub bytes : List ℕ
+  pub most : length bytes ≤ MOST_FILE_BYTES + 1
   pub grows : Grows before.given after.given ((name, bytes) ∷ [])
   pub all : IsThat bytes result
 
@@ -70,14 +72,17 @@ IsPieceError before after (Err error.TooLong) = ⊥
 IsPieceError before after (Err error.Failed) = HasFailed before after
 IsPieceError before after (Err error.Memory) = Unit {0}
 
--- These bytes were handed out of the open file; where all are answered, they are these.
+-- These bytes were handed out of the open file, at most one past the limit; where all are answered, they are these.
 pub record HandsOver (before after : ReadAt) (result : Result (List ℕ) ReadError) : Type 0 where
   pub bytes : List ℕ
+  pub most : length bytes ≤ MOST_FILE_BYTES + 1
   pub goes : GoesOn before.given after.given bytes
   pub all : IsThat bytes result
 
--- A piece of the open file was handed out, and is what came after the bytes that were read before.
+-- A piece of the open file was handed out, and is what came after the bytes that were read before; with them it has at
+-- most one byte past the limit.
 pub record GivesOn {T E : Type 0} (before after : ReadAt) (old new : List ℕ) (result : Result T E) : Type 0 where
   pub piece : List ℕ
+  pub most : length (old ++ piece) ≤ MOST_FILE_BYTES + 1
   pub goes : GoesOn before.given after.given piece
   pub all : OnOk result (new ≡ old ++ piece)

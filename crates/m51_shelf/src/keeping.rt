@@ -23,7 +23,7 @@ enum Place {
     Absent,
     // A plain file.
     Plain(Permissions),
-    // A link, a device, or what can't be told.
+    // A link, a device or a folder.
     Other,
 }
 
@@ -48,18 +48,16 @@ fn write_all<W: Write>(file: &mut W, bytes: &[u8]) -> Result<(), Failed>
     Ok(())
 }
 
-// What is under this name.
-fn place_of<R: Files>(rt: &R, name: &str) -> Place {
+// What is under this name. It fails where the system doesn't say, as a plain file may be there.
+fn place_of<R: Files>(rt: &R, name: &str) -> Result<Place, Failed> {
     match fs::symlink_metadata(rt, name) {
-        Ok(found) => {
-            if found.is_file() {
-                Place::Plain(found.permissions())
-            } else {
-                Place::Other
-            }
-        }
-        Err(error) if error.kind() == ErrorKind::NotFound => Place::Absent,
-        Err(_) => Place::Other,
+        Ok(found) => Ok(if found.is_file() {
+            Place::Plain(found.permissions())
+        } else {
+            Place::Other
+        }),
+        Err(error) if error.kind() == ErrorKind::NotFound => Ok(Place::Absent),
+        Err(_) => Err(Failed),
     }
 }
 
@@ -76,21 +74,25 @@ fn write_over<R: Files>(rt: &R, name: &str, bytes: &[u8]) -> Result<(), Failed> 
     }
 }
 
-// Writes all bytes to a new file, with these permissions, and sees that they are stored.
+// Writes all bytes to a new file, and sees that they are stored. It has its permissions before its first byte, so that
+// nobody reads it who could not read the old one.
 fn fill_part<W: Write + OpenFile>(
     file: &mut W,
     like: Option<Permissions>,
     bytes: &[u8],
 ) -> Result<(), Failed> {
-    write_all(file, bytes)?;
     let given = match like {
         Some(permissions) => file.set_permissions(permissions),
         None => Ok(()),
     };
-    if given.is_err() || file.sync_all().is_err() {
+    if given.is_err() {
         return Err(Failed);
     }
-    Ok(())
+    write_all(file, bytes)?;
+    match file.sync_all() {
+        Ok(()) => Ok(()),
+        Err(_) => Err(Failed),
+    }
 }
 
 // Writes a new file of this name.
@@ -172,7 +174,7 @@ fn put_beside<R: Files>(
 // Keeps a file of this name with these bytes. A plain file stays whole until the new one is stored; to what is no plain
 // file the bytes are written.
 pub(crate) fn put_file<R: Files>(rt: &R, name: &str, bytes: &[u8]) -> Result<(), Failed> {
-    match place_of(rt, name) {
+    match place_of(rt, name)? {
         Place::Absent => put_beside(rt, name, None, bytes),
         Place::Plain(permissions) => {
             if !is_writable(rt, name) {

@@ -1,6 +1,7 @@
 -- What holds of each answer of a reader, by the parts of the reader.
 use Rattle.std.proofs.Common.{◌≡◌, ℕ, Bool, true, false, cond, Option, Some, None, Result, Ok, Err, refl, subst}
 use Rattle.std.specs.Prelude.{option_and_then, option_map}
+use Rattle.std.specs.Option.{option_or}
 use Rattle.std.proofs.lemmas.Option.{same_Some}
 use Rattle.m51_stmt.specs.Answer.{and_then, or_fault}
 
@@ -24,6 +25,10 @@ none_is = record { holds = λ b is. absurd (cc is) }
 pub some_cond : {A : Type 0} {x y : Option A} {P : A → Type 0} (b : Bool) → IfSome x P → IfSome y P → IfSome (cond b x y) P
 some_cond true h k = h
 some_cond false h k = k
+
+pub some_or : {A : Type 0} {P : A → Type 0} (o p : Option A) → IfSome o P → IfSome p P → IfSome (option_or o p) P
+some_or None p h k = k
+some_or (Some a) p h k = h
 
 pub some_map : {A B : Type 0} (f : A → B) (P : B → Type 0) (o : Option A) → IfSome o (λ a. P (f a)) → IfSome (option_map f o) P
 some_map f P None h = none_is

@@ -1,5 +1,5 @@
 -- What a line says after its label reads back.
-use Rattle.std.proofs.Common.{◌≡◌, ℕ, Bool, true, false, map, List, [], ◌∷◌, ◌++◌, Option, Some, None, refl, sym, ap, ◌∙◌, subst, append_assoc, append-nil}
+use Rattle.std.proofs.Common.{◌≡◌, ℕ, Bool, true, false, map, List, [], ◌∷◌, ◌++◌, Option, Some, None, refl, sym, ap, ◌∙◌, subst, append-nil}
 use Rattle.std.specs.Prelude.{codes}
 use Rattle.m51_cells.specs.Name.{name_of}
 use Rattle.m51_cells.specs.declared.kind.Kind.{Kind}
@@ -10,7 +10,7 @@ use Rattle.m51_isa.specs.Mnemonics.{is_mnemonic}
 use Rattle.m51_isa.proofs.FoundMnemonics.{has_mnemonic}
 use Rattle.m51_expr.specs.declared.symbol.Symbol.{Symbol}
 use Rattle.m51_expr.specs.declared.symbol.Symbol.TheVariants as symbols
-use Rattle.m51_expr.specs.Symbol.{operator_of, word_symbol, word_or_other}
+use Rattle.m51_expr.specs.Symbol.{operator_of, prefix_word, relation_word, arithmetic_word, word_symbol, word_or_other}
 use Rattle.m51_expr.specs.Words.{is_language_word}
 use Rattle.m51_expr.specs.Tree.{Tree}
 use Rattle.m51_stmt.specs.declared.definitions.Definition.{Definition}
@@ -243,12 +243,12 @@ define_said labelled name w d rest b bare free found word is =
     (subst (λ s. IsSaid false (symbols.Name name ∷ s ∷ map symbol rest) b) (sym word) (grammar.Defined free.free found is)))
 
 reloc_symbol : (r : Reloc) → symbol (name_word (reloc_word r)) ≡ symbols.Word (reloc_word r)
-unfolding operator_of is_language_word
+unfolding operator_of prefix_word relation_word arithmetic_word is_language_word
 reloc_symbol reloc.Abs = refl
 reloc_symbol r = refl
 
 overlayable_symbol : symbol (name_word (codes "OVERLAYABLE")) ≡ symbols.Word (codes "OVERLAYABLE")
-unfolding operator_of is_language_word
+unfolding operator_of prefix_word relation_word arithmetic_word is_language_word
 overlayable_symbol = refl
 
 overlay_said : (b : Bool) → grammar.HasOverlay (map symbol (overlayable_words b)) b
@@ -263,12 +263,12 @@ segment_said name k r b is =
     (grammar.Segment {type = symbols.Word (reloc_word r) ∷ []} {last = last} is.kind_is (grammar.Typed is.reloc_is) (overlay_said b) is.allowed))
 
 pub select_symbol : (k : Kind) → symbol (name_word (select_word k)) ≡ symbols.Word (select_word k)
-unfolding operator_of is_language_word
+unfolding operator_of prefix_word relation_word arithmetic_word is_language_word
 select_symbol kind.Code = refl
 select_symbol k = refl
 
 select_said : (k : Kind) (e : Option Tree) → IsAt e → grammar.IsDirective (directive.Select k) (map symbol (at_words e)) (body.Select k e)
-unfolding operator_of is_language_word
+unfolding operator_of prefix_word relation_word arithmetic_word is_language_word
 select_said k None is = grammar.Select
 select_said k (Some e) is = grammar.SelectAt (expr_said e is)
 
@@ -278,7 +278,7 @@ kind_defines kind.Number is = absurd (cc is)
 kind_defines k is = refl
 
 pub body_said : (labelled : Bool) (at : ℕ) → (at ≡ 0 → labelled ≡ false) → (b : BodyTree) → IsBody at b → IsSaid labelled (map symbol (body_words b)) b
-unfolding directive_of definition_of operator_of is_language_word
+unfolding directive_of definition_of operator_of prefix_word relation_word arithmetic_word is_language_word
 body_said labelled at first body.Empty is = grammar.Nothing
 body_said labelled at first body.Ignored is = absurd is
 body_said labelled at first (body.Include name) is = absurd is

@@ -1,12 +1,12 @@
 -- The printed names of EXTRN read back.
-use Rattle.std.proofs.Common.{◌≡◌, ℕ, false, map, List, [], ◌∷◌, ◌++◌, Some, None, refl, sym, ap, ◌∙◌, subst, append_assoc}
+use Rattle.std.proofs.Common.{◌≡◌, ℕ, false, map, List, [], ◌∷◌, ◌++◌, Some, None, refl, sym, ap, ◌∙◌, subst}
 use Rattle.std.specs.Prelude.{codes}
 use Rattle.m51_cells.specs.Name.{name_of}
 use Rattle.m51_cells.specs.declared.kind.Kind.{Kind}
 use Rattle.m51_cells.specs.declared.kind.Kind.TheVariants as kind
 use Rattle.m51_expr.specs.declared.symbol.Symbol.{Symbol}
 use Rattle.m51_expr.specs.declared.symbol.Symbol.TheVariants as symbols
-use Rattle.m51_expr.specs.Symbol.{operator_of}
+use Rattle.m51_expr.specs.Symbol.{operator_of, prefix_word, relation_word, arithmetic_word}
 use Rattle.m51_expr.specs.Words.{is_language_word, is_reserved}
 use Rattle.m51_stmt.specs.Kinds.{kind_of, extern_kind_of}
 use Rattle.m51_stmt.specs.Grammar as grammar
@@ -50,7 +50,7 @@ pub extern_cut : (x : List ℕ × Kind) (rest : List Word) → IsExtern x → Ar
 extern_cut x rest is more = (name_cut (kind_word x.1) (kind_written x.1), (open_cut, (name_cut x.0 is.leaf.written, (close_cut, more))))
 
 pub kind_symbol : (k : Kind) → symbol (name_word (kind_word k)) ≡ symbols.Word (kind_word k)
-unfolding operator_of is_language_word
+unfolding operator_of prefix_word relation_word arithmetic_word is_language_word
 kind_symbol kind.Code = refl
 kind_symbol k = refl
 

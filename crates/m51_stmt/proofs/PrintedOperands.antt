@@ -4,7 +4,7 @@ use Rattle.std.specs.Prelude.{codes}
 use Rattle.m51_isa.proofs.Distinct.{of_register}
 use Rattle.m51_cells.specs.Name.{name_of}
 use Rattle.m51_expr.specs.declared.symbol.Symbol.TheVariants as symbols
-use Rattle.m51_expr.specs.Symbol.{operator_of}
+use Rattle.m51_expr.specs.Symbol.{operator_of, prefix_word, relation_word, arithmetic_word}
 use Rattle.m51_expr.specs.Words.{is_language_word}
 use Rattle.m51_stmt.specs.Statement.{OperandTree, A, Ab, C, Dptr, APc, ADptr, AtDptr, R, AtR, Imm, Plain, NotBit}
 use Rattle.m51_stmt.specs.Words.{register_number}
@@ -74,7 +74,7 @@ operand_cut (Plain e) rest is more = expr_cut e rest is more
 operand_cut (NotBit e) rest is more = (over_cut, expr_cut e rest is more)
 
 register_symbol : (n : ℕ) → n < 8 → symbol (name_word (register_word n)) ≡ symbols.Word (register_word n)
-unfolding operator_of is_language_word
+unfolding operator_of prefix_word relation_word arithmetic_word is_language_word
 register_symbol n h = of_register (λ n. symbol (name_word (register_word n)) ≡ symbols.Word (register_word n)) refl refl refl refl refl refl refl refl n h
 
 register_read : (n : ℕ) → n < 8 → register (register_word n) ≡ Some (R n)
@@ -88,7 +88,7 @@ pointer_read (suc zero) h = refl
 pointer_read (suc (suc n)) h = absurd (omega (arith, h))
 
 pub operand_said : (o : OperandTree) → IsOperand o → grammar.IsOperand (map symbol (operand_words o [])) o
-unfolding register pointer sum operator_of is_language_word
+unfolding register pointer sum operator_of prefix_word relation_word arithmetic_word is_language_word
 operand_said A is = grammar.Register {word = codes "A"} refl
 operand_said Ab is = grammar.Register {word = codes "AB"} refl
 operand_said C is = grammar.Register {word = codes "C"} refl

@@ -11,7 +11,7 @@ use Rattle.m51_expr.specs.declared.tree.Binary.{Binary}
 use Rattle.m51_expr.specs.declared.tree.Binary.TheVariants as op2
 use Rattle.m51_expr.specs.declared.symbol.Symbol.{Symbol}
 use Rattle.m51_expr.specs.declared.symbol.Symbol.TheVariants as symbols
-use Rattle.m51_expr.specs.Symbol.{operator_of, word_or_other, word_symbol}
+use Rattle.m51_expr.specs.Symbol.{operator_of, prefix_word, relation_word, arithmetic_word, word_or_other, word_symbol}
 use Rattle.m51_expr.specs.Tree as tree
 use Rattle.m51_expr.specs.Tree.{Tree}
 use Rattle.m51_expr.specs.Ranks.{prefix_rank, infix_rank, prefix_of, infix_of, is_open, is_close, leaf_of}
@@ -126,12 +126,12 @@ expr_cut (tree.One op e) rest h more = (open_cut, (before_cut op, expr_cut e (cl
 expr_cut (tree.Two op left right) rest h more = (open_cut, expr_cut left (between_word op ∷ expr_words right (close_word ∷ rest)) h.0 (between_cut op, expr_cut right (close_word ∷ rest) h.1 (close_cut, more)))
 
 before_is : (op : Unary) → prefix_of (Some (symbol (before_word op))) (prefix_rank op) ≡ Some op
-unfolding operator_of
+unfolding operator_of prefix_word relation_word arithmetic_word
 before_is op1.Plus = refl
 before_is op = refl
 
 between_is : (op : Binary) → infix_of (Some (symbol (between_word op))) (infix_rank op) ≡ Some op
-unfolding operator_of
+unfolding operator_of prefix_word relation_word arithmetic_word
 between_is op2.Mul = refl
 between_is op = refl
 

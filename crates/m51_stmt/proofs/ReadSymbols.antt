@@ -17,7 +17,7 @@ use Rattle.m51_lex.specs.Lexeme.{lexeme_of, name_lexeme, number_or_fault, text_o
 use Rattle.m51_lex.specs.Tokens.{Cut, put_front, after_lexeme, tokens_at}
 use Rattle.m51_expr.specs.declared.symbol.Symbol.{Symbol}
 use Rattle.m51_expr.specs.declared.symbol.Symbol.TheVariants as symbols
-use Rattle.m51_expr.specs.Symbol.{characters, between_quotes, sign_symbol, operator_of, operator_or_word, word_symbol, word_or_other, symbol_by, symbol_of}
+use Rattle.m51_expr.specs.Symbol.{characters, between_quotes, sign_symbol, operator_of, prefix_word, relation_word, arithmetic_word, operator_or_word, word_symbol, word_or_other, symbol_by, symbol_of}
 use Rattle.m51_expr.specs.Words.{is_language_word}
 use Rattle.m51_expr.specs.Tree as tree
 use Rattle.m51_expr.specs.Tree.{Tree}
@@ -28,7 +28,7 @@ use Rattle.m51_stmt.specs.Laws.{IsByte}
 use Rattle.m51_stmt.proofs.WordCuts.{passed}
 use Rattle.m51_stmt.proofs.PrintedTrees.{IsLeafName, IsTree}
 use Rattle.m51_stmt.proofs.ListWords.{Each}
-use Rattle.m51_stmt.proofs.IfRead.{IfSome, some_is, none_is, some_cond, IfRead, ok_is, err_is, read_cond, flip}
+use Rattle.m51_stmt.proofs.IfRead.{IfSome, some_is, none_is, some_cond, some_or, IfRead, ok_is, err_is, read_cond, flip}
 
 -- a token whose number has 16 bits
 abbrev pub HasNumber : What → Type 0
@@ -71,25 +71,41 @@ IsGood (symbols.Name name) = IsLeafName name
 IsGood (symbols.Word word) = IsLanguageWord word
 IsGood s = Unit {0}
 
-operator_good : (word : List ℕ) → IfSome (operator_of word) IsGood
-unfolding operator_of
-operator_good word =
+prefix_good : (word : List ℕ) → IfSome (prefix_word word) IsGood
+unfolding prefix_word
+prefix_good word =
     some_cond (bytes_eq word (codes "HIGH")) (some_is tt) (
     some_cond (bytes_eq word (codes "LOW")) (some_is tt) (
     some_cond (bytes_eq word (codes "NOT")) (some_is tt) (
-    some_cond (bytes_eq word (codes "MOD")) (some_is tt) (
-    some_cond (bytes_eq word (codes "SHL")) (some_is tt) (
-    some_cond (bytes_eq word (codes "SHR")) (some_is tt) (
+    none_is)))
+
+relation_good : (word : List ℕ) → IfSome (relation_word word) IsGood
+unfolding relation_word
+relation_good word =
     some_cond (bytes_eq word (codes "EQ")) (some_is tt) (
     some_cond (bytes_eq word (codes "NE")) (some_is tt) (
     some_cond (bytes_eq word (codes "LT")) (some_is tt) (
     some_cond (bytes_eq word (codes "LE")) (some_is tt) (
     some_cond (bytes_eq word (codes "GT")) (some_is tt) (
     some_cond (bytes_eq word (codes "GE")) (some_is tt) (
+    none_is))))))
+
+arithmetic_good : (word : List ℕ) → IfSome (arithmetic_word word) IsGood
+unfolding arithmetic_word
+arithmetic_good word =
+    some_cond (bytes_eq word (codes "MOD")) (some_is tt) (
+    some_cond (bytes_eq word (codes "SHL")) (some_is tt) (
+    some_cond (bytes_eq word (codes "SHR")) (some_is tt) (
     some_cond (bytes_eq word (codes "AND")) (some_is tt) (
     some_cond (bytes_eq word (codes "OR")) (some_is tt) (
     some_cond (bytes_eq word (codes "XOR")) (some_is tt) (
-    none_is)))))))))))))))
+    none_is))))))
+
+operator_good : (word : List ℕ) → IfSome (operator_of word) IsGood
+unfolding operator_of
+operator_good word =
+    some_or (prefix_word word) _ (prefix_good word)
+    (some_or (relation_word word) (arithmetic_word word) (relation_good word) (arithmetic_good word))
 
 either : (x y : Symbol) (b : Bool) → IsGood x → IsGood y → IsGood (cond b x y)
 either x y true h k = h

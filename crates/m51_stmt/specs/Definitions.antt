@@ -14,7 +14,7 @@ use Rattle.m51_stmt.specs.declared.definitions.Definition.TheVariants.{Segment, 
 use Rattle.m51_stmt.specs.Statement as body
 use Rattle.m51_stmt.specs.Statement.{BodyTree}
 use Rattle.m51_stmt.specs.Kinds.{kind_of, reloc_of}
-use Rattle.m51_stmt.specs.Lack.{lacks, is_unclosed}
+use Rattle.m51_stmt.specs.Lack.{lacks}
 use Rattle.m51_stmt.specs.Lists.{expression}
 
 -- the definition that a word makes
@@ -62,5 +62,5 @@ definition_form (Address k) name symbols = option_map (body.Address name k) (exp
 
 -- something that a definition wants after its word does not stand
 abbrev pub definition_lacks : Definition → List Symbol → Bool
-definition_lacks Segment symbols = is_unclosed symbols
+definition_lacks Segment symbols = lacks want.Nothing want.Names symbols
 definition_lacks d symbols = lacks want.Expression want.Nothing symbols

@@ -11,7 +11,7 @@ use Rattle.m51_stmt.specs.declared.directives.Directive.{Directive}
 use Rattle.m51_stmt.specs.declared.directives.Directive.TheVariants as word
 use Rattle.m51_stmt.specs.Statement.{BodyTree, End, Db, Dw, Ds, Dbit, Org, Using, Rseg, Select, Public, Extrn}
 use Rattle.m51_stmt.specs.Statement.{ModuleName}
-use Rattle.m51_stmt.specs.Lack.{lacks, is_unclosed}
+use Rattle.m51_stmt.specs.Lack.{lacks}
 use Rattle.m51_stmt.specs.Lists.{list_of, item, value, expression, name_alone}
 use Rattle.m51_stmt.specs.Externs.{externs, outside, defines_reserved}
 
@@ -74,7 +74,8 @@ directive_form word.End symbols = end_form symbols
 -- after CSEG, DSEG, XSEG, BSEG or ISEG an expression is wanted where AT stands
 abbrev pub select_lacks : List Symbol → Bool
 select_lacks [] = false
-select_lacks (s ∷ rest) = if is_at s then lacks want.Expression want.Nothing rest else is_unclosed (s ∷ rest)
+select_lacks (s ∷ rest) =
+    if is_at s then lacks want.Expression want.Nothing rest else lacks want.Nothing want.Names (s ∷ rest)
 
 -- something that a directive wants after its word does not stand
 abbrev pub directive_lacks : Directive → List Symbol → Bool
@@ -85,7 +86,7 @@ directive_lacks word.Org symbols = lacks want.Expression want.Nothing symbols
 directive_lacks word.Db symbols = lacks want.Item want.Item symbols
 directive_lacks word.Dw symbols = lacks want.Expression want.Expression symbols
 directive_lacks (word.Select k) symbols = select_lacks symbols
-directive_lacks other symbols = is_unclosed symbols
+directive_lacks other symbols = lacks want.Nothing want.Names symbols
 
 -- fault 6 where something lacks, or else this one
 abbrev pub lacking : Bool → ℕ → ℕ

@@ -24,11 +24,13 @@ begins want.Expression s = begins_expression s
 begins want.Item s = begins_expression s || is_text s
 begins want.First s = not (is_text s)
 begins want.Nothing s = true
+begins want.Names s = true
 
 -- what is wanted begins the symbols
 abbrev pub is_met : Want → List Symbol → Bool
 is_met want.First [] = true
 is_met want.Nothing [] = true
+is_met want.Names [] = true
 is_met w [] = false
 is_met w (s ∷ rest) = begins w s
 
@@ -41,42 +43,6 @@ many (Some r) = Some r.1
 abbrev pub after_at : List Symbol → ℕ
 after_at (symbol.Word word ∷ symbol.Plus ∷ rest) = if bytes_eq word (codes "A") then 2 else 0
 after_at other = 0
-
--- nothing more is passed over where this holds, or else something lacks
-abbrev pub none_if : Bool → Option ℕ
-none_if true = Some 0
-none_if false = None
-
--- how many symbols after one belong to it, with which no expression begins: an expression after # and an operator, no
--- operator after a text, what each comma wants
-abbrev pub passed_behind : Want → Symbol → List Symbol → Option ℕ
-passed_behind w symbol.Hash rest = many (expression_in rest)
-passed_behind w (symbol.Infix op) rest = many (expression_in rest)
-passed_behind w (symbol.Text characters) rest = none_if (not (first_is is_operator rest))
-passed_behind w symbol.Comma rest = none_if (is_met w rest)
-passed_behind w symbol.At rest = Some (after_at rest)
-passed_behind w s rest = Some 0
-
--- how many symbols after the first belong to what it begins, or none where something is wanted and does not stand
-unfoldable pub passed : Want → Symbol → List Symbol → Option ℕ
-passed w s rest =
-    if begins_expression s then option_map (λ n. n - 1) (many (expression_in (s ∷ rest))) else passed_behind w s rest
-
--- something lacks, or else this goes on after so many symbols
-abbrev pub or_lacks : Option ℕ → (ℕ → Bool) → Bool
-or_lacks None go = true
-or_lacks (Some n) go = go n
-
--- Something is wanted among the symbols and does not stand. The first ones are passed over, as many as belong to what
--- stands before.
-abbrev pub lacks_after : ℕ → Want → List Symbol → Bool
-lacks_after n w [] = false
-lacks_after n w (s ∷ rest) =
-    if n == 0 then or_lacks (passed w s rest) (λ more. lacks_after more w rest) else lacks_after (n - 1) w rest
-
--- what is wanted first does not begin the symbols, or something is wanted further on and does not stand
-abbrev pub lacks : Want → Want → List Symbol → Bool
-lacks first w symbols = if is_met first symbols then lacks_after 0 w symbols else true
 
 -- a parenthesis is closed, of which so many more are open
 abbrev pub is_closed : List Symbol → ℕ → Bool
@@ -125,7 +91,45 @@ begins_if None = false
 abbrev pub is_parenthesis : List Symbol → Bool
 is_parenthesis symbols = begins_if (operand_in prefix.Nothing symbols) && is_closed symbols 0
 
--- a parenthesis is not right, in a line that has no expression
-abbrev pub is_unclosed : List Symbol → Bool
-is_unclosed [] = false
-is_unclosed (s ∷ rest) = if is_open (Some s) && not (is_parenthesis rest) then true else is_unclosed rest
+-- nothing more is passed over where this holds, or else something lacks
+abbrev pub none_if : Bool → Option ℕ
+none_if true = Some 0
+none_if false = None
+
+-- an expression is to begin with a symbol; in a line without expressions a parenthesis begins a list instead
+abbrev pub is_start : Want → Symbol → Bool
+is_start want.Names symbol.Open = false
+is_start w s = begins_expression s
+
+-- How many symbols after one belong to it, where no expression is to begin with it. In the parenthesis of a list an
+-- expression begins, and it is closed. An expression stands after # and an operator, no operator after a text, and after
+-- a comma what is wanted there.
+abbrev pub passed_behind : Want → Symbol → List Symbol → Option ℕ
+passed_behind w symbol.Open rest = none_if (is_parenthesis rest)
+passed_behind w symbol.Hash rest = many (expression_in rest)
+passed_behind w (symbol.Infix op) rest = many (expression_in rest)
+passed_behind w (symbol.Text characters) rest = none_if (not (first_is is_operator rest))
+passed_behind w symbol.Comma rest = none_if (is_met w rest)
+passed_behind w symbol.At rest = Some (after_at rest)
+passed_behind w s rest = Some 0
+
+-- how many symbols after the first belong to what it begins, or none where something is wanted and does not stand
+unfoldable pub passed : Want → Symbol → List Symbol → Option ℕ
+passed w s rest =
+    if is_start w s then option_map (λ n. n - 1) (many (expression_in (s ∷ rest))) else passed_behind w s rest
+
+-- something lacks, or else this goes on after so many symbols
+abbrev pub or_lacks : Option ℕ → (ℕ → Bool) → Bool
+or_lacks None go = true
+or_lacks (Some n) go = go n
+
+-- Something is wanted among the symbols and does not stand. The first ones are passed over, as many as belong to what
+-- stands before.
+abbrev pub lacks_after : ℕ → Want → List Symbol → Bool
+lacks_after n w [] = false
+lacks_after n w (s ∷ rest) =
+    if n == 0 then or_lacks (passed w s rest) (λ more. lacks_after more w rest) else lacks_after (n - 1) w rest
+
+-- what is wanted first does not begin the symbols, or something is wanted further on and does not stand
+abbrev pub lacks : Want → Want → List Symbol → Bool
+lacks first w symbols = if is_met first symbols then lacks_after 0 w symbols else true

@@ -6,7 +6,7 @@ ghost use Rattle.m51_stmt.specs.Definitions.{definition_form};
 ghost use Rattle.m51_stmt.specs.Definitions.{definition_lacks};
 
 use crate::kinds::{kind_of, reloc_of};
-use crate::lack::{Want, is_unclosed, lacks};
+use crate::lack::{Want, lacks};
 use crate::lists::expression;
 use crate::statement::Body;
 use m51_cells::{Kind, Name, NoMemory, Reloc, allows, may_overlay};
@@ -118,7 +118,7 @@ pub(crate) fn definition_lacks(
     ensures { IfOk result (λ lacks. lacks ≡ definition_lacks definition symbols.now) }
 {
     match definition {
-        Definition::Segment => is_unclosed(alloc, symbols),
+        Definition::Segment => lacks(alloc, Want::Nothing, Want::Names, symbols),
         Definition::Equ | Definition::Set | Definition::Address(_) => {
             lacks(alloc, Want::Expression, Want::Nothing, symbols)
         }

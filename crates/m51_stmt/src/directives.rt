@@ -7,7 +7,7 @@ ghost use Rattle.m51_stmt.specs.Directives.{select_lacks};
 ghost use Rattle.m51_stmt.specs.Directives.{directive_lacks, lacking, reserves, directive_fault};
 
 use crate::externs::{Awaited, Region, defines_reserved, externs_from};
-use crate::lack::{Want, is_unclosed, lacks};
+use crate::lack::{Want, lacks};
 use crate::lists::{expression, items, name_alone, names};
 use crate::statement::Body;
 use m51_cells::{BAD_FORM, Kind, NO_EXPRESSION, NoMemory};
@@ -158,7 +158,7 @@ fn select_lacks(alloc: Global, symbols: &[Symbol]) -> Result<bool, NoMemory>
 {
     match symbols {
         [first, rest @ ..] if is_at(first) => lacks(alloc, Want::Expression, Want::Nothing, rest),
-        _ => is_unclosed(alloc, symbols),
+        _ => lacks(alloc, Want::Nothing, Want::Names, symbols),
     }
 }
 
@@ -174,7 +174,7 @@ fn directive_lacks(alloc: Global, word: Directive, symbols: &[Symbol]) -> Result
         Directive::Dw => lacks(alloc, Want::Expression, Want::Expression, symbols),
         Directive::Select(_) => select_lacks(alloc, symbols),
         Directive::Extrn | Directive::Rseg | Directive::Public | Directive::Name | Directive::End =>
-            { is_unclosed(alloc, symbols) }
+            { lacks(alloc, Want::Nothing, Want::Names, symbols) }
     }
 }
 

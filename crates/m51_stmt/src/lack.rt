@@ -4,18 +4,17 @@ ghost use Rattle.std.specs.Prelude.{option_map, slice_get};
 ghost use Rattle.m51_expr.specs.Ranks.{is_close, leaf_of};
 ghost use Rattle.m51_expr.specs.Reading.{expression_in};
 ghost use Rattle.m51_stmt.specs.Lack.{begins, is_met, many, after_at, none_if};
-ghost use Rattle.m51_stmt.specs.Lack.{passed_behind, passed, lacks_after, lacks};
+ghost use Rattle.m51_stmt.specs.Lack.{is_start, passed_behind, passed, lacks_after, lacks};
 ghost use Rattle.m51_stmt.specs.Lack.{is_closed, prefix_of, operand_in, closes, operand_begins, is_parenthesis};
-ghost use Rattle.m51_stmt.specs.Lack.{is_unclosed};
 
 use crate::words::{begins_expression, begins_operand, first_is_operator, is_text};
 use m51_cells::NoMemory;
-use m51_expr::{ReadError, Symbol, Unary, is_close, is_open, read_expr};
+use m51_expr::{ReadError, Symbol, Unary, is_close, is_open, read_symbols};
 use std::alloc::Global;
 
 /// What is needed after each comma of a line: an operand of an instruction, an expression of DW, an expression or a
-/// text of DB, or nothing, in a line with one expression. The first operand of an instruction may be lacking, but no
-/// text is in its place.
+/// text of DB, or nothing: in a line with one expression, and in one with names only, where a parenthesis begins a
+/// list. The first operand of an instruction may be lacking, but no text is in its place.
 #[derive(Clone, Copy)]
 pub(crate) enum Want {
     Operand,
@@ -23,6 +22,7 @@ pub(crate) enum Want {
     Item,
     First,
     Nothing,
+    Names,
 }
 
 // Whether what is wanted begins with this symbol.
@@ -34,7 +34,7 @@ fn begins(want: Want, symbol: &Symbol) -> bool
         Want::Expression => begins_expression(symbol),
         Want::Item => begins_expression(symbol) || is_text(symbol),
         Want::First => !is_text(symbol),
-        Want::Nothing => true,
+        Want::Nothing | Want::Names => true,
     }
 }
 
@@ -45,7 +45,7 @@ fn is_met(want: Want, symbols: &[Symbol]) -> bool
     match symbols {
         [first, ..] => begins(want, first),
         [] => match want {
-            Want::First | Want::Nothing => true,
+            Want::First | Want::Nothing | Want::Names => true,
             Want::Operand | Want::Expression | Want::Item => false,
         },
     }
@@ -56,7 +56,7 @@ fn expression_len(alloc: Global, symbols: &[Symbol]) -> Result<Option<usize>, No
     ensures len { IfOk result (λ len. len ≡ many (expression_in symbols.now)) }
     ensures within { IfOk result (λ len. IfSome len (λ n. (0 < n) × (n ≤ length symbols.now))) }
 {
-    match read_expr(alloc, symbols) {
+    match read_symbols(alloc, symbols) {
         Ok((_value, many)) => Ok(Some(many)),
         Err(ReadError::Fault { .. }) => Ok(None),
         Err(ReadError::Memory) => Err(NoMemory),
@@ -90,7 +90,17 @@ fn none_if(holds: bool) -> Option<usize>
     if holds { Some(0) } else { None }
 }
 
-// How many symbols after one belong to it, with which no expression begins.
+// Whether an expression is to begin with a symbol.
+fn is_start(want: Want, symbol: &Symbol) -> bool
+    ensures { result ≡ is_start want symbol.now }
+{
+    match (want, symbol) {
+        (Want::Names, Symbol::Open) => false,
+        _ => begins_expression(symbol),
+    }
+}
+
+// How many symbols after one belong to it, where no expression is to begin with it.
 fn passed_behind(
     alloc: Global,
     want: Want,
@@ -100,6 +110,7 @@ fn passed_behind(
     ensures { IfOk result (λ len. len ≡ passed_behind want symbol.now rest.now) }
 {
     match symbol {
+        Symbol::Open => Ok(none_if(is_parenthesis(alloc, rest)?)),
         Symbol::Hash | Symbol::Infix(_) => expression_len(alloc, rest),
         Symbol::Text(_) => Ok(none_if(!first_is_operator(rest))),
         Symbol::Comma => Ok(none_if(is_met(want, rest))),
@@ -120,7 +131,7 @@ fn passed(
     requires { symbols.now ≡ first.now ∷ rest.now }
     ensures { IfOk result (λ len. len ≡ passed want first.now rest.now) }
 {
-    if begins_expression(first) {
+    if is_start(want, first) {
         rest_len(alloc, symbols)
     } else {
         passed_behind(alloc, want, first, rest)
@@ -261,20 +272,5 @@ fn is_parenthesis(alloc: Global, symbols: &[Symbol]) -> Result<bool, NoMemory>
     match operand_in(Prefix::Nothing, symbols) {
         Some(operand) => Ok(operand_begins(alloc, operand)? && is_closed(symbols, 0)),
         None => Ok(false),
-    }
-}
-
-/// Whether a parenthesis is not right, in a line that has no expression.
-pub(crate) fn is_unclosed(alloc: Global, symbols: &[Symbol]) -> Result<bool, NoMemory>
-    ensures { IfOk result (λ lacks. lacks ≡ is_unclosed symbols.now) }
-{
-    match symbols {
-        [] => Ok(false),
-        [first, rest @ ..] => {
-            if is_open(Some(first)) && !is_parenthesis(alloc, rest)? {
-                return Ok(true);
-            }
-            is_unclosed(alloc, rest)
-        }
     }
 }

@@ -7,7 +7,7 @@ ghost use Rattle.m51_stmt.specs.Lists.{item_of, item_trees};
 
 use crate::words::is_comma;
 use m51_cells::{Bytes, ListOf, Name, Names, NoMemory};
-use m51_expr::{Expr, Item, Items, ReadError, Symbol, read_expr};
+use m51_expr::{Expr, Item, Items, ReadError, Symbol, read_symbols};
 use std::alloc::Global;
 
 /// How many symbols come before the first comma.
@@ -42,7 +42,7 @@ pub(crate) fn name_alone(symbols: &[Symbol]) -> Option<Name>
 pub(crate) fn expression(alloc: Global, symbols: &[Symbol]) -> Result<Option<Expr>, NoMemory>
     ensures { IfOk result (λ found. option_map tree_of found ≡ expression symbols.now) }
 {
-    match read_expr(alloc, symbols) {
+    match read_symbols(alloc, symbols) {
         Ok((value, many)) if many == symbols.len() => Ok(Some(value)),
         Ok(_) | Err(ReadError::Fault { .. }) => Ok(None),
         Err(ReadError::Memory) => Err(NoMemory),

@@ -4,7 +4,7 @@ use Rattle.std.specs.Prelude.{IsErrAnd}
 use Rattle.clap.specs.Words.{App, Row}
 use Rattle.m51_words.specs.declared.error.WordsError.{WordsError}
 use Rattle.m51_words.specs.declared.error.WordsError.TheVariants.{Usage, Memory}
-use Rattle.m51_words.specs.declared.job.Job.{Job}
+use Rattle.m51_jobs.specs.declared.job.Job.{Job}
 use Rattle.m51_words.specs.Asks.{AsksFor}
 use Rattle.m51_words.specs.Commands.{rows_in}
 use Rattle.m51_words.specs.Jobs.{asked}

@@ -2,19 +2,19 @@
 use Rattle.std.specs.Prelude.{ℕ, List, [], ◌∷◌, Option, Some, None, codes, option_map, option_and_then, if◌then◌else◌}
 use Rattle.std.specs.Str.{bytes_eq}
 use Rattle.clap.specs.Words.{App, Row}
-use Rattle.m51_words.specs.declared.job.AsmJob.{AsmJob}
-use Rattle.m51_words.specs.declared.job.BuildJob.{BuildJob}
-use Rattle.m51_words.specs.declared.job.FlatJob.{FlatJob}
-use Rattle.m51_words.specs.declared.job.GenJob.{GenJob}
-use Rattle.m51_words.specs.declared.job.LibraryJob.{LibraryJob}
-use Rattle.m51_words.specs.declared.job.LinkJob.{LinkJob}
-use Rattle.m51_words.specs.declared.job.PartyJob.{PartyJob}
-use Rattle.m51_words.specs.declared.job.Job.{Job}
-use Rattle.m51_words.specs.declared.job.Job.TheVariants.{Build, Asm, Library, Flat, Gen, Dis, Stack, Party}
+use Rattle.m51_jobs.specs.declared.job.AsmJob.{AsmJob}
+use Rattle.m51_jobs.specs.declared.job.BuildJob.{BuildJob}
+use Rattle.m51_jobs.specs.declared.job.FlatJob.{FlatJob}
+use Rattle.m51_jobs.specs.declared.job.GenJob.{GenJob}
+use Rattle.m51_jobs.specs.declared.job.LibraryJob.{LibraryJob}
+use Rattle.m51_jobs.specs.declared.job.LinkJob.{LinkJob}
+use Rattle.m51_jobs.specs.declared.job.PartyJob.{PartyJob}
+use Rattle.m51_jobs.specs.declared.job.Job.{Job}
+use Rattle.m51_jobs.specs.declared.job.Job.TheVariants.{Build, Asm, Library, Flat, Gen, Dis, Stack, Party}
 use Rattle.m51_words.specs.Commands.{build_app, asm_app, lib_app, flat_app, gen_app, dis_app, stack_app, party_app}
 use Rattle.m51_words.specs.Commands.{rows_in, value_of, words_of}
-use Rattle.m51_words.specs.Endings.{are_built, are_assembled, are_boards}
-use Rattle.m51_words.specs.Numbers.{steps_of, start_of, units_of}
+use Rattle.m51_jobs.specs.Endings.{are_built, are_assembled, are_boards}
+use Rattle.m51_jobs.specs.Numbers.{steps_of, start_of, units_of}
 use Rattle.m51_words.specs.Operations.{library_job}
 
 -- a number of steps

@@ -3,10 +3,10 @@ use Rattle.std.specs.Prelude.{ℕ, List, [], ◌∷◌, ◌++◌, Option, Some, 
 use Rattle.std.specs.Prelude.{if◌then◌else◌}
 use Rattle.std.specs.Str.{bytes_eq}
 use Rattle.m51_cells.specs.Name.{name_of}
-use Rattle.m51_words.specs.declared.job.LibraryJob.{LibraryJob}
-use Rattle.m51_words.specs.declared.job.Operation.{Operation}
-use Rattle.m51_words.specs.declared.job.Operation.TheVariants as operation
-use Rattle.m51_words.specs.Endings.{are_objects}
+use Rattle.m51_jobs.specs.declared.job.LibraryJob.{LibraryJob}
+use Rattle.m51_jobs.specs.declared.job.Operation.{Operation}
+use Rattle.m51_jobs.specs.declared.job.Operation.TheVariants as operation
+use Rattle.m51_jobs.specs.Endings.{are_objects}
 
 -- one or more objects
 abbrev pub objects_of : List (List ℕ) → Option (List (List ℕ))

@@ -4,15 +4,14 @@ ghost use Rattle.clap.specs.Words.{found_of, rows_of};
 ghost use Rattle.m51_words.specs.Asks.{AsksFor};
 ghost use Rattle.m51_words.specs.Commands.{dis_app, stack_app};
 ghost use Rattle.m51_words.specs.Jobs.{link_of, asked};
-ghost use Rattle.m51_words.specs.Texts.{texts};
+ghost use Rattle.m51_jobs.specs.Texts.{texts};
 
 use crate::commands::{matches_in, verb};
-use crate::endings::are_built;
 use crate::error::WordsError;
-use crate::job::{Job, LinkJob};
 use crate::library_words::file_names;
 use crate::reading::{file_of, words_of};
 use clap::ArgMatches;
+use m51_jobs::{Job, LinkJob, are_built};
 use std::alloc::Global;
 
 // What the matches of `dis` or `stack` ask for.

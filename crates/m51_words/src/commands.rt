@@ -4,7 +4,7 @@ ghost use Rattle.clap.specs.Words.{app_of, found_of, is_simple, is_simple_and_fr
 ghost use Rattle.clap.specs.Words.{with_rule};
 ghost use Rattle.m51_words.specs.Asks.{AsksFor, refused_by};
 ghost use Rattle.m51_words.specs.Commands.{option_rule, words_rule, with_options, bare_app, verb_app, rows_in};
-ghost use Rattle.m51_words.specs.Texts.{lent, texts};
+ghost use Rattle.m51_jobs.specs.Texts.{lent, texts};
 
 use crate::error::WordsError;
 use clap::error::ErrorKind;

@@ -3,20 +3,15 @@
 
 mod analysis_verbs;
 mod commands;
-mod endings;
 mod error;
-mod file_name;
-mod job;
 mod library_words;
-mod names;
-mod numbers;
 mod reading;
 mod verbs;
 
-pub use endings::{Ending, LEAST_BOARDS, MOST_BOARDS, ending_of, is_include, is_source};
 pub use error::WordsError;
-pub use file_name::{FileName, FileNames};
-pub use job::{AsmJob, BuildJob, FlatJob, GenJob, Job, LibraryJob, LinkJob, Operation, PartyJob};
-pub use names::{file_count, name_kept, names_read};
-pub use numbers::{MOST_GENERATED_UNITS, Steps};
+pub use m51_jobs::{
+    AsmJob, BuildJob, Ending, FileName, FileNames, FlatJob, GenJob, Job, LEAST_BOARDS, LibraryJob,
+    LinkJob, MOST_BOARDS, MOST_GENERATED_UNITS, Operation, PartyJob, Steps, ending_of, file_count,
+    is_include, is_source, name_kept, names_read,
+};
 pub use verbs::job_of;

@@ -4,13 +4,11 @@ ghost use Rattle.std.specs.Char.{to_ascii_uppercase};
 ghost use Rattle.m51_words.specs.Asks.{AsksFor};
 ghost use Rattle.m51_words.specs.Operations.{objects_of, names_in, names_of, extract_of, list_of, operation_of};
 ghost use Rattle.m51_words.specs.Operations.{library_job};
-ghost use Rattle.m51_words.specs.Texts.{lent};
+ghost use Rattle.m51_jobs.specs.Texts.{lent};
 
-use crate::endings::are_objects;
 use crate::error::WordsError;
-use crate::file_name::{FileName, FileNames};
-use crate::job::{LibraryJob, Operation};
 use m51_cells::{Name, Names, NoMemory};
+use m51_jobs::{FileName, FileNames, LibraryJob, Operation, are_objects};
 use std::alloc::Global;
 
 // Copies of names of files.

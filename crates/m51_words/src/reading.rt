@@ -4,14 +4,13 @@ ghost use Rattle.clap.specs.Words.{found_of, rows_of};
 ghost use Rattle.m51_words.specs.Asks.{AsksFor};
 ghost use Rattle.m51_words.specs.Commands.{value_of, words_of};
 ghost use Rattle.m51_words.specs.Jobs.{steps_in};
-ghost use Rattle.m51_words.specs.Texts.{lent};
+ghost use Rattle.m51_jobs.specs.Texts.{lent};
 ghost use Rattle.std.specs.Prelude.{option_map, codes};
 
 use crate::error::WordsError;
-use crate::file_name::FileName;
-use crate::numbers::{Steps, steps_of};
 use clap::ArgMatches;
 use m51_cells::NoMemory;
+use m51_jobs::{FileName, Steps, steps_of};
 use std::alloc::Global;
 
 // The value of an option.

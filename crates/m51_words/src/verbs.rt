@@ -4,18 +4,18 @@ ghost use Rattle.clap.specs.Words.{found_of, rows_of};
 ghost use Rattle.m51_words.specs.Asks.{AsksFor};
 ghost use Rattle.m51_words.specs.Commands.{build_app, asm_app, lib_app, flat_app, gen_app, party_app};
 ghost use Rattle.m51_words.specs.Jobs.{build_of, asm_of, lib_of, flat_of, gen_of, party_of, asked, job_by, job_of};
-ghost use Rattle.m51_words.specs.Texts.{texts};
+ghost use Rattle.m51_jobs.specs.Texts.{texts};
 
 use crate::analysis_verbs::{dis_job, stack_job};
 use crate::commands::{bare_verb, matches_in, verb};
-use crate::endings::{are_assembled, are_boards, are_built};
 use crate::error::WordsError;
-use crate::file_name::FileName;
-use crate::job::{AsmJob, BuildJob, FlatJob, GenJob, Job, LibraryJob, PartyJob};
 use crate::library_words::{file_names, library_job};
-use crate::numbers::{start_of, units_of};
 use crate::reading::{file_of, steps_in, value_of, words_of};
 use clap::ArgMatches;
+use m51_jobs::{
+    AsmJob, BuildJob, FileName, FlatJob, GenJob, Job, LibraryJob, PartyJob, are_assembled,
+    are_boards, are_built, start_of, units_of,
+};
 use std::alloc::Global;
 
 // What the matches of `build` ask for.

@@ -1,6 +1,6 @@
 use Rattle.std.proofs.Common.{◌≡◌, drop, slice_get}
 use Rattle.std.specs.List.{filter}
-use Rattle.m51_words.specs.Endings.{is_include}
+use Rattle.m51_jobs.specs.Endings.{is_include}
 use Rattle.m51_chain.proofs.faulting.include_at.Given as goal
 
 abbrev pub invariant-loop-file : goal.invariant-loop-file

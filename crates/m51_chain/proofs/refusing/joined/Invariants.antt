@@ -1,6 +1,6 @@
 use Rattle.std.proofs.Common.{◌≡◌, ℕ, List, ◌++◌, drop}
 use Rattle.std.specs.Prelude.{fold}
-use Rattle.m51_words.specs.Texts.{lent}
+use Rattle.m51_jobs.specs.Texts.{lent}
 use Rattle.m51_chain.specs.Refusals.{joined}
 use Rattle.m51_chain.proofs.refusing.joined.Given as goal
 

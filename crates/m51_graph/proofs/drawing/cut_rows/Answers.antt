@@ -1,7 +1,7 @@
 use Rattle.std.proofs.Common.{◌||◌, ℕ, Bool, List, length, ap, ◌∙◌}
 use Rattle.m51_control.specs.declared.control.Control.{Control}
 use Rattle.m51_graph.specs.Drawing.{cuts}
-use Rattle.m51_graph.specs.Rows.{pairs}
+use Rattle.m51_relations.specs.Rows.{pairs}
 use Rattle.m51_graph.proofs.Cutting.{lines_more}
 use Rattle.m51_graph.proofs.drawing.cut_rows.Goals as goal
 

@@ -2,7 +2,7 @@ use Rattle.std.proofs.Common.{◌||◌, ℕ, List, Option, length, sym, ap, subs
 use Rattle.std.specs.Prelude.{IfSome}
 use Rattle.m51_graph.specs.Conditions.{IsWithin}
 use Rattle.m51_graph.specs.Drawing.{edge_named, is_edge}
-use Rattle.m51_graph.specs.Rows.{pairs}
+use Rattle.m51_relations.specs.Rows.{pairs}
 use Rattle.m51_graph.proofs.Cutting.{names_more, named_there}
 use Rattle.m51_graph.proofs.drawing.put_named.Goals as goal
 

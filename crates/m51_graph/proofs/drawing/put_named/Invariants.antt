@@ -1,7 +1,7 @@
 use Rattle.std.proofs.Common.{◌≡◌, ◌||◌, ℕ, take}
 use Rattle.std.specs.List.{list_any}
 use Rattle.m51_graph.specs.Drawing.{edge_named, is_edge}
-use Rattle.m51_graph.specs.Rows.{pairs}
+use Rattle.m51_relations.specs.Rows.{pairs}
 use Rattle.m51_graph.proofs.drawing.put_named.Given as goal
 
 abbrev pub invariant-loop-name : goal.invariant-loop-name

@@ -1,6 +1,6 @@
 use Rattle.std.proofs.Common.{ℕ, ◌∙◌}
 use Rattle.m51_graph.specs.Drawing.{is_cut}
-use Rattle.m51_graph.specs.Rows.{pairs}
+use Rattle.m51_relations.specs.Rows.{pairs}
 use Rattle.m51_graph.proofs.Cutting.{same_left}
 use Rattle.m51_graph.proofs.drawing.uncut.Goals as goal
 

@@ -4,7 +4,7 @@ use Rattle.std.proofs.lemmas.Result.{err_from_is_err_and}
 use Rattle.m51_cells.specs.Outcome.{RefusesWith}
 use Rattle.m51_module.specs.declared.linked.Refusal.{Refusal}
 use Rattle.m51_resolve.specs.Rules.{but_memory}
-use Rattle.m51_graph.specs.Rows.{pairs}
+use Rattle.m51_relations.specs.Rows.{pairs}
 use Rattle.m51_graph.specs.Graphs.{passed, unit_under_two, first_under_two}
 use Rattle.m51_graph.proofs.Judged.{passed_none, refuses_more, first_step, first_goes_on}
 use Rattle.m51_graph.proofs.judging.check_units.Goals as goal

@@ -1,5 +1,5 @@
 use Rattle.std.proofs.Common.{◌≡◌, ◌++◌, drop}
-use Rattle.m51_graph.specs.Rows.{pairs}
+use Rattle.m51_relations.specs.Rows.{pairs}
 use Rattle.m51_graph.specs.Graphs.{cyclic_from}
 use Rattle.m51_graph.proofs.judging.cyclic_titles.Given as goal
 

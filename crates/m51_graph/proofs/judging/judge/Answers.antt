@@ -2,7 +2,7 @@ use Rattle.std.proofs.Common.{◌≡◌, ℕ, Bool, sym, ap, subst, ◌∙◌}
 use Rattle.m51_cells.specs.Outcome.{Gives}
 use Rattle.m51_module.specs.Walks.{Edges}
 use Rattle.m51_resolve.specs.Rules.{but_memory}
-use Rattle.m51_graph.specs.Rows.{pairs}
+use Rattle.m51_relations.specs.Rows.{pairs}
 use Rattle.m51_graph.specs.Graph.{LeadWithin}
 use Rattle.m51_graph.specs.Graphs.{judged_by}
 use Rattle.m51_graph.specs.Leading.{leads}

@@ -1,9 +1,9 @@
 use Rattle.std.proofs.Common.{◌≡◌, ◌||◌, ◌+◌, ◌/◌, ℕ, List, length, ap, ◌∙◌, arith}
 use Rattle.std.proofs.lemmas.List.{length-replicate, take_all}
 use Rattle.m51_control.specs.declared.control.Control.{Control}
-use Rattle.m51_graph.specs.Bits.{bit}
+use Rattle.m51_relations.specs.Bits.{bit}
 use Rattle.m51_graph.specs.Locals.{is_apart, keeps_apart}
-use Rattle.m51_graph.proofs.BitLaws.{bit_none}
+use Rattle.m51_relations.proofs.BitLaws.{bit_none}
 use Rattle.m51_graph.proofs.Cutting.{apart_more, same_units}
 use Rattle.m51_graph.proofs.locals.apart_units.Goals as goal
 

@@ -1,6 +1,6 @@
 use Rattle.std.proofs.Common.{ℕ, get_or, ◌∙◌, arith}
 use Rattle.m51_module.specs.Walks.{Edges}
-use Rattle.m51_graph.specs.Rows.{pairs}
+use Rattle.m51_relations.specs.Rows.{pairs}
 use Rattle.m51_graph.proofs.Climbing.{Ends, ends_within}
 use Rattle.m51_graph.proofs.Closed.{caller_more}
 use Rattle.m51_graph.proofs.reaching.caller_rows.Goals as goal

@@ -1,5 +1,5 @@
 use Rattle.std.proofs.Common.{◌≡◌, take}
-use Rattle.m51_graph.specs.Rows.{flipped, pairs}
+use Rattle.m51_relations.specs.Rows.{flipped, pairs}
 use Rattle.m51_graph.specs.Drawing.{edge_test}
 use Rattle.m51_graph.proofs.reaching.caller_rows.Given as goal
 

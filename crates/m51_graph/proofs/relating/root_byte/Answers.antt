@@ -1,6 +1,6 @@
 use Rattle.std.proofs.Common.{ℕ, ◌+◌, ◌*◌, Bool, sym, subst, ◌∙◌}
 use Rattle.m51_module.specs.Roots.{vectors}
-use Rattle.m51_graph.specs.Rows.{pairs}
+use Rattle.m51_relations.specs.Rows.{pairs}
 use Rattle.m51_graph.specs.Graphs.{lies_under}
 use Rattle.m51_graph.specs.Relating.{AddsBits}
 use Rattle.m51_graph.proofs.Bytes.{adds_set, adds_clear}

@@ -1,5 +1,5 @@
 use Rattle.m51_module.specs.Roots.{vectors}
-use Rattle.m51_graph.specs.Rows.{pairs}
+use Rattle.m51_relations.specs.Rows.{pairs}
 use Rattle.m51_graph.specs.Graphs.{lies_under}
 use Rattle.m51_graph.specs.Relating.{AddsBits}
 use Rattle.m51_graph.proofs.relating.root_byte.Given as goal

@@ -1,6 +1,6 @@
 use Rattle.std.proofs.Common.{◌≡◌, [], ◌∷◌, ◌++◌, length, ap, ◌∙◌, arith}
 use Rattle.std.proofs.lemmas.Result.{err_from_is_err_and}
-use Rattle.m51_records.specs.Fields.{refusal_of}
+use Rattle.m51_frame.specs.Fields.{refusal_of}
 use Rattle.m51_library.specs.Reading.{modules_at}
 use Rattle.m51_library.proofs.Following.{one_more, one_refused, all_read, bytes_more, grown}
 use Rattle.m51_library.proofs.modules.modules_at.Goals as goal

@@ -6,7 +6,8 @@ use Rattle.m51_cells.specs.declared.extent.Extent.{Extent}
 use Rattle.m51_module.specs.declared.placed.Placed.{Placed}
 use Rattle.m51_place.specs.Bases.{least_base}
 use Rattle.m51_place.specs.Placement.{conflicting}
-use Rattle.m51_place.specs.Raising.{EndsWithin, extents_in}
+use Rattle.m51_bases.specs.Raising.{EndsWithin}
+use Rattle.m51_place.specs.InTheWay.{extents_in}
 use Rattle.m51_place.proofs.Clearing.{found_below, least_is}
 use Rattle.m51_place.proofs.Conflicting.{in_the_way_is}
 use Rattle.m51_place.proofs.bases.base_for.Goals as goal

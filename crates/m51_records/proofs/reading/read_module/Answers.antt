@@ -1,5 +1,5 @@
 use Rattle.std.proofs.Common.{subst}
-use Rattle.m51_records.specs.Fields.{Reads}
+use Rattle.m51_frame.specs.Fields.{Reads}
 use Rattle.m51_records.proofs.ModuleAgain.{read_again}
 use Rattle.m51_records.proofs.reading.read_module.Goals as goal
 

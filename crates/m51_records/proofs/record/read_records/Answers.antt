@@ -1,7 +1,7 @@
 use Rattle.std.proofs.Common.{[], ◌∷◌, ◌++◌, ◌+◌, length, sym, ap, subst, ◌∙◌, arith}
 use Rattle.std.proofs.lemmas.Result.{err_from_is_err_and}
 use Rattle.m51_cells.specs.Outcome.{RefusesWith}
-use Rattle.m51_records.specs.Fields.{refusal_of}
+use Rattle.m51_frame.specs.Fields.{refusal_of}
 use Rattle.m51_records.specs.Reading.{all_at}
 use Rattle.m51_records.proofs.Standing.{frame_stops, value_stops, one_more, all_read, length_push}
 use Rattle.m51_records.proofs.record.read_records.Goals as goal

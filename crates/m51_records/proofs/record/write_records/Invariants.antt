@@ -1,6 +1,6 @@
 use Rattle.std.proofs.Common.{◌≡◌, ◌++◌, take}
 use Rattle.std.specs.List.{flat_map}
-use Rattle.m51_records.specs.Frame.{record_of}
+use Rattle.m51_frame.specs.Frame.{record_of}
 use Rattle.m51_records.proofs.record.write_records.Given as goal
 
 abbrev pub invariant-loop-item : goal.invariant-loop-item

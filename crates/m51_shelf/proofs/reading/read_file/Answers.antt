@@ -1,4 +1,4 @@
-use Rattle.std.proofs.Common.{string_bytes}
+use Rattle.std.proofs.Common.{[], arith, string_bytes}
 use Rattle.std.proofs.lemmas.Result.{err_from_is_err_and}
 use Rattle.m51_shelf.proofs.Handing.{started_given}
 use Rattle.m51_shelf.proofs.reading.read_file.Goals as goal
@@ -11,4 +11,4 @@ returns-clause-given g c =
 pub returns-in_err-start-clause-given : goal.returns-in_err-start-clause-given
 returns-in_err-start-clause-given g c =
     let p = err_from_is_err_and c.from_residual.result c.from_residual.ensures.1 in
-    rw (p.1) (record { bytes = _; grows = c.in_err-start.ensures.given; all = tt })
+    rw (p.1) (record { bytes = []; most = omega arith; grows = c.in_err-start.ensures.given; all = tt })

@@ -1,7 +1,7 @@
 use Rattle.std.proofs.Common.{◌≡◌, rules}
 use Rattle.clap.specs.Words.{app_of, found_of, rows_of}
 use Rattle.clap.specs.declared.parser.matches.ArgMatches.{ArgMatches}
-use Rattle.m51_words.specs.declared.job.Job.TheVariants.{Dis}
+use Rattle.m51_jobs.specs.declared.job.Job.TheVariants.{Dis}
 use Rattle.m51_words.specs.Commands.{dis_app}
 use Rattle.m51_words.specs.Jobs.{link_of}
 use Rattle.m51_words.proofs.Asking.{asked_err, asked_some, unmatched_err}

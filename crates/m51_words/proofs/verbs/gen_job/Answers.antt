@@ -1,6 +1,6 @@
 use Rattle.std.proofs.Common.{◌≡◌, rules, sym}
 use Rattle.clap.specs.Words.{app_of}
-use Rattle.m51_words.specs.declared.job.Job.TheVariants.{Gen}
+use Rattle.m51_jobs.specs.declared.job.Job.TheVariants.{Gen}
 use Rattle.m51_words.specs.Commands.{gen_app}
 use Rattle.m51_words.specs.Jobs.{gen_of}
 use Rattle.m51_words.proofs.Asking.{asked_some, asked_none}

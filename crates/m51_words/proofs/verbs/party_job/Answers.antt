@@ -1,7 +1,7 @@
 use Rattle.std.proofs.Common.{◌≡◌, rules}
 use Rattle.clap.specs.Words.{app_of, found_of, rows_of}
 use Rattle.clap.specs.declared.parser.matches.ArgMatches.{ArgMatches}
-use Rattle.m51_words.specs.declared.job.Job.TheVariants.{Party}
+use Rattle.m51_jobs.specs.declared.job.Job.TheVariants.{Party}
 use Rattle.m51_words.specs.Commands.{party_app}
 use Rattle.m51_words.specs.Jobs.{party_of}
 use Rattle.m51_words.proofs.Asking.{asked_err, asked_some, unmatched_err}

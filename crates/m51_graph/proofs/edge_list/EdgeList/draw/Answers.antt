@@ -1,7 +1,7 @@
 use Rattle.std.proofs.Common.{◌≡◌, ℕ, Bool, sym, ap, ◌∙◌}
 use Rattle.m51_module.specs.Walks.{Edges}
 use Rattle.m51_graph.specs.Drawing.{edge_test}
-use Rattle.m51_graph.specs.Rows.{pairs}
+use Rattle.m51_relations.specs.Rows.{pairs}
 use Rattle.m51_graph.proofs.Seen.{seen_more, with_new, with_old}
 use Rattle.m51_graph.proofs.edge_list.EdgeList.draw.Goals as goal
 

@@ -1,6 +1,6 @@
 use Rattle.std.proofs.Common.{◌≡◌, ◌<◌, ℕ, Bool, length, true, sym, ap, subst, ◌∙◌, arith}
 use Rattle.std.proofs.lemmas.Bool.Decides.{Decides-at}
-use Rattle.m51_graph.specs.Bits.{bit, words_for}
+use Rattle.m51_relations.specs.Bits.{bit, words_for}
 use Rattle.m51_graph.proofs.Deciding.{leads_tells}
 use Rattle.m51_graph.proofs.Relations.{reach_within}
 use Rattle.m51_graph.proofs.graphs.Graph.row.Goals as goal

@@ -2,7 +2,7 @@ use Rattle.std.proofs.Common.{ℕ, nat_eq, ap, ◌∙◌}
 use Rattle.std.specs.Cmp.Lexicographic.{pointwise}
 use Rattle.std.specs.Global.{Vec}
 use Rattle.std.specs.List.{list_any}
-use Rattle.m51_records.specs.Fields.{is_among}
+use Rattle.m51_frame.specs.Fields.{is_among}
 use Rattle.m51_records.proofs.SeenLaws.{among_is}
 use Rattle.m51_records.proofs.seen.Seen.has.Goals as goal
 

@@ -1,0 +1,10 @@
+//! Records of object files: what is round their contents, and their fields from left to right.
+#![tactic(auto)]
+
+mod fields;
+mod frame;
+mod names;
+
+pub use fields::{absent, broken, byte_at, pair, pair_at, place, put_pair, put_text, text_at};
+pub use frame::{begins, checksum_place, put_record, record_at, record_bytes};
+pub use names::{same, upper_name};

@@ -1,0 +1,4 @@
+pub mod Faults
+pub mod Limits
+pub mod Records
+pub mod Statuses

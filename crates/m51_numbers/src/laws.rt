@@ -1,0 +1,38 @@
+//! What number each constant is. Each law but the last is the contract of a function that does nothing.
+ghost use Rattle.std.specs.Prelude.{◌≡◌};
+ghost use Rattle.m51_numbers.specs.Faults.{FaultsHaveNumbers};
+ghost use Rattle.m51_numbers.specs.Limits.{LimitsHaveNumbers};
+ghost use Rattle.m51_numbers.specs.Records.{RecordsHaveTypes};
+ghost use Rattle.m51_numbers.specs.Statuses.{number_of};
+
+use m51_chain::Status;
+
+/// The faults of a source have the numbers 1 to 19.
+///
+/// Source: own choice ("Numbers on one page").
+pub fn faults_have_numbers()
+    ensures { FaultsHaveNumbers }
+{}
+
+/// How large things may be.
+///
+/// Source: own choice ("Numbers on one page").
+pub fn limits_have_numbers()
+    ensures { LimitsHaveNumbers }
+{}
+
+/// The records of an object and of a library have these types.
+///
+/// Source: OMF-51.
+pub fn records_have_types()
+    ensures { RecordsHaveTypes }
+{}
+
+/// The exit status of the command for the way in which it ends: what the program makes of it.
+///
+/// Source: own choice ("Numbers on one page").
+pub fn status_number(status: Status) -> u8
+    ensures { result ≡ number_of status }
+{
+    status as u8
+}

@@ -1,2 +1,0 @@
-mod GivenRows
-mod OneOfEach

@@ -1,0 +1,3 @@
+; the display keeps these bytes
+RESERVE(DATA(8-9))
+ORDER(CODE, ?PR?CONV)

@@ -1,0 +1,1 @@
+OVERLAY(?PR?F > ?PR?G)

@@ -1,0 +1,2 @@
+; none
+NOOVERLAY(?PR?X)

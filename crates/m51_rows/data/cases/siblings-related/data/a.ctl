@@ -1,0 +1,1 @@
+overlay(?pr?f > ?pr?g)

@@ -1,0 +1,3 @@
+CSEG AT 0
+DB 000H
+END

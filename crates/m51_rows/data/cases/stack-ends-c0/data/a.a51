@@ -1,0 +1,3 @@
+CSEG AT 0
+DB 0C0H
+END

@@ -1,0 +1,1 @@
+RESERVE(DATA(0-0))

@@ -1,0 +1,93 @@
+"""The unproved program: compiled once, and kept with its stamp."""
+import os
+import signal
+import subprocess
+import time
+
+from stand_in import TOOLCHAIN, StandIn
+
+GEN = ['gen', '--units', '1', '--start', '1', '--steps', '1']
+
+
+class Unproved(StandIn):
+    def start(self, *words):
+        """Starts a call in the background."""
+        return subprocess.Popen(
+            [self.script_path, *words], cwd=self.folder, env=self.environment, stdin=subprocess.DEVNULL,
+            stdout=subprocess.PIPE, stderr=subprocess.PIPE, start_new_session=True)
+
+    def test_compiled_once(self):
+        status, text, said = self.call('build', '--steps', '7', 'a.a51')
+        self.assertEqual((status, text), (0, 'm51-unproved build --steps 7 a.a51\n'))
+        self.assertIn('compiling', said)
+        elsewhere = os.path.join('..', os.path.basename(self.folder), 'a.a51')
+        self.assertEqual(self.call('asm', '--out', 'x.obj', elsewhere, STATUS='3')[0], 3)
+        said = self.call(*GEN)[2]
+        self.assertEqual((said.count('\n'), 'without a proof' in said), (1, True))
+        self.assertEqual(self.compiled(), 1)
+        self.assertIn('the unproved program /', self.call('--version')[1])
+        self.assertEqual(self.left(), [])
+        with open(self.environment['CALLS'] + '.pid') as file, self.assertRaises(ProcessLookupError):
+            os.kill(int(file.read()), 0)
+
+    def test_compiled_again_when_a_source_or_the_toolchain_changes(self):
+        self.call(*GEN)
+        self.change_source()
+        self.call(*GEN)
+        self.assertEqual(self.compiled(), 1, 'the same text')
+        self.change_source('fn other')
+        self.call(*GEN)
+        self.assertEqual(self.compiled(), 2, 'another text')
+        self.script('bin/rt', TOOLCHAIN + '# moved\n')
+        self.call(*GEN)
+        self.assertEqual(self.compiled(), 2, 'the same toolchain')
+        self.script('bin/rt', TOOLCHAIN + '# another one\n')
+        self.call(*GEN, VERSION='kit 2')
+        self.assertEqual(self.compiled(), 3, 'another toolchain')
+        os.remove(self.path('top', 'crates', 'm51', 'src', 'main.rt'))
+        self.call(*GEN, VERSION='kit 2')
+        self.assertEqual(self.compiled(), 4, 'a source less')
+
+    def test_beside_a_proved_program(self):
+        self.prove()
+        self.assertEqual(self.call(*GEN)[1].split()[0], 'm51')
+        self.assertEqual(self.call(*GEN, M51_UNPROVED='1')[1].split()[0], 'm51-unproved')
+        self.assertEqual(self.compiled(), 1)
+
+    def test_a_line_every_ten_seconds(self):
+        self.environment['SECONDS_OF_COMPILING'] = '22'
+        said = self.call(*GEN)[2]
+        self.assertRegex(said, r'm51: compiling: 1\d seconds\n(.*\n)*m51: compiling: 2\d seconds\n')
+
+    def test_interrupt(self):
+        self.environment['SECONDS_OF_COMPILING'] = '600'
+        job = self.start('dis', 'a.a51')
+        for _ in range(600):
+            if any(name.startswith('rt-try') for folder in self.left() for name in os.listdir(self.path(folder))):
+                break
+            time.sleep(0.1)
+        os.killpg(job.pid, signal.SIGINT)
+        said = job.communicate()[1]
+        self.assertNotIn(b'Traceback', said)
+        self.assertEqual(job.returncode, -signal.SIGINT)
+        self.assertEqual(self.left(), [])
+        self.assertEqual(os.listdir(self.out), ['m51-unproved.lock'])
+
+    def test_several_calls_compile_once(self):
+        jobs = [self.start('dis', 'a.a51') for _ in range(3)]
+        self.assertEqual([job.communicate()[0] for job in jobs], [b'm51-unproved dis a.a51\n'] * 3)
+        self.assertEqual(self.compiled(), 1)
+
+    def test_no_program_comes(self):
+        status, text, said = self.call('dis', 'a.a51', MODE='refused')
+        self.assertEqual((status, text), (70, ''))
+        self.assertIn('no such type', said)
+        self.assertEqual(self.left(), [])
+
+    def test_a_checkout_that_may_not_be_written(self):
+        os.rmdir(self.out)
+        self.keep('top/crates/m51/out', 'a file')
+        status, text, said = self.call('dis', 'a.a51')
+        self.assertEqual((status, text), (70, ''))
+        self.assertIn('crates/m51/out', said)
+        self.assertNotIn('Traceback', said)

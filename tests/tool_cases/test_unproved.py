@@ -27,8 +27,18 @@ class Unproved(StandIn):
         self.assertEqual(self.compiled(), 1)
         self.assertIn('the unproved program /', self.call('--version')[1])
         self.assertEqual(self.left(), [])
-        with open(self.environment['CALLS'] + '.pid') as file, self.assertRaises(ProcessLookupError):
-            os.kill(int(file.read()), 0)
+        with open(self.environment['CALLS'] + '.pid') as file:
+            self.assert_ends(int(file.read()))
+
+    def assert_ends(self, process):
+        """The process ends within ten seconds: on a busy machine it may outlive the call by a moment."""
+        for _ in range(100):
+            try:
+                os.kill(process, 0)
+            except ProcessLookupError:
+                return
+            time.sleep(0.1)
+        self.fail(f'process {process} still runs')
 
     def test_compiled_again_when_a_source_or_the_toolchain_changes(self):
         self.call(*GEN)

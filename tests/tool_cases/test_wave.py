@@ -89,6 +89,7 @@ class Wave(Folder):
             self.assertNotIn(hidden, texts)
         later = tool('wave', '--svg', '--from', '7', text=TRACE)
         self.assertNotIn('>55<', later)
+        self.assertNotRegex(later, ' width="0(\\.0*)?"', 'what is before the first cycle is not drawn')
         self.assertIn('>56<', later)
         tool('wave', '--svg', '--from', '9', text=TRACE, status=2)
 

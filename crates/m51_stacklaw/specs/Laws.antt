@@ -1,4 +1,4 @@
--- SP never passes the bound of a program.
+-- SP does not pass the bound of a program in the steps that are performed, up to the first event.
 use Rattle.std.specs.Prelude.{ℕ, ◌≤◌, List, Ok}
 use Rattle.m51_flat.specs.Sfr.{latch, sp}
 use Rattle.m51_module.specs.declared.parts.LayoutParts.{LayoutParts}

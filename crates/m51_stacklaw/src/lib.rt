@@ -1,4 +1,4 @@
-//! A law of the stack bound: SP never passes it.
+//! A law of the stack bound: SP does not pass it up to the first event.
 #![tactic(auto)]
 
 mod laws;

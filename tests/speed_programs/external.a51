@@ -1,0 +1,13 @@
+; Bytes of external memory, read and written.
+CSEG AT 0
+LJMP MAIN
+CSEG AT 40H
+MAIN: MOV DPTR,#1000H
+MOV R6,#0
+NEXT: MOVX A,@DPTR
+INC A
+MOVX @DPTR,A
+INC DPTR
+DJNZ R6,NEXT
+SJMP MAIN
+END

@@ -1,0 +1,17 @@
+; A loop of moves between the cells of internal RAM.
+CSEG AT 0
+LJMP LOOP
+CSEG AT 30H
+LOOP: MOV A,40H
+MOV 41H,A
+MOV R0,#42H
+MOV @R0,A
+MOV R7,A
+MOV 43H,R7
+MOV B,43H
+MOV 44H,B
+MOV R1,#44H
+MOV A,@R1
+MOV 45H,44H
+SJMP LOOP
+END

@@ -144,7 +144,7 @@ def more_calls(count, degree, is_backwards):
             yield (line if len(line) < 255 else line[:line.rindex(',', 0, 254)]) + ')'
 
 
-def graph(size, is_backwards, degree=30):
+def graph(size, is_backwards, degree=60):
     """So many units with calls to those after or before them, by fixups and control lines, and a local of the last."""
     first, last = (size - 1, 0) if is_backwards else (0, size - 1)
     call = objects.piece(1, 0, '80FE120000') + objects.fixup(1, 3, objects.WORD, 1, is_external=True)

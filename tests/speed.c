@@ -20,9 +20,9 @@ static uint16_t pc;
 static uint64_t cycle;
 /* Handlers of low and of high priority that run, and whether no interrupt is taken before the next instruction. */
 static int low_runs, high_runs, is_held;
-/* The byte that is sent, the bit times that are left, and the part of one that has passed. */
+/* The byte that is sent, its ninth bit, the bit times that are left, and the part of one that has passed. */
 static uint8_t sent;
-static int sending_mode, bits_left, passed;
+static int ninth, sending_mode, bits_left, passed;
 
 static const uint8_t CYCLES[256] = {
     1, 2, 2, 1, 1, 1, 1, 1, 1, 1, 1, 1, 1, 1, 1, 1, 2, 2, 2, 1, 1, 1, 1, 1, 1, 1, 1, 1, 1, 1, 1, 1,
@@ -54,6 +54,7 @@ static void put(uint8_t address, uint8_t value) {
     if (address < 0x80) { ram[address] = value; return; }
     if (address == SBUF) {
         sent = value;
+        ninth = sfr[SCON] >> 3 & 1;
         sending_mode = sfr[SCON] >> 6;
         bits_left = (int[]){8, 9, 10, 10}[sending_mode];
         passed = 0;
@@ -158,7 +159,7 @@ static void tick(void) {
     if (bits_left && send(by_1, by_2)) {
         sfr[SCON] |= 2;
         printf("%llu TX %02X", (unsigned long long)cycle, sent);
-        printf(sending_mode > 1 ? " %d\n" : "\n", sfr[SCON] >> 3 & 1);
+        printf(sending_mode > 1 ? " %d\n" : "\n", ninth);
     }
 }
 
@@ -291,7 +292,7 @@ static int perform(void) {
     case 0xF0: xram[dptr()] = sfr[ACC]; break;
     case 0xE2: case 0xE3: sfr[ACC] = *paged_xram(opcode); break;
     case 0xF2: case 0xF3: *paged_xram(opcode) = sfr[ACC]; break;
-    case 0xC0: push(get(next_byte())); break;
+    case 0xC0: address = next_byte(); sfr[SP]++; ram[sfr[SP]] = get(address); break;
     case 0xD0: value = pop(); put(next_byte(), value); break;
     case 0xC5: address = next_byte(); value = sfr[ACC]; sfr[ACC] = get(address); put(address, value); break;
     CELLS(0xC0): swap(cell_of(opcode), 0xFF); break;

@@ -3,6 +3,7 @@
 `long_runs.py` has those of runs and of `stack`.
 """
 import random
+from typing import NamedTuple
 
 import large
 import objects
@@ -18,24 +19,47 @@ def main_module(*wanted):
 
 # Sources.
 
+# With a label each tenth line, 60,000 lines of these are below 64 KiB of code.
 SHAPES = [
-    'MOV A,#{number}', 'ADD A,R{register}', 'MOV V,A', 'MOV V+1,#LOW L{label}', 'JNZ L{label}', 'SETB TR0',
-    'MOVX A,@DPTR', 'DB {number},2,3', 'DW L{label}', 'MOV DPTR,#L{label}', 'INC R{register}', 'ANL A,#0FH',
-    'XRL P1,#3', 'JB TF0,$', '; a line of comment', '', 'NOP', 'MOVC A,@A+DPTR', 'CJNE A,#3,$', 'LCALL L{label}',
-    'RET', 'MOV R{register},V+2', 'CLR C', 'SUBB A,@R1']
+    'ADD A,R{register}', 'MOV R{register},A', 'MOV A,@R0', 'MOVX A,@DPTR', 'INC R{register}', 'NOP', 'MOVC A,@A+DPTR',
+    'RET', 'CLR C', 'SUBB A,@R1', 'RRC A', 'MOV A,#{number}', 'MOV 48,A', 'JNZ L{label}', 'SETB TR0', 'ANL A,#15',
+    '{byte} {number}', '{word} L{label}', 'MOV DPTR,#L{label}', 'JB TF0,L{label}', 'LCALL L{label}',
+    *['; a line of comment'] * 5, *[''] * 4]
+
+
+class Dialect(NamedTuple):
+    """How an assembler writes the beginning of a source, a list of bytes and of words, a name for a number, the end."""
+    first: str
+    byte: str
+    word: str
+    equ: str
+    end: str
+
+
+M51 = Dialect('S SEGMENT CODE\nRSEG S', 'DB', 'DW', '{} EQU {}', 'END')
+AS31 = Dialect('.org 0', '.byte', '.word', '.equ {}, {}', '.end')
+SDAS = Dialect('.area CODE (ABS)\n.org 0', '.db', '.dw', '{} = {}', '')
+
+
+def usual_lines(size, dialect):
+    """So many lines as programs have them, each tenth with a label, each 25th a name for a number."""
+    rng = random.Random(size)
+    yield dialect.first
+    for at in range(size):
+        shape = SHAPES[rng.randrange(len(SHAPES))]
+        if at % 10 == 0:
+            yield f'L{at // 10}: NOP'
+        elif at % 25 == 3:
+            yield dialect.equ.format(f'C{at}', at)
+        else:
+            yield shape.format(number=rng.randrange(256), register=rng.randrange(8), label=at // 10,
+                               byte=dialect.byte, word=dialect.word)
+    yield dialect.end
 
 
 def usual_source(size):
-    """So many lines as programs have them, each tenth with a label, each 25th an EQU."""
-    rng = random.Random(size)
-    rows = ['S SEGMENT CODE', 'T SEGMENT CODE', 'D SEGMENT DATA', 'RSEG D', 'V: DS 8', 'RSEG S', 'L0: NOP']
-    for at in range(len(rows), size - 1):
-        shape = SHAPES[rng.randrange(len(SHAPES))]
-        row = shape.format(number=rng.randrange(256), register=rng.randrange(8), label=(at - 1) // 10)
-        rows.append(f'L{at // 10}: NOP' if at % 10 == 0 else f'C{at} EQU {at}' if at % 25 == 3 else row)
-    # Both segments are below 64 KiB; the next line has a label.
-    rows[size // 20 * 10 - 1] = 'RSEG T'
-    return ASM, {'a.a51': large.lines(*rows, 'END')}
+    """A source of so many lines as programs have them."""
+    return ASM, {'a.a51': large.lines(*usual_lines(size, M51))}
 
 
 def labels(size):

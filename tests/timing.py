@@ -2,13 +2,15 @@
 import os
 import re
 import resource
+import signal
 import subprocess
 import tempfile
 from typing import NamedTuple, Optional
 
 
 class Run(NamedTuple):
-    """How a command ended: its status, or None if it was stopped; processor time; peak memory; the end of its text."""
+    """How a command ended: its status (less than 0 by a signal; None if it was stopped, as it took more than its
+    seconds), processor time, peak memory, and the end of its text."""
     status: Optional[int]
     seconds: float
     megabytes: float
@@ -29,7 +31,7 @@ def run(words, folder, given='', most=None):
         child.returncode = os.WEXITSTATUS(status) if os.WIFEXITED(status) else -os.WTERMSIG(status)
         written.seek(max(0, written.seek(0, os.SEEK_END) - 2_000))
         text = written.read().decode(errors='replace')
-    ended = child.returncode if child.returncode >= 0 else None
+    ended = None if child.returncode == -signal.SIGXCPU else child.returncode
     return Run(ended, used.ru_utime + used.ru_stime, used.ru_maxrss / 1024, text)
 
 

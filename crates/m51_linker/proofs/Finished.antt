@@ -1,8 +1,7 @@
--- A linked program: its image, its runs, its roots, and the rules that come before.
+-- A linked program: its runs, its roots, and the rules that come before.
 use Rattle.std.proofs.Common.{◌≡◌, inl, inr, ℕ, ◌+◌, ◌<◌, List, [], ◌∷◌, ◌++◌, length, get_or, Option, Some, None, Result, Ok, sym, ap, subst, ◌∙◌, arith}
-use Rattle.std.specs.Prelude.{is_some, slice_index, slice_index_or, unwrap_or}
+use Rattle.std.specs.Prelude.{is_some, slice_index}
 use Rattle.std.specs.List.{All}
-use Rattle.std.specs.Option.{option_or}
 use Rattle.std.proofs.Math.ListN.{get_or-append}
 use Rattle.std.proofs.Math.Seq.{get_or-append_seam}
 use Rattle.m51_cells.proofs.Small.{below_or_last}
@@ -17,12 +16,11 @@ use Rattle.m51_graph.specs.Graphs.{unless}
 use Rattle.m51_place.specs.declared.placing.Placing.{Placing}
 use Rattle.m51_place.specs.Placement.{placing_of}
 use Rattle.m51_linker.specs.Broken.{broken_rule}
-use Rattle.m51_linker.specs.Image.{content_of, fields_of, IsFilled, IsImage}
+use Rattle.m51_linker.specs.Image.{content_of, IsFilled}
 use Rattle.m51_linker.specs.Link.{AreRoots, checked_of, IsInside, placed_of, Program}
-use Rattle.m51_linker.specs.Memory.{AreBytes, AreWritten, IsErasedBut, IsHeldBelow}
+use Rattle.m51_linker.specs.Memory.{AreBytes, IsHeldBelow}
 use Rattle.m51_linker.specs.Ready.{MayRefuse}
 use Rattle.m51_linker.specs.Runs.{AreRuns}
-use Rattle.m51_linker.specs.Stretches.{byte_among}
 use Rattle.m51_linker.proofs.RunsGrow.{ends_below, same_runs}
 
 -- one more unit
@@ -41,18 +39,6 @@ pub roots_whole : (g : GraphParts) (count : ℕ) (roots all : List ℕ) → all 
     → ((u : ℕ) → u < count → AreRootBits g u (slice_index roots u)) → AreRoots g all
 roots_whole g count roots all is len whole each =
     subst (λ (xs : List ℕ). AreRoots g xs) (sym is) (record { len = len ∙ whole; each = λ unit below. each unit (omega (arith, below, whole)) })
-
--- the image of the memory to which the fields are put
-pub image_is : (modules : List ModuleParts) (placing : Placing) (content before after : List (Option ℕ)) (image : List ℕ) → AreBytes (content_of modules placing) content
-    → before ≡ content → AreWritten (fields_of modules placing) before after → IsErasedBut after 65536 image → IsImage modules placing image
-image_is modules placing content before after image bytes same written erased = record {
-  len = erased.len;
-  each = λ address below.
-      erased.each address below
-      ∙ ap (λ (o : Option ℕ). unwrap_or o 0xFF)
-      (written.each address
-      ∙ ap (λ (o : Option ℕ). option_or (byte_among (fields_of modules placing) address) o) (ap (λ (m : List (Option ℕ)). slice_index_or m address None) same ∙ bytes.each address));
-}
 
 -- the runs of the bytes of the content
 pub runs_are : (modules : List ModuleParts) (placing : Placing) (content : List (Option ℕ)) (runs : List Run) → AreBytes (content_of modules placing) content

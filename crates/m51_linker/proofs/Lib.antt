@@ -1,3 +1,4 @@
+pub mod Earliest
 pub mod Finished
 pub mod Lists
 pub mod PartsInside

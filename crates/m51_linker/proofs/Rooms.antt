@@ -1,6 +1,6 @@
 -- Content and fields lie in program memory.
 use Rattle.std.proofs.Common.{◌≡◌, ℕ, ◌+◌, ◌<◌, ◌≤◌, List, length, get_or, Option, Some, sym, ap, subst, ◌∙◌, arith}
-use Rattle.std.specs.Prelude.{IsSome, is_some, option_and_then, slice_get}
+use Rattle.std.specs.Prelude.{slice_get}
 use Rattle.std.specs.Option.{option_map_or}
 use Rattle.std.specs.List.{All}
 use Rattle.std.proofs.lemmas.List.Elements.{All-contains, All-get_or, Contains-get_or}
@@ -14,7 +14,7 @@ use Rattle.m51_module.specs.declared.parts.ModuleParts.{ModuleParts}
 use Rattle.m51_module.specs.declared.placed.Placed.{Placed}
 use Rattle.m51_module.specs.declared.segment.Segment.{Segment}
 use Rattle.m51_module.specs.Validity.{field_len, IsBitNumber, IsFixupValid, IsHeld, IsPieceValid, IsValid, numbered}
-use Rattle.m51_resolve.specs.Joining.{part_of, segment_at}
+use Rattle.m51_resolve.specs.Joining.{part_of}
 use Rattle.m51_graph.proofs.Drawn.{field_there, fixup_target_there}
 use Rattle.m51_place.specs.declared.placing.Placing.{Placing}
 use Rattle.m51_linker.specs.Ready.{ArePlaced, IsFixupPlaced}
@@ -59,10 +59,6 @@ module _ (modules : List ModuleParts) (placing : Placing) (placed : ArePlaced mo
       subst (λ (x : ModuleParts). IsValid x) (get_or_from_slice_get modules m parts parts here)
       (All-get_or IsValid modules m parts (slice_get_within modules m parts here) placed.valid)
 
-  there : (s : ℕ) (segment : Segment) → numbered parts.segments s ≡ Some segment → IsSome (segment_at modules m s)
-  there s segment is =
-      ap is_some (ap (λ (chosen : Option ModuleParts). option_and_then (λ (p : ModuleParts). numbered p.segments s) chosen) here ∙ is)
-
   -- a segment of program memory ends in it
   segment_room : (s : ℕ) (segment : Segment) → numbered parts.segments s ≡ Some segment → segment.kind ≡ Code → start_of modules placing m s + segment.size ≤ 65536
   segment_room s segment is code =
@@ -79,9 +75,6 @@ module _ (modules : List ModuleParts) (placing : Placing) (placed : ArePlaced mo
     valid_piece =
         subst (λ (x : Piece). IsPieceValid parts.segments x) (sym is)
         (All-get_or (IsPieceValid parts.segments) pieces i p below (subst (λ (ps : List Piece). All (IsPieceValid parts.segments) ps) (sym are) valid.pieces))
-
-    pub piece_there : IsSome (segment_at modules m p.segment)
-    piece_there = there p.segment valid_piece.segment valid_piece.is
 
     pub piece_room : address_of modules placing m p.segment p.offset + length p.bytes ≤ 65536
     piece_room = omega (arith, segment_room p.segment valid_piece.segment valid_piece.is valid_piece.code, valid_piece.inside)

@@ -1,14 +1,14 @@
 -- One more item, or one more module, of what is gone over.
-use Rattle.std.proofs.Common.{◌≡◌, ℕ, ◌+◌, ◌<◌, Bool, true, false, cond, List, [], ◌∷◌, ◌++◌, length, map, take, drop, get_or, Option, Some, None, refl, sym, ap, subst, ◌∙◌, append_assoc}
-use Rattle.std.specs.Prelude.{filter, flat_map, option_to_list}
+use Rattle.std.proofs.Common.{◌≡◌, ℕ, ◌+◌, ◌<◌, List, [], ◌∷◌, ◌++◌, length, map, take, get_or, Option, Some, None, refl, sym, ap, subst, ◌∙◌}
+use Rattle.std.specs.Prelude.{flat_map, option_to_list}
 use Rattle.std.specs.List.{cons_option, filter_map, range_with_len}
-use Rattle.std.proofs.lemmas.List.{append-nil, drop_more, map-append, take_more}
+use Rattle.std.proofs.lemmas.List.{append-nil, map-append, take_more}
 use Rattle.std.proofs.lemmas.List.Concat.{flat_map-append}
 use Rattle.std.proofs.lemmas.List.Elements.{filter_map-append}
 use Rattle.m51_cells.proofs.Small.{range_more}
-use Rattle.m51_linker.specs.Memory.{AreBytes, AreWritten}
+use Rattle.m51_linker.specs.Memory.{AreWritten}
 use Rattle.m51_linker.specs.Stretches.{Stretch}
-use Rattle.m51_linker.proofs.Written.{among_over, written_more}
+use Rattle.m51_linker.proofs.Written.{written_more}
 
 -- what the modules up to one have
 pub modules_more : {A : Type 0} (items : ℕ → List A) (m : ℕ) → flat_map items (range_with_len 0 (m + 1)) ≡ flat_map items (range_with_len 0 m) ++ items m
@@ -16,13 +16,13 @@ modules_more items m =
     ap (flat_map items) (range_more m) ∙ flat_map-append items (range_with_len 0 m) (m ∷ [])
     ∙ ap (λ xs. flat_map items (range_with_len 0 m) ++ xs) (append-nil (items m))
 
-pub module_written : (items : ℕ → List Stretch) (m : ℕ) (old mid new : List (Option ℕ)) → AreWritten (flat_map items (range_with_len 0 m)) old mid → AreWritten (items m) mid new
+pub module_written : (items : ℕ → List Stretch) (m : ℕ) (old mid new : ℕ → Option ℕ) → AreWritten (flat_map items (range_with_len 0 m)) old mid → AreWritten (items m) mid new
     → AreWritten (flat_map items (range_with_len 0 (m + 1))) old new
 module_written items m old mid new h k =
     subst (λ (xs : List Stretch). AreWritten xs old new) (sym (modules_more items m)) (written_more (flat_map items (range_with_len 0 m)) (items m) old mid new h k)
 
 -- one more piece
-pub piece_written : {X : Type 0} (f : X → Stretch) (xs : List X) (i : ℕ) (x : X) (old mid new : List (Option ℕ)) → i < length xs → x ≡ get_or xs i x
+pub piece_written : {X : Type 0} (f : X → Stretch) (xs : List X) (i : ℕ) (x : X) (old mid new : ℕ → Option ℕ) → i < length xs → x ≡ get_or xs i x
     → AreWritten (map f (take i xs)) old mid → AreWritten (f x ∷ []) mid new → AreWritten (map f (take (i + 1) xs)) old new
 piece_written {X} f xs i x old mid new below is h k =
     let more : map f (take (i + 1) xs) ≡ map f (take i xs) ++ f x ∷ [] =
@@ -36,33 +36,14 @@ one_option {X} {A} f x = by (f x) where
   by None = refl
   by (Some y) = refl
 
-pub fixup_written : {X : Type 0} (f : X → Option Stretch) (xs : List X) (i : ℕ) (d : X) (old mid new : List (Option ℕ)) → i < length xs
+pub options_more : {X A : Type 0} (f : X → Option A) (xs : List X) (i : ℕ) (d : X) → i < length xs
+    → filter_map f (take (i + 1) xs) ≡ filter_map f (take i xs) ++ option_to_list (f (get_or xs i d))
+options_more f xs i d below =
+    let x = get_or xs i d in
+    ap (filter_map f) (take_more xs i d below) ∙ filter_map-append f (take i xs) (x ∷ []) ∙ ap (λ ys. filter_map f (take i xs) ++ ys) (one_option f x)
+
+pub fixup_written : {X : Type 0} (f : X → Option Stretch) (xs : List X) (i : ℕ) (d : X) (old mid new : ℕ → Option ℕ) → i < length xs
     → AreWritten (filter_map f (take i xs)) old mid → AreWritten (option_to_list (f (get_or xs i d))) mid new → AreWritten (filter_map f (take (i + 1) xs)) old new
 fixup_written f xs i d old mid new below h k =
-    let x = get_or xs i d in
-    let more : filter_map f (take (i + 1) xs) ≡ filter_map f (take i xs) ++ option_to_list (f x) =
-    ap (filter_map f) (take_more xs i d below) ∙ filter_map-append f (take i xs) (x ∷ []) ∙ ap (λ ys. filter_map f (take i xs) ++ ys) (one_option f x) in
-    subst (λ (ss : List Stretch). AreWritten ss old new) (sym more) (written_more (filter_map f (take i xs)) (option_to_list (f x)) old mid new h k)
-
--- what is put into an empty memory
-pub bytes_written : (xs : List Stretch) (old new : List (Option ℕ)) → AreBytes [] old → AreWritten xs old new → AreBytes xs new
-bytes_written xs old new h k = record { len = k.len ∙ h.len; each = λ address. k.each address ∙ among_over xs address (h.each address) }
-
--- one more fixup whose rule may fail
-pub spots_more : {X A : Type 0} (spot : X → A) (broken : X → Bool) (xs : List X) (i : ℕ) (d : X) (now new all : List A) → i < length xs
-    → new ≡ now ++ cond (broken (get_or xs i d)) (spot (get_or xs i d) ∷ []) [] → now ++ map spot (filter broken (drop i xs)) ≡ all
-    → new ++ map spot (filter broken (drop (i + 1) xs)) ≡ all
-spots_more {X} {A} spot broken xs i d now new all below is before =
-    let x = get_or xs i d in
-    let rest = filter broken (drop (i + 1) xs) in
-    ap (λ (ys : List A). ys ++ map spot rest) is
-    ∙ by (broken x) x now rest
-    ∙ ap (λ (ys : List X). now ++ map spot (filter broken ys)) (sym (drop_more xs i d below)) ∙ before where
-      by : (b : Bool) (x : X) (now : List A) (rest : List X) → (now ++ cond b (spot x ∷ []) []) ++ map spot rest ≡ now ++ map spot (cond b (x ∷ rest) rest)
-      by true x now rest = append_assoc now (spot x ∷ []) (map spot rest)
-      by false x now rest = ap (λ (ys : List A). ys ++ map spot rest) (append-nil now)
-
--- one more module
-pub broken_more : {A : Type 0} (items : ℕ → List A) (m : ℕ) (now new : List A) → new ≡ now ++ items m → now ≡ flat_map items (range_with_len 0 m)
-    → new ≡ flat_map items (range_with_len 0 (m + 1))
-broken_more items m now new is before = is ∙ ap (λ xs. xs ++ items m) before ∙ sym (modules_more items m)
+    subst (λ (ss : List Stretch). AreWritten ss old new) (sym (options_more f xs i d below))
+    (written_more (filter_map f (take i xs)) (option_to_list (f (get_or xs i d))) old mid new h k)

@@ -1,6 +1,6 @@
 -- Stretches that are put into the memory, one after another.
 use Rattle.std.proofs.Common.{◌≡◌, inl, inr, ℕ, ◌+◌, ◌-◌, ◌<◌, ◌≤◌, Bool, cond, List, [], ◌∷◌, ◌++◌, length, Option, Some, None, refl, sym, ap, ◌∙◌, arith}
-use Rattle.std.specs.Prelude.{slice_get, slice_index_or}
+use Rattle.std.specs.Prelude.{slice_get}
 use Rattle.std.specs.Option.{option_or}
 use Rattle.std.proofs.lemmas.Bool.{cases_lt}
 use Rattle.std.proofs.lemmas.Bool.Decides.{leb_tells}
@@ -23,19 +23,14 @@ among-append (x ∷ xs) ys address =
     ap (λ (o : Option ℕ). option_or o (byte_in x address)) (among-append xs ys address)
     ∙ or_assoc (byte_among ys address) (byte_among xs address) (byte_in x address)
 
--- nothing is put
-pub written_none : (old : List (Option ℕ)) → AreWritten [] old old
-written_none old = record { len = refl; each = λ address. refl }
-
 -- more are put
-pub written_more : (xs ys : List Stretch) (old mid new : List (Option ℕ)) → AreWritten xs old mid → AreWritten ys mid new → AreWritten (xs ++ ys) old new
+pub written_more : (xs ys : List Stretch) (old mid new : ℕ → Option ℕ) → AreWritten xs old mid → AreWritten ys mid new → AreWritten (xs ++ ys) old new
 written_more xs ys old mid new h k = record {
-  len = k.len ∙ h.len;
   each = λ address.
       k.each address
       ∙ ap (λ (o : Option ℕ). option_or (byte_among ys address) o) (h.each address)
-      ∙ sym (or_assoc (byte_among ys address) (byte_among xs address) (slice_index_or old address None))
-      ∙ ap (λ (o : Option ℕ). option_or o (slice_index_or old address None)) (sym (among-append xs ys address));
+      ∙ sym (or_assoc (byte_among ys address) (byte_among xs address) (old address))
+      ∙ ap (λ (o : Option ℕ). option_or o (old address)) (sym (among-append xs ys address));
 }
 
 -- the bytes of one stretch are put
@@ -51,27 +46,22 @@ byte_from at bytes address less = elim (leb_tells at address) as (λ _. byte_in 
   | inr below ↦ absurd (omega (arith, less, below.1))
 ]
 
-pub put_written : (at : ℕ) (bytes : List ℕ) (old new : List (Option ℕ)) → IsPut at bytes (length bytes) old new → AreWritten (record { at = at; bytes = bytes } ∷ []) old new
-put_written at bytes old new h = record {
-  len = h.len;
+pub put_written : (at : ℕ) (bytes : List ℕ) (count : ℕ) (old new : ℕ → Option ℕ) → count ≡ length bytes → IsPut at bytes count old new
+    → AreWritten (record { at = at; bytes = bytes } ∷ []) old new
+put_written at bytes count old new whole h = record {
   each = λ address.
-      let rest : Option ℕ = slice_index_or old address None in
       let given : Option ℕ = byte_in (record { at = at; bytes = bytes }) address in
-      elim (cases_lt address at) as (λ _. slice_index_or new address None ≡ option_or given rest) [
-        | inl less ↦ h.before address less ∙ ap (λ (o : Option ℕ). option_or o rest) (sym (byte_below at bytes address less))
-        | inr from ↦ elim (cases_lt (address - at) (length bytes)) as (λ _. slice_index_or new address None ≡ option_or given rest) [
+      elim (cases_lt address at) as (λ _. new address ≡ option_or given (old address)) [
+        | inl less ↦ h.before address less ∙ ap (λ (o : Option ℕ). option_or o (old address)) (sym (byte_below at bytes address less))
+        | inr from ↦ elim (cases_lt (address - at) (length bytes)) as (λ _. new address ≡ option_or given (old address)) [
           | inl inside ↦
               let k : ℕ = address - at in
               let is : address ≡ at + k = omega (arith, from) in
-              ap (λ (a : ℕ). slice_index_or new a None) is ∙ h.put k inside
-              ∙ ap (λ (o : Option ℕ). option_or o rest) (sym (byte_from at bytes address from ∙ slice_get-get_or bytes k 0 inside))
+              ap new is ∙ h.put k (omega (arith, inside, whole))
+              ∙ ap (λ (o : Option ℕ). option_or o (old address)) (sym (byte_from at bytes address from ∙ slice_get-get_or bytes k 0 inside))
           | inr past ↦
-              h.after address (omega (arith, from, past))
-              ∙ ap (λ (o : Option ℕ). option_or o rest) (sym (byte_from at bytes address from ∙ slice_get_past bytes (address - at) past))
+              h.after address (omega (arith, from, past, whole))
+              ∙ ap (λ (o : Option ℕ). option_or o (old address)) (sym (byte_from at bytes address from ∙ slice_get_past bytes (address - at) past))
         ]
       ];
 }
-
--- over nothing only the stretches have bytes
-pub among_over : (xs : List Stretch) (address : ℕ) {o : Option ℕ} → o ≡ None → option_or (byte_among xs address) o ≡ byte_among xs address
-among_over xs address is = ap (λ (o : Option ℕ). option_or (byte_among xs address) o) is ∙ or_none (byte_among xs address)

@@ -1,6 +1,7 @@
 -- The first fixup whose rule fails, by joined segment and offset.
-use Rattle.std.specs.Prelude.{ℕ, ◌+◌, Bool, ◌&&◌, ◌||◌, nat_eq, nat_le, nat_lt, if◌then◌else◌, List, [], ◌∷◌, filter}
-use Rattle.std.specs.Prelude.{map, slice_get, is_none, Option, Some, None, option_map}
+use Rattle.std.specs.Prelude.{ℕ, ◌+◌, Bool, ◌&&◌, ◌||◌, nat_eq, nat_le, nat_lt, if◌then◌else◌, List, [], ◌∷◌}
+use Rattle.std.specs.Prelude.{slice_get, is_none, Option, Some, None, option_map}
+use Rattle.std.specs.List.{filter_map}
 use Rattle.std.specs.Option.{option_map_or}
 use Rattle.m51_module.specs.declared.content.Fixup.{Fixup}
 use Rattle.m51_module.specs.declared.linked.Refusal.{Refusal}
@@ -19,18 +20,16 @@ spot_of modules m f = record {
   offset = (part_of modules m f.segment).1 + f.offset;
 }
 
--- the rule of a fixup of the module fails
-abbrev pub is_broken : List ModuleParts → Placing → ℕ → Fixup → Bool
-is_broken modules placing m f = is_none (fixup_field modules placing m f)
+-- the field of a fixup of the module, if its rule fails
+abbrev pub broken_spot : List ModuleParts → Placing → ℕ → Fixup → Option Spot
+broken_spot modules placing m f =
+    if is_none (fixup_field modules placing m f) then Some (spot_of modules m f) else None
 
--- the fields of these fixups of the module whose rules fail
-abbrev pub spots_among : List ModuleParts → Placing → ℕ → List Fixup → List Spot
-spots_among modules placing m fixups = map (spot_of modules m) (filter (is_broken modules placing m) fixups)
-
--- those of the module of that number, and of all modules
+-- the fields of the module of that number whose rules fail, and those of all modules
 abbrev pub module_broken : List ModuleParts → Placing → ℕ → List Spot
 module_broken modules placing m =
-    option_map_or (λ (parts : ModuleParts). spots_among modules placing m parts.fixups) (slice_get modules m) []
+    option_map_or (λ (parts : ModuleParts). filter_map (broken_spot modules placing m) parts.fixups)
+    (slice_get modules m) []
 
 abbrev pub broken_of : List ModuleParts → Placing → List Spot
 broken_of modules placing = of_modules (module_broken modules placing) modules
@@ -43,6 +42,11 @@ is_before one two = nat_lt one.number two.number || (nat_eq one.number two.numbe
 abbrev pub first_of : Spot → Option Spot → Spot
 first_of spot None = spot
 first_of spot (Some other) = if is_before spot other then spot else other
+
+-- the same, where there may be none at all
+abbrev pub earlier_of : Option Spot → Option Spot → Option Spot
+earlier_of None other = other
+earlier_of (Some spot) other = Some (first_of spot other)
 
 -- the first of these
 abbrev pub least_of : List Spot → Option Spot

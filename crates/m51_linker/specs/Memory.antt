@@ -4,29 +4,35 @@ use Rattle.std.specs.Prelude.{unwrap_or, Option, Some, None}
 use Rattle.std.specs.Option.{option_or}
 use Rattle.m51_linker.specs.Stretches.{Stretch, byte_among}
 
+-- the byte of the memory for the address, if one is there
+abbrev pub held_at : List (Option ℕ) → ℕ → Option ℕ
+held_at memory address = slice_index_or memory address None
+
+-- the byte of the image at the address
+abbrev pub image_at : List ℕ → ℕ → Option ℕ
+image_at image address = Some (slice_index image address)
+
+-- Below, old and new give the byte at an address before and after.
+
 -- so many of these bytes are put from the address on, and nothing else
-pub record IsPut (at : ℕ) (bytes : List ℕ) (count : ℕ) (old new : List (Option ℕ)) : Type 0 where
-  pub len : length new ≡ length old
-  pub put : (k : ℕ) → k < count → slice_index_or new (at + k) None ≡ Some (slice_index bytes k)
-  pub before : (address : ℕ) → address < at → slice_index_or new address None ≡ slice_index_or old address None
-  pub after : (address : ℕ) → at + count ≤ address → slice_index_or new address None ≡ slice_index_or old address None
+pub record IsPut (at : ℕ) (bytes : List ℕ) (count : ℕ) (old new : ℕ → Option ℕ) : Type 0 where
+  pub put : (k : ℕ) → k < count → new (at + k) ≡ Some (slice_index bytes k)
+  pub before : (address : ℕ) → address < at → new address ≡ old address
+  pub after : (address : ℕ) → at + count ≤ address → new address ≡ old address
 
 -- the stretches are put, one after another
-pub record AreWritten (stretches : List Stretch) (old new : List (Option ℕ)) : Type 0 where
-  pub len : length new ≡ length old
-  pub each : (address : ℕ) → slice_index_or new address None
-      ≡ option_or (byte_among stretches address) (slice_index_or old address None)
+pub record AreWritten (stretches : List Stretch) (old new : ℕ → Option ℕ) : Type 0 where
+  pub each : (address : ℕ) → new address ≡ option_or (byte_among stretches address) (old address)
 
 -- the memory has the byte of the stretches for each address
 pub record AreBytes (stretches : List Stretch) (memory : List (Option ℕ)) : Type 0 where
   pub len : length memory ≡ 65536
-  pub each : (address : ℕ) → slice_index_or memory address None ≡ byte_among stretches address
+  pub each : (address : ℕ) → held_at memory address ≡ byte_among stretches address
 
 -- so many addresses of the image have the byte of the memory, and FFH where it has none
 pub record IsErasedBut (memory : List (Option ℕ)) (count : ℕ) (image : List ℕ) : Type 0 where
   pub len : length image ≡ 65536
-  pub each : (address : ℕ) → address < count → slice_index image address
-      ≡ unwrap_or (slice_index_or memory address None) 0xFF
+  pub each : (address : ℕ) → address < count → slice_index image address ≡ unwrap_or (held_at memory address) 0xFF
 
 -- the memory has a byte for the address, which is below the end
 pub record IsHeldBelow (memory : List (Option ℕ)) (end address : ℕ) : Type 0 where

@@ -1,8 +1,7 @@
 //! Puts the content of modules where it is placed.
-ghost use Rattle.std.specs.Prelude.{◌≡◌, IfOk, Some, map, slice_get, vec_len};
-ghost use Rattle.std.specs.Option.{option_map_or};
-ghost use Rattle.m51_linker.specs.Image.{content_of, module_content, placed_piece};
-ghost use Rattle.m51_linker.specs.Memory.{AreBytes, AreWritten};
+ghost use Rattle.std.specs.Prelude.{◌≡◌, IfOk, Some, length, slice_get};
+ghost use Rattle.m51_linker.specs.Image.{content_of, module_content};
+ghost use Rattle.m51_linker.specs.Memory.{AreBytes, AreWritten, held_at};
 ghost use Rattle.m51_linker.specs.Ready.{ArePlaced};
 
 use crate::addresses::address_of;
@@ -14,8 +13,8 @@ use m51_resolve::Joined;
 use std::alloc::Global;
 
 // Puts the pieces of these parts, which are those of the module.
-fn fill_pieces(
-    memory: &mut Vec<Option<u8>>,
+fn fill_module(
+    memory: &mut [Option<u8>],
     joined: &Joined,
     placing: &Placing,
     module: u8,
@@ -23,9 +22,9 @@ fn fill_pieces(
 )
     requires placed { ArePlaced joined.now placing.now }
     requires there { slice_get joined.now «module» ≡ Some parts.now }
-    requires whole { vec_len memory.old ≡ 65536 }
-    ensures { AreWritten (map (placed_piece joined.now placing.now «module») parts.now.pieces)
-        memory.old.items memory.new.items }
+    requires whole { length memory.old ≡ 65536 }
+    ensures { AreWritten (module_content joined.now placing.now «module»)
+        (held_at memory.old) (held_at memory.new) }
 {
     for piece in parts.pieces() {
         let at = address_of(joined, placing, module, piece.segment, piece.offset);
@@ -33,15 +32,14 @@ fn fill_pieces(
     }
 }
 
-// Puts the content of the module.
-fn fill_module(memory: &mut Vec<Option<u8>>, joined: &Joined, placing: &Placing, module: u8)
+// Puts the content of the modules.
+fn fill(memory: &mut [Option<u8>], joined: &Joined, placing: &Placing)
     requires placed { ArePlaced joined.now placing.now }
-    requires whole { vec_len memory.old ≡ 65536 }
-    ensures { AreWritten (module_content joined.now placing.now «module») memory.old.items memory.new.items }
+    requires whole { length memory.old ≡ 65536 }
+    ensures { AreWritten (content_of joined.now placing.now) (held_at memory.old) (held_at memory.new) }
 {
-    match joined.modules().get(usize::from(module)) {
-        Some(parts) => fill_pieces(memory, joined, placing, module, parts),
-        None => {}
+    for (module, parts) in joined.modules().iter().enumerate() {
+        fill_module(memory, joined, placing, module as u8, parts);
     }
 }
 
@@ -55,8 +53,6 @@ pub(crate) fn content_of(
     ensures { IfOk result (λ memory. AreBytes (content_of joined.now placing.now) memory.items) }
 {
     let mut memory = empty_memory(alloc)?;
-    for module in 0..joined.modules().len() {
-        fill_module(&mut memory, joined, placing, module as u8);
-    }
+    fill(&mut memory, joined, placing);
     Ok(memory)
 }

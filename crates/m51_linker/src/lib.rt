@@ -5,7 +5,6 @@ mod addresses;
 mod checking;
 mod fields;
 mod filling;
-mod fixups;
 mod linked;
 mod linking;
 mod memory;

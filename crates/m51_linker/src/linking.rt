@@ -5,13 +5,10 @@ ghost use Rattle.m51_graph.specs.Graphs.{graph_of};
 ghost use Rattle.m51_linker.specs.Image.{IsImage, content_of};
 ghost use Rattle.m51_linker.specs.Link.{Answers, AreRoots, IsLinked, IsReady, joined_of, placed_of, program_of};
 ghost use Rattle.m51_linker.specs.Memory.{AreBytes};
-ghost use Rattle.m51_linker.specs.Ready.{ArePlaced};
 
 use crate::Linked;
-use crate::checking::check;
 use crate::filling::content_of;
-use crate::memory::image_of;
-use crate::patching::patch;
+use crate::patching::patched;
 use crate::running::runs_of;
 use m51_cells::{Bytes, NoMemory};
 use m51_control::Controls;
@@ -32,31 +29,16 @@ fn roots_of(alloc: Global, graph: &Graph) -> Result<Bytes, NoMemory>
     Ok(Bytes::of(roots))
 }
 
-// The image of placed modules over their content.
-fn patched(
-    alloc: Global,
-    joined: &Joined,
-    placing: &Placing,
-    content: &[Option<u8>],
-) -> Result<Image, NoMemory>
-    requires placed { ArePlaced joined.now placing.now }
-    requires content { AreBytes (content_of joined.now placing.now) content.now }
-    ensures { IfOk result (λ image. IsImage joined.now placing.now image) }
-{
-    let mut memory = content.to_vec(alloc)?;
-    patch(&mut memory, joined, placing, content);
-    image_of(alloc, &memory)
-}
-
 // What a link gives for placed modules whose fixups meet their rules.
 fn linked(
     alloc: Global,
     joined: &Joined,
     graph: &Graph,
     placing: Placing,
+    image: Image,
     content: &[Option<u8>],
 ) -> Result<Linked, NoMemory>
-    requires placed { ArePlaced joined.now placing }
+    requires image { IsImage joined.now placing image }
     requires reset { (unit : ℕ) × IsRootAt placing.layout 0 unit }
     requires units { length placing.layout.units ≡ length graph.now.units }
     requires content { AreBytes (content_of joined.now placing) content.now }
@@ -64,7 +46,6 @@ fn linked(
         IsLinked (record { modules = joined.now; graph = graph.now; placing = placing }) linked) }
     ensures ready { IfOk result IsReady }
 {
-    let image = patched(alloc, joined, &placing, content)?;
     let written = runs_of(alloc, content)?;
     let roots = roots_of(alloc, graph)?;
     let Placing { layout, places: _ } = placing;
@@ -91,8 +72,8 @@ fn link_graph(
     let _modules = joined.modules();
     let placing = place_all(alloc, joined, graph, controls)?;
     let content = content_of(alloc, joined, &placing)?;
-    check(alloc, joined, &placing, &content)?;
-    Ok(linked(alloc, joined, graph, placing, &content)?)
+    let image = patched(alloc, joined, &placing, &content)?;
+    Ok(linked(alloc, joined, graph, placing, image, &content)?)
 }
 
 // The program of chosen modules.

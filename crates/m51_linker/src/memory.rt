@@ -1,8 +1,9 @@
-//! The bytes of program memory while they are put there: each may be there or not.
+//! The bytes of program memory while they are put there: those of content, each of which may be there or not, and the
+//! image.
 ghost use Rattle.std.specs.Prelude.{◌≡◌, ◌+◌, ◌≤◌, ℕ, [], ◌∷◌, IfOk, None, length, slice_index_or, unwrap_or, vec_len};
 ghost use Rattle.m51_linker.specs.Fields.{bytes_of};
 ghost use Rattle.m51_linker.specs.Stretches.{stretch_at};
-ghost use Rattle.m51_linker.specs.Memory.{AreBytes, AreWritten, IsErasedBut, IsPut};
+ghost use Rattle.m51_linker.specs.Memory.{AreBytes, AreWritten, IsErasedBut, held_at, image_at};
 
 use crate::Field;
 use m51_cells::NoMemory;
@@ -25,29 +26,18 @@ pub(crate) fn empty_memory(alloc: Global) -> Result<Vec<Option<u8>>, NoMemory>
 }
 
 // Puts the bytes from the address on.
-pub(crate) fn put(memory: &mut Vec<Option<u8>>, at: usize, bytes: &[u8])
-    requires { at + length bytes.now ≤ vec_len memory.old }
-    ensures { IsPut at bytes.now (length bytes.now) memory.old.items memory.new.items }
+pub(crate) fn put(memory: &mut [Option<u8>], at: usize, bytes: &[u8])
+    requires { at + length bytes.now ≤ length memory.old }
+    ensures { AreWritten ((record { at = at; bytes = bytes.now }) ∷ []) (held_at memory.old) (held_at memory.new) }
 {
     for (index, byte) in bytes.iter().enumerate() {
         memory[at + index] = Some(*byte);
     }
 }
 
-// Puts the bytes of a field at the address.
-pub(crate) fn put_field(memory: &mut Vec<Option<u8>>, at: usize, field: Field)
-    requires { at + length (bytes_of field) ≤ vec_len memory.old }
-    ensures { AreWritten (stretch_at at field ∷ []) memory.old.items memory.new.items }
-{
-    match field {
-        Field::One(byte) => put(memory, at, &[byte]),
-        Field::Two(first, second) => put(memory, at, &[first, second]),
-    }
-}
-
 // The byte at the address, FFH where none is there.
 pub(crate) fn byte_or_erased(memory: &[Option<u8>], address: usize) -> u8
-    ensures { result ≡ unwrap_or (slice_index_or memory.now address None) 0xFF }
+    ensures { result ≡ unwrap_or (held_at memory.now address) 0xFF }
 {
     match memory.get(address) {
         Some(Some(byte)) => *byte,
@@ -65,4 +55,27 @@ pub(crate) fn image_of(alloc: Global, memory: &[Option<u8>]) -> Result<Image, No
         image.set(address as u16, byte.unwrap_or(0xFF));
     }
     Ok(image)
+}
+
+// Puts the bytes into the image from the address on.
+fn put_bytes(image: &mut Image, at: usize, bytes: &[u8])
+    requires { at + length bytes.now ≤ IMAGE_LEN }
+    ensures { AreWritten ((record { at = at; bytes = bytes.now }) ∷ []) (image_at image.old) (image_at image.new) }
+{
+    // How long an image is, is known where it is read.
+    let _bytes = image.bytes();
+    for (index, byte) in bytes.iter().enumerate() {
+        image.set((at + index) as u16, *byte);
+    }
+}
+
+// Puts the bytes of a field into the image at the address.
+pub(crate) fn put_field(image: &mut Image, at: usize, field: Field)
+    requires { at + length (bytes_of field) ≤ IMAGE_LEN }
+    ensures { AreWritten (stretch_at at field ∷ []) (image_at image.old) (image_at image.new) }
+{
+    match field {
+        Field::One(byte) => put_bytes(image, at, &[byte]),
+        Field::Two(first, second) => put_bytes(image, at, &[first, second]),
+    }
 }

@@ -1,94 +1,104 @@
-//! Puts the fields of fixups over the content.
-ghost use Rattle.std.specs.Prelude.{◌≡◌, Some, option_to_list, slice_get, vec_len};
-ghost use Rattle.std.specs.List.{filter_map};
-ghost use Rattle.m51_linker.specs.Image.{content_of, fields_of, module_fields, placed_field};
-ghost use Rattle.m51_linker.specs.Memory.{AreBytes, AreWritten};
-ghost use Rattle.m51_linker.specs.Ready.{ArePlaced, IsFixupPlaced};
+//! Resolves fixups: each to a field, which is put over the content, or to the spot where its rule fails.
+ghost use Rattle.std.specs.Prelude.{◌≡◌, IfOk, Some, option_to_list, slice_get};
+ghost use Rattle.m51_linker.specs.Broken.{broken_of, broken_rule, broken_spot, least_of, module_broken};
+ghost use Rattle.m51_linker.specs.Image.{IsImage, content_of, fields_of, module_fields, placed_field};
+ghost use Rattle.m51_linker.specs.Memory.{AreBytes, AreWritten, image_at};
+ghost use Rattle.m51_linker.specs.Ready.{ArePlaced, Checks, IsFixupPlaced};
 
-use crate::addresses::address_of;
-use crate::fixups::fixup_field;
-use crate::memory::put_field;
-use m51_module::{Fixup, Module};
+use crate::addresses::{address_of, target_of};
+use crate::checking::{Spot, earlier_of, refuse, spot_of};
+use crate::fields::field_of;
+use crate::memory::{byte_or_erased, image_of, put_field};
+use m51_module::{Fixup, Image, Module, Refusal};
 use m51_place::Placing;
 use m51_resolve::Joined;
+use std::alloc::Global;
 
-// Puts the field of the fixup of the module, if its rule is met.
+// Resolves the fixup of the module: puts its field into the image, or gives its spot where its rule fails.
 fn patch_fixup(
-    memory: &mut Vec<Option<u8>>,
+    image: &mut Image,
     joined: &Joined,
     placing: &Placing,
     content: &[Option<u8>],
     module: u8,
     fixup: &Fixup,
-)
+) -> Option<Spot>
     requires placed { IsFixupPlaced joined.now placing.now «module» fixup.now }
     requires content { AreBytes (content_of joined.now placing.now) content.now }
-    requires whole { vec_len memory.old ≡ 65536 }
-    ensures { AreWritten (option_to_list (placed_field joined.now placing.now «module» fixup.now))
-        memory.old.items memory.new.items }
+    ensures put { AreWritten (option_to_list (placed_field joined.now placing.now «module» fixup.now))
+        (image_at image.old) (image_at image.new) }
+    ensures broken { result ≡ broken_spot joined.now placing.now «module» fixup.now }
 {
-    match fixup_field(joined, placing, content, module, fixup) {
+    let place = address_of(joined, placing, module, fixup.segment, fixup.offset);
+    let target = target_of(joined, placing, module, fixup);
+    let first = byte_or_erased(content, place);
+    match field_of(fixup.form, fixup.bit, target, place as u16, first) {
         Some(field) => {
-            let at = address_of(joined, placing, module, fixup.segment, fixup.offset);
-            put_field(memory, at, field);
+            put_field(image, place, field);
+            None
         }
-        None => {}
+        None => Some(spot_of(joined, module, fixup)),
     }
 }
 
-// Puts the fields of the fixups of these parts, which are those of the module.
-fn patch_fixups(
-    memory: &mut Vec<Option<u8>>,
+// Resolves the fixups of these parts, which are those of the module. Gives the first spot where a rule fails.
+fn patch_module(
+    image: &mut Image,
     joined: &Joined,
     placing: &Placing,
     content: &[Option<u8>],
     module: u8,
     parts: &Module,
-)
+) -> Option<Spot>
     requires placed { ArePlaced joined.now placing.now }
     requires there { slice_get joined.now «module» ≡ Some parts.now }
     requires content { AreBytes (content_of joined.now placing.now) content.now }
-    requires whole { vec_len memory.old ≡ 65536 }
-    ensures { AreWritten (filter_map (placed_field joined.now placing.now «module») parts.now.fixups)
-        memory.old.items memory.new.items }
+    ensures put { AreWritten (module_fields joined.now placing.now «module»)
+        (image_at image.old) (image_at image.new) }
+    ensures broken { result ≡ least_of (module_broken joined.now placing.now «module») }
 {
+    let mut broken = None;
     for fixup in parts.fixups() {
-        patch_fixup(memory, joined, placing, content, module, fixup);
+        let spot = patch_fixup(image, joined, placing, content, module, fixup);
+        broken = earlier_of(broken, spot);
     }
+    broken
 }
 
-// Puts the fields of the module.
-fn patch_module(
-    memory: &mut Vec<Option<u8>>,
+// Resolves all fixups. Gives the first spot where a rule fails.
+fn patch(
+    image: &mut Image,
     joined: &Joined,
     placing: &Placing,
     content: &[Option<u8>],
-    module: u8,
-)
+) -> Option<Spot>
     requires placed { ArePlaced joined.now placing.now }
     requires content { AreBytes (content_of joined.now placing.now) content.now }
-    requires whole { vec_len memory.old ≡ 65536 }
-    ensures { AreWritten (module_fields joined.now placing.now «module») memory.old.items memory.new.items }
+    ensures put { AreWritten (fields_of joined.now placing.now) (image_at image.old) (image_at image.new) }
+    ensures broken { result ≡ least_of (broken_of joined.now placing.now) }
 {
-    match joined.modules().get(usize::from(module)) {
-        Some(parts) => patch_fixups(memory, joined, placing, content, module, parts),
-        None => {}
+    let mut broken = None;
+    for (module, parts) in joined.modules().iter().enumerate() {
+        let spot = patch_module(image, joined, placing, content, module as u8, parts);
+        broken = earlier_of(broken, spot);
     }
+    broken
 }
 
-// Puts the fields of the modules.
-pub(crate) fn patch(
-    memory: &mut Vec<Option<u8>>,
+// The image: the content with the fields of all fixups over it. L13, where the rule of a fixup fails.
+pub(crate) fn patched(
+    alloc: Global,
     joined: &Joined,
     placing: &Placing,
     content: &[Option<u8>],
-)
+) -> Result<Image, Refusal>
     requires placed { ArePlaced joined.now placing.now }
     requires content { AreBytes (content_of joined.now placing.now) content.now }
-    requires whole { vec_len memory.old ≡ 65536 }
-    ensures { AreWritten (fields_of joined.now placing.now) memory.old.items memory.new.items }
+    ensures checked { Checks (broken_rule joined.now placing.now) result }
+    ensures image { IfOk result (λ image. IsImage joined.now placing.now image) }
 {
-    for module in 0..joined.modules().len() {
-        patch_module(memory, joined, placing, content, module as u8);
-    }
+    let mut image = image_of(alloc, content)?;
+    let broken = patch(&mut image, joined, placing, content);
+    refuse(joined.segments(), broken)?;
+    Ok(image)
 }

@@ -1,5 +1,5 @@
-use Rattle.m51_linker.specs.Memory.{IsPut}
+use Rattle.m51_linker.specs.Memory.{held_at, IsPut}
 use Rattle.m51_linker.proofs.memory.put.Given as goal
 
 abbrev pub invariant-loop-index : goal.invariant-loop-index
-invariant-loop-index l = IsPut l.at l.bytes l.index l.initial.memory.items l.memory.items
+invariant-loop-index l = IsPut l.at l.bytes l.index (held_at l.initial.memory) (held_at l.memory)

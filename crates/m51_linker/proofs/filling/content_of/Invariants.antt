@@ -1,9 +1,0 @@
-use Rattle.std.proofs.Common.{flat_map}
-use Rattle.std.specs.List.{range_with_len}
-use Rattle.m51_linker.specs.Image.{module_content}
-use Rattle.m51_linker.specs.Memory.{AreWritten}
-use Rattle.m51_linker.proofs.filling.content_of.Given as goal
-
-abbrev pub invariant-loop-module : goal.invariant-loop-module
-invariant-loop-module l =
-    AreWritten (flat_map (module_content l.joined l.placing) (range_with_len 0 l.«module»)) l.initial.memory.items l.memory.items

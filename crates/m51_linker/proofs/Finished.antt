@@ -1,25 +1,18 @@
--- A linked program: its runs, its roots, and the rules that come before.
-use Rattle.std.proofs.Common.{◌≡◌, inl, inr, ℕ, ◌+◌, ◌<◌, List, [], ◌∷◌, ◌++◌, length, get_or, Option, Some, None, Result, Ok, sym, ap, subst, ◌∙◌, arith}
+-- A linked program: its runs and its roots.
+use Rattle.std.proofs.Common.{◌≡◌, inl, inr, ℕ, ◌+◌, ◌<◌, List, [], ◌∷◌, ◌++◌, length, get_or, Option, sym, ap, subst, ◌∙◌, arith}
 use Rattle.std.specs.Prelude.{is_some, slice_index}
 use Rattle.std.specs.List.{All}
 use Rattle.std.proofs.Math.ListN.{get_or-append}
 use Rattle.std.proofs.Math.Seq.{get_or-append_seam}
 use Rattle.m51_cells.proofs.Small.{below_or_last}
-use Rattle.m51_cells.specs.Outcome.{and_then, RefusesWith}
-use Rattle.m51_control.specs.declared.control.Control.{Control}
-use Rattle.m51_module.specs.declared.linked.Refusal.{Refusal}
 use Rattle.m51_module.specs.declared.linked.Run.{Run}
 use Rattle.m51_module.specs.declared.parts.ModuleParts.{ModuleParts}
 use Rattle.m51_graph.specs.declared.parts.GraphParts.{GraphParts}
 use Rattle.m51_graph.specs.Graph.{AreRootBits}
-use Rattle.m51_graph.specs.Graphs.{unless}
 use Rattle.m51_place.specs.declared.placing.Placing.{Placing}
-use Rattle.m51_place.specs.Placement.{placing_of}
-use Rattle.m51_linker.specs.Broken.{broken_rule}
 use Rattle.m51_linker.specs.Image.{content_of, IsFilled}
-use Rattle.m51_linker.specs.Link.{AreRoots, checked_of, IsInside, placed_of, Program}
+use Rattle.m51_linker.specs.Link.{AreRoots, IsInside}
 use Rattle.m51_linker.specs.Memory.{AreBytes, IsHeldBelow}
-use Rattle.m51_linker.specs.Ready.{MayRefuse}
 use Rattle.m51_linker.specs.Runs.{AreRuns}
 use Rattle.m51_linker.proofs.RunsGrow.{ends_below, same_runs}
 
@@ -53,25 +46,3 @@ runs_inside content runs h k d below = record {
   some = (h.whole k d below).some;
   inside = ends_below (IsHeldBelow content 65536) 65536 (λ address held. held.below) (get_or runs k d) (h.whole k d below);
 }
-
--- what comes first refuses
-pub refuse_first : {A B : Type 0} (refusal : Option Refusal) (first : Result A Refusal) (next : A → Result B Refusal) → RefusesWith refusal first → RefusesWith refusal (and_then first next)
-refuse_first None first next h = tt
-refuse_first (Some refusal) first next h = ap (λ r. and_then r next) h
-
--- L13 refuses
-unless_refuses : (refusal : Option Refusal) (rule : Option Refusal) (program : Result Program Refusal) → MayRefuse rule refusal → RefusesWith refusal (unless rule program)
-unless_refuses None rule program h = tt
-unless_refuses (Some refusal) rule program h = ap (λ r. unless r program) h
-
-module _ (modules : List ModuleParts) (controls : List (ℕ × Control)) (g : GraphParts) (placing : Placing) (is : placing_of modules controls g ≡ Ok placing) where
-  placed_is : placed_of modules controls g ≡ checked_of modules g placing
-  placed_is = ap (λ r. and_then r (λ (p : Placing). checked_of modules g p)) is
-
-  pub refuse_last : (refusal : Option Refusal) → MayRefuse (broken_rule modules placing) refusal → RefusesWith refusal (placed_of modules controls g)
-  refuse_last refusal h =
-      subst (λ r. RefusesWith refusal r) (sym placed_is)
-      (unless_refuses refusal (broken_rule modules placing) (Ok (record { modules = modules; graph = g; placing = placing })) h)
-
-  pub program_is : broken_rule modules placing ≡ None → placed_of modules controls g ≡ Ok (record { modules = modules; graph = g; placing = placing })
-  program_is none = placed_is ∙ ap (λ r. unless r (Ok (record { modules = modules; graph = g; placing = placing }))) none

@@ -1,4 +1,4 @@
--- The layout of a program has a root at 0000H, and a byte of roots for each of its units.
+-- The layout of a program has a root at 0000H.
 use Rattle.std.proofs.Common.{◌≡◌, ℕ, ◌<◌, Bool, true, false, cond, nat_eq, List, length, Option, Some, None, Result, Ok, Err, refl, sym, ap, subst, ◌∙◌, arith}
 use Rattle.std.specs.Prelude.{option_map, slice_get, slice_index}
 use Rattle.std.specs.List.{Contains, list_any}
@@ -23,7 +23,7 @@ use Rattle.m51_place.specs.declared.numbered.Numbered.{Numbered}
 use Rattle.m51_place.specs.declared.placing.Placing.{Placing}
 use Rattle.m51_place.specs.Placement.{located_of, place_of, placing_from, placing_of, placing_with}
 use Rattle.m51_place.specs.Places.{ArePlaces}
-use Rattle.m51_place.proofs.Ranks.{from_start, length-map_all}
+use Rattle.m51_place.proofs.Ranks.{from_start}
 use Rattle.m51_place.proofs.Segments.{graph_is}
 use Rattle.m51_place.proofs.UnitPlaces.{root_absolute, root_found, unit_of_code}
 use Rattle.m51_place.proofs.Whole.{unless_none}
@@ -70,11 +70,6 @@ module _ (modules : List ModuleParts) (controls : List (ℕ × Control)) (g : Gr
 
   is_located : IsLocated modules controls g placing
   is_located = located_by modules controls g placing (located_of modules controls g) places
-
-  -- a unit of the layout for each of the graph
-  pub unit_count : length placing.layout.units ≡ length g.units
-  unit_count =
-      ap (λ (p : Placing). length p.layout.units) is_located.is ∙ length-map_all (place_of is_located.located) g.units
 
   -- the unit that is the joined segment of that number
   unit_is : (unit n : ℕ) → slice_get g.units unit ≡ Some n → n < length segments → slice_get placing.layout.units unit ≡ Some (slice_index placing.places n)

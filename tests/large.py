@@ -38,13 +38,13 @@ def procedures(count):
     return ['stack', 'a.a51'], {'a.a51': lines('CSEG AT 0', 'LJMP MAIN', *unit, 'END')}
 
 
-def fixups(count):
-    """A source with so many fixups of a byte, up to 120 in a line, in two segments."""
+def fixups(count, *more):
+    """A source with so many fixups of a byte, up to 120 in a line, in two segments, and more lines after them."""
     rows = [min(120, count - at) for at in range(0, count, 120)]
     half = len(rows) // 2
     lists = [f'DB {",".join(["X"] * row)}' for row in rows]
     declared = ['EXTRN XDATA (X)', 'S SEGMENT CODE', 'T SEGMENT CODE']
-    return {'a.a51': lines(*declared, 'RSEG S', *lists[:half], 'RSEG T', *lists[half:], 'END')}
+    return {'a.a51': lines(*declared, 'RSEG S', *lists[:half], 'RSEG T', *lists[half:], *more, 'END')}
 
 
 def layers(count):
@@ -61,8 +61,10 @@ def layers(count):
 
 
 def is_ladder(answer):
-    """Whether the two units of each layer share a byte, and the heaviest chain has one of each."""
-    return b'CHAIN @0000 40 @0000,?PR?A0,?PR?A1,' in answer[1] and b'OVERLAID 40 BYTES\n' in answer[1]
+    """Whether the two units of each layer share a byte, from 08H to 2FH, and the heaviest chain has one of each."""
+    locals_ = [f'DATA  {8 + depth:04X} 0001 O ?DT?{side}{depth}\n' for depth in range(40) for side in 'AB']
+    told = [*locals_, 'CHAIN @0000 40 @0000,?PR?A0,?PR?A1,', 'OVERLAID 40 BYTES\n']
+    return all(line.encode() in answer[1] for line in told)
 
 
 def chain_of(sizes):
@@ -147,6 +149,9 @@ ASM = ['asm', '--out', 'a.obj', 'a.a51']
 CONTROLLED, SCRIPTED = ['build', '--control', 'c', *BUILD[1:]], ['build', '--script', 's', *BUILD[1:]]
 FLAT = ['flat', '--steps', '1', 'a.hex']
 LOOP_SOURCE = {'a.a51': lines('CSEG AT 0', 'SJMP $', 'END')}
+# A byte is awaited, and then shown with the levels of port 1.
+RECEIVER = {'a.a51': lines('CSEG AT 0', 'MOV SCON,#0D0H', 'JNB RI,$', 'MOV P0,SBUF', 'MOV P2,P1', 'SJMP $', 'END')}
+TIMED = {'s': b'PIN 7 P1 0F\nRX 7 41\n' * 32_768, **RECEIVER}
 LOOP_HEX = lines(objects.hex_record(0, '80FE'), objects.hex_record(0, '', 1))
 LAST = 'END 1 STEPS 1 CYCLES\n'
 LOOP = 'RUN\nEND 1 STEPS 2 CYCLES\n'
@@ -167,6 +172,8 @@ CASES = [
      is_refused(3, 'a.a51(256): E19\n')),
     ('65,535 fixups', ASM, fixups(65_535), is_object),
     ('65,536 fixups', ASM, fixups(65_536), is_refused(3, 'a.a51(552): E19\n')),
+    ('65,536 fixups and other faults', ASM, fixups(65_534, 'DB X,X', 'CJNE A,#X,Y', 'CJNE A,#Y,X', 'DB X,Y', 'DB 1'),
+     is_refused(3, ''.join(f'a.a51({at}): E{fault}\n' for at, fault in [(553, 19), (554, 19), (555, 7), (556, 19)]))),
     ('the largest list', BUILD, {'a.a51': lines('CSEG AT 0', f'DB {",".join(["0"] * 126)}', 'SJMP $', 'END')},
      ends(0, LAST)),
     ('40 layers of two units', BUILD, layers(40), is_ladder),
@@ -189,6 +196,8 @@ CASES = [
     ('65,536 script lines', SCRIPTED, {'s': b'\n' * 65_536, **LOOP_SOURCE}, ends(0, LOOP)),
     ('65,537 script lines', SCRIPTED, {'s': b'\n' * 65_536 + b';', **LOOP_SOURCE},
      is_refused(7, 'LIMIT SCRIPTLINES 65536\n')),
+    ('65,536 timed script lines', ['build', '--script', 's', '--steps', '9', 'a.a51'], TIMED,
+     ends(0, 'RUN\n10 P0 41\n12 P2 0F\nEND 9 STEPS 18 CYCLES\n')),
     ('990,000 points of a stack', *procedures(16), ends(0, 'STACK @0000 50 RESET,0038\nBOUND 32\n')),
     ('1,052,000 points of a stack', *procedures(17), is_refused(7, 'LIMIT POINTS 1000000\n')),
     ('254 units of a disassembly', *single_units(254),

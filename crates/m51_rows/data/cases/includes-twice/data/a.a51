@@ -1,0 +1,4 @@
+$INCLUDE(a.inc)
+$INCLUDE(b.inc)
+$include (a.inc) ; again
+END

@@ -1,0 +1,7 @@
+L: END
+NOP
+ ; comment
+
+M:
+$LIST
+$INCLUDE(one.inc)

@@ -1,0 +1,3 @@
+$INCLUDE(two.inc)
+NOP
+END

@@ -9,8 +9,7 @@ use Rattle.m51_flat.specs.declared.state.Pins.{Pins}
 use Rattle.m51_flat.specs.declared.state.Effect.{Effect}
 use Rattle.m51_flat.specs.declared.state.Seen.{Seen}
 use Rattle.m51_flat.specs.declared.state.Seen.TheVariants.{Value, Outside as SeenOutside, Unset as SeenUnset}
-use Rattle.m51_flat.specs.declared.state.Outcome.{Outcome}
-use Rattle.m51_flat.specs.declared.state.Outcome.TheVariants.{Done, PowerDown}
+use Rattle.m51_flat.specs.Outcome.{Outcome, Done, PowerDown}
 use Rattle.m51_flat.specs.States.{CellState, Holds, Absent, Fresh, States, shut_of}
 use Rattle.m51_flat.specs.Reads.{Access, Agrees, CellMap, access_seen, accesses_over, first_missing, result_over, value_or_missing}
 use Rattle.m51_flat.specs.Sfr.{flag, pcon}

@@ -8,8 +8,7 @@ use Rattle.m51_flat.specs.declared.state.Pins.{Pins}
 use Rattle.m51_flat.specs.declared.state.Effect.{Effect}
 use Rattle.m51_flat.specs.declared.state.Missing.{Missing}
 use Rattle.m51_flat.specs.declared.state.Missing.TheVariants.{Outside as MissingOutside, Unset as MissingUnset}
-use Rattle.m51_flat.specs.declared.state.Outcome.{Outcome}
-use Rattle.m51_flat.specs.declared.state.Outcome.TheVariants.{Done, Outside, Unset, PowerDown}
+use Rattle.m51_flat.specs.Outcome.{Outcome, Done, Outside, Unset, PowerDown}
 use Rattle.m51_flat.specs.States.{States, shut_of}
 use Rattle.m51_flat.specs.Reads.{Reads, Ends, Read, CellMap, Agrees, answer, access_seen, value_or_missing}
 use Rattle.m51_flat.specs.Sfr.{flag, has_register, latch, pcon, sp}

@@ -15,7 +15,7 @@ use Rattle.m51_flat.specs.declared.state.Put.{Put}
 use Rattle.m51_flat.specs.declared.state.Put.TheVariants.{Nothing, Byte, Bit, Xbyte}
 use Rattle.m51_flat.specs.declared.state.Missing.{Missing}
 use Rattle.m51_flat.specs.declared.state.Missing.TheVariants.{Outside as MissingOutside, Unset as MissingUnset}
-use Rattle.m51_flat.specs.declared.state.Outcome.TheVariants.{Outside, Unset}
+use Rattle.m51_flat.specs.Outcome.{Outside, Unset}
 use Rattle.m51_flat.specs.States.{AreCells, CellState, Holds, Absent, Fresh, States, first_barred, ram_cell, shut_of, xram_cell}
 use Rattle.m51_flat.specs.Reads.{Access, Agrees, CellMap, access_seen, accesses_over, first_missing, result_over, value_or_missing}
 use Rattle.m51_flat.specs.Meaning.{allowed, concluded, outcome_of, outcome_over, plan_of, unless_shut}

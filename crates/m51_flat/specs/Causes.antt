@@ -7,8 +7,7 @@ use Rattle.m51_cells.specs.Cells.{IsDataCell}
 use Rattle.m51_flat.specs.declared.state.Effect.{Effect}
 use Rattle.m51_flat.specs.declared.state.Missing.{Missing}
 use Rattle.m51_flat.specs.declared.state.Missing.TheVariants.{Outside as MissingOutside, Unset as MissingUnset}
-use Rattle.m51_flat.specs.declared.state.Outcome.{Outcome}
-use Rattle.m51_flat.specs.declared.state.Outcome.TheVariants.{Done, Outside, Unset, PowerDown}
+use Rattle.m51_flat.specs.Outcome.{Outcome, Done, Outside, Unset, PowerDown}
 use Rattle.m51_flat.specs.States.{CellState, States, Holds, Absent, Fresh}
 use Rattle.m51_flat.specs.Reads.{CellMap}
 use Rattle.m51_flat.specs.Sfr.{flag, pcon}

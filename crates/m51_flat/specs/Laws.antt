@@ -13,8 +13,7 @@ use Rattle.m51_flat.specs.declared.state.Put.TheVariants.{Byte}
 use Rattle.m51_flat.specs.declared.state.Transfer.{Transfer}
 use Rattle.m51_flat.specs.declared.state.Transfer.TheVariants.{Next, Jump, Call, Ret, Reti}
 use Rattle.m51_flat.specs.declared.state.Effect.{Effect}
-use Rattle.m51_flat.specs.declared.state.Outcome.{Outcome}
-use Rattle.m51_flat.specs.declared.state.Outcome.TheVariants.{Done}
+use Rattle.m51_flat.specs.Outcome.{Outcome, Done}
 use Rattle.m51_flat.specs.States.{States}
 use Rattle.m51_flat.specs.Reads.{Reads, Ends, Read, CellMap, Agrees, answer, accesses_over, result_over, first_missing}
 use Rattle.m51_flat.specs.Reads.{up_to_missing}

@@ -9,6 +9,7 @@ pub mod Arithmetic
 pub mod Moves
 pub mod Bits
 pub mod Transfers
+pub mod Outcome
 pub mod Meaning
 pub mod Flat
 pub mod FlatLaws

@@ -11,8 +11,7 @@ use Rattle.m51_flat.specs.declared.state.Transfer.TheVariants.{Next, Jump}
 use Rattle.m51_flat.specs.declared.state.Effect.{Effect}
 use Rattle.m51_flat.specs.declared.state.Missing.{Missing}
 use Rattle.m51_flat.specs.declared.state.Missing.TheVariants.{Outside as MissingOutside, Unset as MissingUnset}
-use Rattle.m51_flat.specs.declared.state.Outcome.{Outcome}
-use Rattle.m51_flat.specs.declared.state.Outcome.TheVariants.{Done, Outside, Unset, PowerDown}
+use Rattle.m51_flat.specs.Outcome.{Outcome, Done, Outside, Unset, PowerDown}
 use Rattle.m51_flat.specs.declared.actions.Action.{Action}
 use Rattle.m51_flat.specs.declared.actions.Action.TheVariants.{Skip, Assign, Accumulate, Combine, Change, Turn}
 use Rattle.m51_flat.specs.declared.actions.Action.TheVariants.{Multiply, Divide, Exchange, ExchangeDigit, LoadDptr}
@@ -68,6 +67,18 @@ plan image ext e (CountDown place rel) = counted_down e place rel
 plan image ext e (CallTo target) = Ends (called e target)
 plan image ext e (CallNear address) = Ends (called e (near e.cpu.pc address))
 plan image ext e (Return from) = returned e from
+
+-- the effect of a step of so many cycles that changes nothing, and after which interrupts are not held off
+abbrev pub still : Cpu → ℕ → Effect
+still cpu cycles = record {
+  cpu = record cpu { held = false };
+  first = Nothing;
+  second = Nothing;
+  transfer = Next;
+  port = None;
+  sbuf = None;
+  cycles = cycles;
+}
 
 -- the effect of an instruction that only goes on to the next
 abbrev pub started : Cpu → Instr → Effect

@@ -5,7 +5,7 @@ use Rattle.m51_isa.specs.declared.instr.Instr.{Instr}
 use Rattle.m51_flat.specs.declared.state.Cpu.{Cpu}
 use Rattle.m51_flat.specs.declared.state.Pins.{Pins}
 use Rattle.m51_flat.specs.declared.state.Effect.{Effect}
-use Rattle.m51_flat.specs.declared.state.Outcome.TheVariants.{Done, PowerDown}
+use Rattle.m51_flat.specs.Outcome.{Done, PowerDown}
 use Rattle.m51_flat.specs.States.{States, shut_of}
 use Rattle.m51_flat.specs.Reads.{Agrees, CellMap, result_over}
 use Rattle.m51_flat.specs.Sfr.{flag, pcon}

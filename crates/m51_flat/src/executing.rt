@@ -1,11 +1,12 @@
 //! A reset, and one instruction.
 ghost use Rattle.std.specs.Prelude.{◌≡◌, length, IfSome};
 ghost use Rattle.m51_isa.specs.Table.{flow_of};
-ghost use Rattle.m51_flat.specs.declared.state.Outcome.TheVariants.{Done};
+ghost use Rattle.m51_flat.specs.Outcome.{Done, outcome_by};
 ghost use Rattle.m51_flat.specs.Causes.{IsBarred, IsCause, IsWhole, unless_down};
 ghost use Rattle.m51_flat.specs.Laws.{Follows, HasParity, IfDone, next_address};
 ghost use Rattle.m51_flat.specs.LevelLaws.{LevelsFollow, writes_ie_or_ip};
-ghost use Rattle.m51_flat.specs.Meaning.{allowed, outcome_of, outcome_over, plan_of, started, unless_barred};
+ghost use Rattle.m51_flat.specs.Meaning.{allowed, outcome_of, outcome_over, plan_of, started, still};
+ghost use Rattle.m51_flat.specs.Meaning.{unless_barred};
 ghost use Rattle.m51_flat.specs.Reads.{Agrees, CellMap, result_over};
 ghost use Rattle.m51_flat.specs.Reset.{reset_cpu, reset_values};
 ghost use Rattle.m51_flat.specs.Sfr.{latch, sp};
@@ -13,7 +14,7 @@ ghost use Rattle.m51_flat.specs.States.{shut_of};
 
 use crate::action_table::action_for;
 use crate::performing::perform;
-use crate::state::{Cpu, Effect, Missing, Outcome, Pins, Put, Transfer};
+use crate::state::{Cpu, Effect, Missing, NoEffect, Pins, Put, Transfer};
 use crate::store::CellStore;
 use m51_cells::Cell;
 use m51_isa::{Instr, cycles, length};
@@ -49,23 +50,31 @@ pub fn reset() -> Cpu
     }
 }
 
-/// The effect of an instruction that only goes on to the next.
+/// Makes an effect that of a step of so many machine cycles that changes nothing, and after which interrupts are not held
+/// off.
+///
+/// Source: own choice ("Effects").
 #[inline(always)]
-fn start(cpu: &Cpu, instr: &Instr) -> Effect
-    ensures { result ≡ started cpu.now instr.now }
+pub fn begin(effect: &mut Effect, cpu: &Cpu, cycles: u8)
+    ensures { effect.new ≡ still cpu.now cycles }
 {
-    let mut next = *cpu;
-    next.pc = cpu.pc.wrapping_add(u16::from(length(instr)));
-    next.held = false;
-    Effect {
-        cpu: next,
-        first: Put::Nothing,
-        second: Put::Nothing,
-        transfer: Transfer::Next,
-        port: None,
-        sbuf: None,
-        cycles: cycles(instr),
-    }
+    effect.cpu = *cpu;
+    effect.cpu.held = false;
+    effect.first = Put::Nothing;
+    effect.second = Put::Nothing;
+    effect.transfer = Transfer::Next;
+    effect.port = None;
+    effect.sbuf = None;
+    effect.cycles = cycles;
+}
+
+/// Makes an effect that of an instruction that only goes on to the next.
+#[inline(always)]
+fn start(effect: &mut Effect, cpu: &Cpu, instr: &Instr)
+    ensures { effect.new ≡ started cpu.now instr.now }
+{
+    begin(effect, cpu, cycles(instr));
+    effect.cpu.pc = cpu.pc.wrapping_add(u16::from(length(instr)));
 }
 
 /// The lowest cell of a put that may not be written. It exists.
@@ -80,99 +89,121 @@ pub fn shut_cell<M: CellStore>(store: &M, put: Put) -> Option<Cell>
     store.shut(&put)
 }
 
-/// An outcome, where both puts of an effect may be written; else the lowest cell of the first that may not be
-/// written, then of the second.
+/// An answer, where both puts of an effect may be written; else the lowest cell of the first that may not be written,
+/// then of the second.
 #[inline(always)]
-fn unless_shut<M: CellStore>(store: &M, effect: &Effect, outcome: Outcome) -> Outcome
-    requires { IsCause (M.cells store.now) (M.barred store.now) outcome }
-    ensures value { result ≡ unless_barred (M.barred store.now) effect.now outcome }
-    ensures cause { IsCause (M.cells store.now) (M.barred store.now) result }
+fn unless_shut<M: CellStore>(
+    store: &M,
+    effect: &Effect,
+    answer: Result<(), NoEffect>,
+) -> Result<(), NoEffect>
+    requires { IsCause (M.cells store.now) (M.barred store.now) (outcome_by answer effect.now) }
+    ensures value { outcome_by result effect.now
+        ≡ unless_barred (M.barred store.now) effect.now (outcome_by answer effect.now) }
+    ensures cause { IsCause (M.cells store.now) (M.barred store.now) (outcome_by result effect.now) }
 {
     if let Some(cell) = shut_cell(store, effect.first) {
-        return Outcome::Outside(cell);
+        return Err(NoEffect::Outside(cell));
     }
     if let Some(cell) = shut_cell(store, effect.second) {
-        return Outcome::Outside(cell);
+        return Err(NoEffect::Outside(cell));
     }
-    outcome
+    answer
 }
 
-/// What an effect that is no instruction's comes to over a store: `Outside` with the lowest cell of the first put,
-/// then of the second, that may not be written, and else `Done`. PCON is not asked.
+/// Whether an effect that is no instruction's may be performed over a store: `Outside` with the lowest cell of the first
+/// put, then of the second, that may not be written. PCON is not asked.
 ///
 /// Source: own choice ("Effects").
 #[inline(always)]
-pub fn conclude<M: CellStore>(store: &M, effect: Effect) -> Outcome
-    ensures value { result ≡ unless_barred (M.barred store.now) effect (Done effect) }
-    ensures cause { IsCause (M.cells store.now) (M.barred store.now) result }
+pub fn conclude<M: CellStore>(store: &M, effect: &Effect) -> Result<(), NoEffect>
+    ensures value { outcome_by result effect.now ≡ unless_barred (M.barred store.now) effect.now (Done effect.now) }
+    ensures cause { IsCause (M.cells store.now) (M.barred store.now) (outcome_by result effect.now) }
 {
-    unless_shut(store, &effect, Outcome::Done(effect))
+    unless_shut(store, effect, Ok(()))
 }
 
-/// The effect, where its puts may be written and it does not power down.
+/// Whether the effect of an instruction may be performed: its puts may be written, and it does not power down.
 #[inline(always)]
-fn allow<M: CellStore>(store: &M, effect: Effect) -> Outcome
-    ensures value { result ≡ allowed (M.barred store.now) effect }
-    ensures cause { IsCause (M.cells store.now) (M.barred store.now) result }
+fn allow<M: CellStore>(store: &M, effect: &Effect) -> Result<(), NoEffect>
+    ensures value { outcome_by result effect.now ≡ allowed (M.barred store.now) effect.now }
+    ensures cause { IsCause (M.cells store.now) (M.barred store.now) (outcome_by result effect.now) }
 {
     if effect.cpu.flag(PCON, PD) {
-        unless_shut(store, &effect, Outcome::PowerDown)
+        unless_shut(store, effect, Err(NoEffect::PowerDown))
     } else {
-        unless_shut(store, &effect, Outcome::Done(effect))
+        unless_shut(store, effect, Ok(()))
     }
 }
 
 // What an instruction comes to over a store.
 #[tactic(auto, unfolding(crate::specs::Meaning::outcome_of))]
 #[inline(always)]
-fn run<M: CellStore>(cpu: &Cpu, store: &M, instr: &Instr, image: &[u8], ext: &Pins) -> Outcome
+fn run<M: CellStore>(
+    cpu: &Cpu,
+    store: &M,
+    instr: &Instr,
+    image: &[u8],
+    ext: &Pins,
+    effect: &mut Effect,
+) -> Result<(), NoEffect>
     requires { length image.now ≡ 65536 }
-    ensures value { result ≡ outcome_of cpu.now (M.cells store.now) (M.barred store.now) instr.now image.now ext.now }
-    ensures cause { IsCause (M.cells store.now) (M.barred store.now) result }
+    ensures value { outcome_by result effect.new
+        ≡ outcome_of cpu.now (M.cells store.now) (M.barred store.now) instr.now image.now ext.now }
+    ensures cause { IsCause (M.cells store.now) (M.barred store.now) (outcome_by result effect.new) }
 {
-    let mut effect = start(cpu, instr);
-    match perform(store, image, ext, &mut effect, action_for(instr)) {
+    start(effect, cpu, instr);
+    match perform(store, image, ext, effect, action_for(instr)) {
         Ok(()) => allow(store, effect),
-        Err(Missing::Outside(cell)) => Outcome::Outside(cell),
-        Err(Missing::Unset(cell)) => Outcome::Unset(cell),
+        Err(Missing::Outside(cell)) => Err(NoEffect::Outside(cell)),
+        Err(Missing::Unset(cell)) => Err(NoEffect::Unset(cell)),
     }
 }
 
-/// What an instruction comes to over a store. It changes nothing: the caller puts `first` and then `second`.
+/// What an instruction comes to over a store, where `image` has 65,536 bytes. It changes the effect alone, which is of
+/// no meaning after an error; the caller puts `first` and then `second`.
 ///
 /// - `Outside` and `Unset`: the first read that the store does not answer, in the order of the operands.
 /// - `Outside`, else: the lowest cell of the first put, then of the second, that may not be written.
 /// - `PowerDown`, else: PCON bit 1 would be set.
-/// - `Done`, else, with the whole effect.
 ///
 /// Source: family manual; own choice ("Effects").
 #[inline(always)]
-pub fn exec<M: CellStore>(cpu: &Cpu, store: &M, instr: &Instr, image: &[u8], ext: &Pins) -> Outcome
+pub fn exec<M: CellStore>(
+    cpu: &Cpu,
+    store: &M,
+    instr: &Instr,
+    image: &[u8],
+    ext: &Pins,
+    effect: &mut Effect,
+) -> Result<(), NoEffect>
     requires { length image.now ≡ 65536 }
-    ensures outcome { result ≡ outcome_of cpu.now (M.cells store.now) (M.barred store.now) instr.now image.now ext.now }
+    ensures outcome { outcome_by result effect.new
+        ≡ outcome_of cpu.now (M.cells store.now) (M.barred store.now) instr.now image.now ext.now }
 
     // Over any map that agrees with the store: its reads up to the first that fails, or else its effect.
-    ensures over_map { (m : CellMap) → Agrees (M.cells store.now) m
-        → result ≡ outcome_over m cpu.now (M.cells store.now) (M.barred store.now) instr.now image.now ext.now }
+    ensures over_map { (m : CellMap) → Agrees (M.cells store.now) m → outcome_by result effect.new
+        ≡ outcome_over m cpu.now (M.cells store.now) (M.barred store.now) instr.now image.now ext.now }
 
     // A cell that it names exists, and is outside or barred, or was never written.
-    ensures missing { IsCause (M.cells store.now) (M.barred store.now) result }
+    ensures missing { IsCause (M.cells store.now) (M.barred store.now) (outcome_by result effect.new) }
 
     // Over a store that holds a map, and of which no cell is barred: the effect over the map, or power-down.
     ensures whole { (m : CellMap) → IsWhole (M.cells store.now) (M.barred store.now) m
-        → result ≡ unless_down (result_over m (plan_of cpu.now instr.now image.now ext.now)) }
+        → outcome_by result effect.new
+        ≡ unless_down (result_over m (plan_of cpu.now instr.now image.now ext.now)) }
 
     // PSW bit 0 stays the parity of ACC.
-    ensures parity { HasParity cpu.now → IfDone result (λ e. HasParity e.cpu) }
+    ensures parity { HasParity cpu.now → IfDone (outcome_by result effect.new) (λ e. HasParity e.cpu) }
 
     // Control goes on by the flow of the instruction: PC of the next, a call's two bytes, SP after a call or a return.
-    ensures control { IfDone result (λ e.
+    ensures control { IfDone (outcome_by result effect.new) (λ e.
         Follows (flow_of instr.now) (next_address cpu.now instr.now) (latch cpu.now sp) e) }
 
     // RETI ends the higher level in progress, and all others keep both. Interrupts are held off exactly after RETI and
     // after a write of IE, IP or a bit of them.
-    ensures levels { IfDone result (λ e.
+    ensures levels { IfDone (outcome_by result effect.new) (λ e.
         LevelsFollow (flow_of instr.now) (writes_ie_or_ip cpu.now instr.now) cpu.now e) }
 {
-    run(cpu, store, instr, image, ext)
+    run(cpu, store, instr, image, ext, effect)
 }

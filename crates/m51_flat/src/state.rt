@@ -156,14 +156,12 @@ pub struct Effect {
     pub cycles: u8,
 }
 
-/// What an instruction comes to.
+/// Why an instruction has no effect.
 ///
 /// Source: own choice ("Effects").
 #[derive(Clone, Copy, Debug, PartialEq, Eq)]
-pub enum Outcome {
-    /// Its effect.
-    Done(Effect),
-    /// It would read or write this cell, which is outside the store.
+pub enum NoEffect {
+    /// It would read this cell, which is outside the store, or write it, which it may not.
     Outside(Cell),
     /// It would read this cell, which was never written.
     Unset(Cell),

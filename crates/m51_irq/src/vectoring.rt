@@ -1,14 +1,16 @@
 //! Taking an interrupt.
 ghost use Rattle.std.specs.Prelude.{◌≡◌, ◌<◌, false, length};
 ghost use Rattle.m51_cells.specs.declared.cell.Cell.{Cell};
-ghost use Rattle.m51_flat.specs.declared.state.Outcome.TheVariants.{Done};
+ghost use Rattle.m51_flat.specs.Outcome.{Done, outcome_by};
 ghost use Rattle.m51_flat.specs.Causes.{IsCause};
 ghost use Rattle.m51_flat.specs.Laws.{HasParity, IfDone};
 ghost use Rattle.m51_irq.specs.Vectoring.{IsVectoring, acknowledged, cleared, edge_cleared, entered, interrupted};
 ghost use Rattle.m51_irq.specs.Vectoring.{vectored, vectoring};
 
 use crate::sources::level_of;
-use m51_flat::{CellStore, Cpu, Effect, Level, Outcome, Put, Source, Transfer, conclude, stack_pc};
+use m51_flat::{
+    CellStore, Cpu, Effect, Level, NoEffect, Source, Transfer, begin, conclude, stack_pc,
+};
 use m51_sfr::addresses::{PCON, TCON};
 use m51_sfr::bits::{IDL, IE0, IE1, IT0, IT1, TF0, TF1};
 
@@ -60,57 +62,55 @@ pub fn acknowledge(cpu: &mut Cpu, source: Source)
     enter(cpu, level);
 }
 
-// An interrupt that is acknowledged, before the call of its vector.
-fn interrupt(cpu: &Cpu, source: Source) -> Effect
-    ensures { result ≡ interrupted cpu.now source }
+// Makes an effect that of an interrupt that is acknowledged, before the call of its vector.
+fn interrupt(effect: &mut Effect, cpu: &Cpu, source: Source)
+    ensures { effect.new ≡ interrupted cpu.now source }
 {
     let mut taken = *cpu;
     acknowledge(&mut taken, source);
-    taken.held = false;
-    Effect {
-        cpu: taken,
-        first: Put::Nothing,
-        second: Put::Nothing,
-        transfer: Transfer::Next,
-        port: None,
-        sbuf: None,
-        cycles: 2,
-    }
+    begin(effect, &taken, 2);
 }
 
-// All that taking an interrupt changes.
+// Makes an effect all that taking an interrupt changes.
 #[tactic(auto, unfolding(crate::specs::Vectoring::vectoring))]
-fn vectoring_effect(cpu: &Cpu, source: Source) -> Effect
-    ensures value { result ≡ vectoring cpu.now source }
+fn vector_effect(effect: &mut Effect, cpu: &Cpu, source: Source)
+    ensures value { effect.new ≡ vectoring cpu.now source }
     ensures registers { length (interrupted cpu.now source).cpu.regs ≡ 128 }
 {
-    let mut effect = interrupt(cpu, source);
-    stack_pc(&mut effect);
+    interrupt(effect, cpu, source);
+    stack_pc(effect);
     effect.cpu.pc = source.vector();
     effect.transfer = Transfer::Vector(source);
-    effect
 }
 
-/// What taking an interrupt comes to over a store. It changes nothing: the caller puts `first` and then `second`.
+/// What taking an interrupt comes to over a store. It changes the effect alone: the caller puts `first` and then
+/// `second`.
 ///
 /// - `Outside`: the lowest cell of the first put, then of the second, that may not be written.
-/// - `Done`, else, with the whole effect: the interrupt is acknowledged, and its vector called, in two cycles.
+/// - No error, else: the interrupt is acknowledged, and its vector called, in two cycles.
 ///
 /// Source: family manual; own choice ("Effects").
-pub fn vector<M: CellStore>(cpu: &Cpu, store: &M, source: Source) -> Outcome
-    ensures outcome { result ≡ vectored cpu.now (M.barred store.now) source }
+pub fn vector<M: CellStore>(
+    cpu: &Cpu,
+    store: &M,
+    source: Source,
+    effect: &mut Effect,
+) -> Result<(), NoEffect>
+    ensures outcome { outcome_by result effect.new ≡ vectored cpu.now (M.barred store.now) source }
 
     // A cell that it names exists and is barred.
-    ensures missing { IsCause (M.cells store.now) (M.barred store.now) result }
+    ensures missing { IsCause (M.cells store.now) (M.barred store.now) (outcome_by result effect.new) }
 
     // Over a store of which no cell is barred: the effect.
-    ensures whole { ((c : Cell) → M.barred store.now c ≡ false) → result ≡ Done (vectoring cpu.now source) }
+    ensures whole { ((c : Cell) → M.barred store.now c ≡ false)
+        → outcome_by result effect.new ≡ Done (vectoring cpu.now source) }
 
     // PSW bit 0 stays the parity of ACC.
-    ensures parity { HasParity cpu.now → IfDone result (λ e. HasParity e.cpu) }
+    ensures parity { HasParity cpu.now → IfDone (outcome_by result effect.new) (λ e. HasParity e.cpu) }
 
     // PC is the vector; its old value is stored above the stack, low byte first, and SP is raised by two.
-    ensures control { IfDone result (IsVectoring cpu.now source) }
+    ensures control { IfDone (outcome_by result effect.new) (IsVectoring cpu.now source) }
 {
-    conclude(store, vectoring_effect(cpu, source))
+    vector_effect(effect, cpu, source);
+    conclude(store, effect)
 }

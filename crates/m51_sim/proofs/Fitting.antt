@@ -1,5 +1,5 @@
 -- An effect that is judged may be performed, and records and processor are in order afterwards.
-use Rattle.std.specs.Prelude.{if◌then◌else◌, nat_eq}
+use Rattle.std.specs.Prelude.{if◌then◌else◌, nat_eq, IfErr, IfOk}
 use Rattle.std.proofs.Common.{◌≡◌, ℕ, ◌+◌, Bool, true, false, not, List, [], ◌∷◌, Option, Some, None, Result, Ok, Err, refl, sym, ap, subst, ◌∙◌}
 use Rattle.m51_cells.specs.declared.event.Event.{Event}
 use Rattle.m51_cells.specs.declared.event.Event.TheVariants as events
@@ -33,7 +33,8 @@ use Rattle.m51_monitor.proofs.Finding.{is_number}
 use Rattle.m51_monitor.proofs.Levels.{levels_are_kept, stack_is_kept}
 use Rattle.m51_monitor.proofs.Moving.{ok_is, unless_ok}
 use Rattle.m51_print.specs.Lines.{HasText}
-use Rattle.m51_sim.specs.declared.judging.Allowed.{Allowed as AllowedEffect}
+use Rattle.m51_sim.specs.Allowed.{Allowed as AllowedEffect}
+use Rattle.m51_sim.specs.SeparateMachine.{with_move}
 use Rattle.m51_sim.specs.Boards.{IsInOrder}
 use Rattle.m51_sim.specs.Ready.{HasRoom, IsPrepared, MayCommit, StoresAddress}
 
@@ -88,16 +89,18 @@ commits m cpu e step h judges =
     let k = fits m e (latch cpu sp) (latch e.cpu sp) e.cpu.pc e.transfer judges.at judges.root step h.regular.stores h.room judges.is in
     record { judges = judges; prepared = h; address = k.0; level = k.1 }
 
-pub may_commit : (m : Monitored) (cpu : Cpu) (e : Effect) (step : Move) → IsPrepared m cpu e → Answers m.layout m.records cpu e (Ok step) → MayCommit m cpu (record { effect = e; step = step })
-may_commit m cpu e step h a = commits m cpu e step h (judges_of m cpu e step a.answer a.judges a.is)
+pub judged_commits : (m : Monitored) (cpu : Cpu) (e : Effect) (r : Result Move Event) → IsPrepared m cpu e → Answers m.layout m.records cpu e r → IfOk (with_move e r) (MayCommit m cpu)
+judged_commits m cpu e (Ok step) h a = commits m cpu e step h (judges_of m cpu e step a.answer a.judges a.is)
+judged_commits m cpu e (Err event) h a = tt
 
 -- an undeclared transfer has a text
 text_of : (m : Monitored) (cpu : Cpu) (e : Effect) (event : Event) (count : ℕ) (answer : Result Move Why) → Err event ≡ as_event cpu.pc e.cpu.pc answer → HasText count event
 text_of m cpu e event count (Ok step) is = cc is
 text_of m cpu e event count (Err why) is = let same : event ≡ events.Transfer why cpu.pc e.cpu.pc = cc is in subst (HasText count) (sym same) tt
 
-pub judged_text : (m : Monitored) (cpu : Cpu) (e : Effect) (event : Event) (count : ℕ) → Answers m.layout m.records cpu e (Err event) → HasText count event
-judged_text m cpu e event count a = text_of m cpu e event count a.answer a.is
+pub judged_text : (m : Monitored) (cpu : Cpu) (e : Effect) (r : Result Move Event) (count : ℕ) → Answers m.layout m.records cpu e r → IfErr r (HasText count)
+judged_text m cpu e (Ok step) count a = tt
+judged_text m cpu e (Err event) count a = text_of m cpu e event count a.answer a.is
 
 -- what a processor keeps through the cycles of a step
 pub record KeepsControl (old new : Cpu) : Type 0 where

@@ -12,8 +12,8 @@ use Rattle.m51_module.specs.declared.parts.LayoutParts.{LayoutParts}
 use Rattle.m51_module.specs.Sound.{IsSound}
 use Rattle.m51_flat.specs.declared.state.Cpu.{Cpu}
 use Rattle.m51_flat.specs.declared.state.Effect.{Effect}
-use Rattle.m51_flat.specs.declared.state.Outcome.{Outcome}
-use Rattle.m51_flat.specs.declared.state.Outcome.TheVariants as outcome
+use Rattle.m51_flat.specs.Outcome.{Outcome}
+use Rattle.m51_flat.specs.Outcome as outcome
 use Rattle.m51_flat.specs.declared.state.Pins.{Pins}
 use Rattle.m51_flat.specs.Meaning.{plan_of, unless_shut}
 use Rattle.m51_flat.specs.Flags.{pd}
@@ -36,7 +36,7 @@ use Rattle.m51_monitor.proofs.Entering.{plain_lives}
 use Rattle.m51_monitor.proofs.Starting.{filled_are_stores}
 use Rattle.m51_sim.specs.declared.attempt.Attempt.{Attempt}
 use Rattle.m51_sim.specs.declared.attempt.Attempt.TheVariants.{Vectoring, Idling, Executing, Refusing}
-use Rattle.m51_sim.specs.declared.judging.Allowed.{Allowed}
+use Rattle.m51_sim.specs.Allowed.{Allowed}
 use Rattle.m51_sim.specs.Cycles.{Inputs}
 use Rattle.m51_sim.specs.Effects.{attempt_of, idle_effect, performed}
 use Rattle.m51_sim.specs.FlatMachine.{flat_effect, flat_machine, flat_performs, instr_effect, map_after, reset_with, unless_powers_down}

@@ -14,7 +14,7 @@ use Rattle.m51_timers_uart.specs.Sending.{Ticked}
 use Rattle.m51_timers_uart.specs.Tick.{ticked}
 use Rattle.m51_timers_uart.proofs.Kept.{the_rest_is_kept}
 use Rattle.m51_sim.specs.declared.cycles.Passing.{Passing}
-use Rattle.m51_sim.specs.declared.judging.Allowed.{Allowed}
+use Rattle.m51_sim.specs.Allowed.{Allowed}
 use Rattle.m51_sim.specs.declared.runs.Entries.{Entries}
 use Rattle.m51_sim.specs.Boards.{ChipState, state_with}
 use Rattle.m51_sim.specs.Cycles.{AreFew, Inputs, after_tick, cycle_passed, cycles_passed, first_sent, next_cycle, sent_in, with_extra}

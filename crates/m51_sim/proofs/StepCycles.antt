@@ -20,7 +20,7 @@ use Rattle.m51_monitor.specs.Resolved.{outside_of}
 use Rattle.m51_sim.specs.declared.attempt.Attempt.{Attempt}
 use Rattle.m51_sim.specs.declared.attempt.Attempt.TheVariants.{Vectoring, Idling, Executing, Refusing}
 use Rattle.m51_sim.specs.declared.cycles.Passing.{Passing}
-use Rattle.m51_sim.specs.declared.judging.Allowed.{Allowed}
+use Rattle.m51_sim.specs.Allowed.{Allowed}
 use Rattle.m51_sim.specs.Cycles.{Inputs, cycle_passed, cycles_passed, next_cycle}
 use Rattle.m51_sim.specs.Effects.{attempt_of, changed_by, idle_effect}
 use Rattle.m51_sim.specs.Runs.{Performed}

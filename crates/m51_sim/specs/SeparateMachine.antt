@@ -11,8 +11,8 @@ use Rattle.m51_module.specs.declared.parts.LayoutParts.{LayoutParts}
 use Rattle.m51_flat.specs.declared.state.Cpu.{Cpu}
 use Rattle.m51_flat.specs.declared.state.Pins.{Pins}
 use Rattle.m51_flat.specs.declared.state.Effect.{Effect}
-use Rattle.m51_flat.specs.declared.state.Outcome.{Outcome}
-use Rattle.m51_flat.specs.declared.state.Outcome.TheVariants as outcome
+use Rattle.m51_flat.specs.Outcome.{Outcome}
+use Rattle.m51_flat.specs.Outcome as outcome
 use Rattle.m51_flat.specs.Meaning.{outcome_of}
 use Rattle.m51_flat.specs.States.{States}
 use Rattle.m51_irq.specs.Vectoring.{vectored}
@@ -27,7 +27,7 @@ use Rattle.m51_monitor.specs.Stores.{Stores, filled_stores}
 use Rattle.m51_monitor.specs.Transfers.{is_at, moved}
 use Rattle.m51_sim.specs.declared.attempt.Attempt.{Attempt}
 use Rattle.m51_sim.specs.declared.attempt.Attempt.TheVariants.{Vectoring, Idling, Executing, Refusing}
-use Rattle.m51_sim.specs.declared.judging.Allowed.{Allowed}
+use Rattle.m51_sim.specs.Allowed.{Allowed}
 use Rattle.m51_sim.specs.Cycles.{Inputs}
 use Rattle.m51_sim.specs.Runs.{State, Performed, Machine}
 use Rattle.m51_sim.specs.Effects.{attempt_of, idle_effect, performed}

@@ -16,11 +16,12 @@ ghost use Rattle.m51_sim.specs.Run.{Ended, IsAdvance, IsStep, IsToldStep, step_t
 ghost use Rattle.m51_sim.specs.Runs.{record_of};
 ghost use Rattle.m51_sim.specs.SeparateMachine.{separate_machine};
 
-use crate::chip::Chip;
+use crate::chip::{Chip, place};
 use crate::cycles::Timed;
 use crate::judging::{commit, judge, stand};
 use crate::runs::{Entries, RunEnd, Step, Steps, Told, count_run, run};
 use m51_cells::{Event, NoMemory};
+use m51_flat::Effect;
 use m51_module::{Image, Layout, Placed, Tally};
 use m51_monitor::Monitor;
 use m51_script::Script;
@@ -36,6 +37,8 @@ use std::marker::Model;
 pub struct Board {
     chip: Chip,
     monitor: Monitor,
+    // The place of the effect of a step.
+    effect: Effect,
 }
 
 impl Model for Board {
@@ -67,6 +70,7 @@ impl Board {
         Ok(Board {
             chip: Chip::make(image, script),
             monitor,
+            effect: place(),
         })
     }
 
@@ -81,7 +85,7 @@ impl Board {
         ensures image { self.new.chip.image ≡ self.old.chip.image }
         ensures script { self.new.chip.script ≡ self.old.chip.script }
     {
-        let answer = advance_alone(&mut self.monitor, &mut self.chip);
+        let answer = advance_alone(&mut self.monitor, &mut self.chip, &mut self.effect);
         step_told(answer)
     }
 
@@ -100,7 +104,7 @@ impl Board {
         ensures image { self.new.chip.image ≡ self.old.chip.image }
         ensures script { self.new.chip.script ≡ self.old.chip.script }
     {
-        let answer = advance(&mut self.monitor, &mut self.chip, extra);
+        let answer = advance(&mut self.monitor, &mut self.chip, &mut self.effect, extra);
         told_by(answer)
     }
 
@@ -205,7 +209,12 @@ fn told_by(answer: Result<Entries, Event>) -> Told
 }
 
 // Performs a step and gives what it tells, or gives the event that stops it.
-fn advance(monitor: &mut Monitor, chip: &mut Chip, extra: &[Timed]) -> Result<Entries, Event>
+fn advance(
+    monitor: &mut Monitor,
+    chip: &mut Chip,
+    effect: &mut Effect,
+    extra: &[Timed],
+) -> Result<Entries, Event>
     requires order { IsInOrder monitor.old chip.old.cpu }
     requires few { AreFew extra.now }
     ensures order { IsInOrder monitor.new chip.new.cpu }
@@ -218,17 +227,21 @@ fn advance(monitor: &mut Monitor, chip: &mut Chip, extra: &[Timed]) -> Result<En
     ensures text { IfErr result (HasText (length monitor.old.layout.placed)) }
 {
     stand(monitor);
-    match judge(monitor, chip) {
-        Ok(allowed) => {
-            commit(monitor, &allowed);
-            Ok(chip.pass(&allowed.effect, extra))
+    match judge(monitor, chip, effect) {
+        Ok(step) => {
+            commit(monitor, effect, step);
+            Ok(chip.pass(effect, extra))
         }
         Err(event) => Err(event),
     }
 }
 
 // The same with the script's frames only.
-fn advance_alone(monitor: &mut Monitor, chip: &mut Chip) -> Result<Entries, Event>
+fn advance_alone(
+    monitor: &mut Monitor,
+    chip: &mut Chip,
+    effect: &mut Effect,
+) -> Result<Entries, Event>
     requires order { IsInOrder monitor.old chip.old.cpu }
     ensures order { IsInOrder monitor.new chip.new.cpu }
     ensures layout { monitor.new.layout ≡ monitor.old.layout }
@@ -239,7 +252,7 @@ fn advance_alone(monitor: &mut Monitor, chip: &mut Chip) -> Result<Entries, Even
         (state_with chip.old (memory_of monitor.old)) (state_with chip.new (memory_of monitor.new)) }
     ensures text { IfErr result (HasText (length monitor.old.layout.placed)) }
 {
-    advance(monitor, chip, &[])
+    advance(monitor, chip, effect, &[])
 }
 
 impl Steps for Board {
@@ -261,7 +274,7 @@ impl Steps for Board {
     ghost extents = { λ loaded. loaded.layout.placed };
 
     fn advance(&mut self) -> Result<Entries, Event> {
-        advance_alone(&mut self.monitor, &mut self.chip)
+        advance_alone(&mut self.monitor, &mut self.chip, &mut self.effect)
     }
 
     fn cycle(&self) -> u64 {

@@ -11,7 +11,7 @@ use crate::attempt::Attempt;
 use crate::cycles::{Passing, Timed, pass_cycles};
 use crate::runs::Entries;
 use m51_cells::Entry;
-use m51_flat::{Cpu, Effect, Pins, Put, Source, Transfer, reset};
+use m51_flat::{Cpu, Effect, Pins, Put, Source, Transfer, begin, reset};
 use m51_irq::choose;
 use m51_isa::{Instr, decode};
 use m51_module::Image;
@@ -180,14 +180,17 @@ impl Chip {
     }
 }
 
-// A machine cycle without an instruction.
-pub(crate) fn idle(cpu: &Cpu) -> Effect
-    ensures { result ≡ idle_effect cpu.now }
+// Makes an effect that of a machine cycle without an instruction.
+pub(crate) fn idle(effect: &mut Effect, cpu: &Cpu)
+    ensures { effect.new ≡ idle_effect cpu.now }
 {
-    let mut cpu = *cpu;
-    cpu.held = false;
+    begin(effect, cpu, 1);
+}
+
+// A place for the effects of steps, each of which is made before it is read.
+pub(crate) fn place() -> Effect {
     Effect {
-        cpu,
+        cpu: reset(),
         first: Put::Nothing,
         second: Put::Nothing,
         transfer: Transfer::Next,

@@ -7,16 +7,16 @@ ghost use Rattle.m51_script.specs.declared.script.Script.{Script as ScriptState}
 ghost use Rattle.m51_sim.specs.Boards.{IsFlatStarted, flat_of, map_of, state_with};
 ghost use Rattle.m51_sim.specs.Cycles.{inputs_of};
 ghost use Rattle.m51_sim.specs.Effects.{attempt_of};
-ghost use Rattle.m51_sim.specs.FlatMachine.{flat_effect, flat_machine, instr_effect, map_after};
+ghost use Rattle.m51_sim.specs.FlatMachine.{flat_effect, flat_machine, instr_effect, left_in, map_after};
 ghost use Rattle.m51_sim.specs.Report.{IsFlatReport};
 ghost use Rattle.m51_sim.specs.Run.{Ended, IsAdvance};
 ghost use Rattle.m51_irq.specs.Vectoring.{vectoring};
 
 use crate::attempt::Attempt;
-use crate::chip::{Chip, idle};
+use crate::chip::{Chip, idle, place};
 use crate::runs::{Entries, RunEnd, Steps, run};
 use m51_cells::{Event, NoMemory};
-use m51_flat::{CellStore, Cpu, Effect, FlatRam, Outcome, Put, Source, exec};
+use m51_flat::{CellStore, Cpu, Effect, FlatRam, NoEffect, Put, Source, exec};
 use m51_irq::vector;
 use m51_isa::Instr;
 use m51_module::{Image, Placed};
@@ -33,6 +33,8 @@ use std::marker::Model;
 pub struct FlatBoard {
     chip: Chip,
     memory: FlatRam,
+    // The place of the effect of a step.
+    effect: Effect,
 }
 
 impl Model for FlatBoard {
@@ -55,6 +57,7 @@ impl FlatBoard {
         Ok(FlatBoard {
             chip: Chip::make(image, script),
             memory,
+            effect: place(),
         })
     }
 
@@ -81,41 +84,56 @@ impl FlatBoard {
 }
 
 // What an instruction comes to: its effect, or power-down.
-fn execute(chip: &Chip, memory: &FlatRam, instr: &Instr) -> Result<Effect, Event>
-    ensures value { result ≡ instr_effect chip.now.image chip.now.cpu (map_of memory.now)
+#[inline(always)]
+fn execute(chip: &Chip, memory: &FlatRam, instr: &Instr, effect: &mut Effect) -> Result<(), Event>
+    ensures value { left_in result effect.new ≡ instr_effect chip.now.image chip.now.cpu (map_of memory.now)
         ((inputs_of chip.now.script).pins chip.now.cycle) instr.now }
     ensures text { IfErr result (HasText 0) }
 {
-    match exec(chip.cpu(), memory, instr, chip.bytes(), &chip.pins()) {
-        Outcome::Done(effect) => Ok(effect),
-        Outcome::PowerDown => Err(Event::PowerDown { at: chip.pc() }),
+    match exec(
+        chip.cpu(),
+        memory,
+        instr,
+        chip.bytes(),
+        &chip.pins(),
+        effect,
+    ) {
+        Ok(()) => Ok(()),
+        Err(NoEffect::PowerDown) => Err(Event::PowerDown { at: chip.pc() }),
         // Each cell holds a value, and may be written.
-        Outcome::Outside(_) | Outcome::Unset(_) => unreachable!(),
+        Err(NoEffect::Outside(_) | NoEffect::Unset(_)) => unreachable!(),
     }
 }
 
-// The vectoring of an interrupt.
-fn vectored(cpu: &Cpu, memory: &FlatRam, source: Source) -> Effect
-    ensures { result ≡ vectoring cpu.now source }
+// Makes an effect the vectoring of an interrupt.
+fn take(effect: &mut Effect, cpu: &Cpu, memory: &FlatRam, source: Source)
+    ensures { effect.new ≡ vectoring cpu.now source }
 {
-    match vector(cpu, memory, source) {
-        Outcome::Done(effect) => effect,
+    match vector(cpu, memory, source, effect) {
+        Ok(()) => {}
         // Each cell may be written.
-        Outcome::Outside(_) | Outcome::Unset(_) | Outcome::PowerDown => unreachable!(),
+        Err(NoEffect::Outside(_) | NoEffect::Unset(_) | NoEffect::PowerDown) => unreachable!(),
     }
 }
 
 // The effect of the next step, or the event that stops it.
 #[tactic(auto, unfolding(crate::specs::FlatMachine::flat_effect))]
-fn judge(chip: &Chip, memory: &FlatRam) -> Result<Effect, Event>
-    ensures value { result ≡ flat_effect chip.now.image chip.now.cpu (map_of memory.now)
+#[inline(always)]
+fn judge(chip: &Chip, memory: &FlatRam, effect: &mut Effect) -> Result<(), Event>
+    ensures value { left_in result effect.new ≡ flat_effect chip.now.image chip.now.cpu (map_of memory.now)
         ((inputs_of chip.now.script).pins chip.now.cycle) (attempt_of chip.now.image chip.now.cpu) }
     ensures text { IfErr result (HasText 0) }
 {
     match chip.attempt() {
-        Attempt::Vectoring(source) => Ok(vectored(chip.cpu(), memory, source)),
-        Attempt::Idling => Ok(idle(chip.cpu())),
-        Attempt::Executing(instr) => execute(chip, memory, &instr),
+        Attempt::Vectoring(source) => {
+            take(effect, chip.cpu(), memory, source);
+            Ok(())
+        }
+        Attempt::Idling => {
+            idle(effect, chip.cpu());
+            Ok(())
+        }
+        Attempt::Executing(instr) => execute(chip, memory, &instr, effect),
         Attempt::Refusing => Err(Event::Reserved { at: chip.pc() }),
     }
 }
@@ -136,7 +154,7 @@ fn put_both(memory: &mut FlatRam, effect: &Effect)
 }
 
 // Performs a step and gives what it tells, or gives the event that stops it.
-fn advance(chip: &mut Chip, memory: &mut FlatRam) -> Result<Entries, Event>
+fn advance(chip: &mut Chip, memory: &mut FlatRam, effect: &mut Effect) -> Result<Entries, Event>
     ensures image { chip.new.image ≡ chip.old.image }
     ensures script { chip.new.script ≡ chip.old.script }
     ensures step { IsAdvance (flat_machine chip.old.image (inputs_of chip.old.script)
@@ -144,10 +162,10 @@ fn advance(chip: &mut Chip, memory: &mut FlatRam) -> Result<Entries, Event>
         (state_with chip.old (map_of memory.old)) (state_with chip.new (map_of memory.new)) }
     ensures text { IfErr result (HasText 0) }
 {
-    match judge(chip, memory) {
-        Ok(effect) => {
-            put_both(memory, &effect);
-            Ok(chip.pass(&effect, &[]))
+    match judge(chip, memory, effect) {
+        Ok(()) => {
+            put_both(memory, effect);
+            Ok(chip.pass(effect, &[]))
         }
         Err(event) => Err(event),
     }
@@ -173,7 +191,7 @@ impl Steps for FlatBoard {
     ghost extents = { λ loaded. [] };
 
     fn advance(&mut self) -> Result<Entries, Event> {
-        advance(&mut self.chip, &mut self.memory)
+        advance(&mut self.chip, &mut self.memory, &mut self.effect)
     }
 
     fn cycle(&self) -> u64 {

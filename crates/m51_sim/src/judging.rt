@@ -4,6 +4,7 @@ ghost use Rattle.m51_isa.specs.Table.{length_of};
 ghost use Rattle.m51_cells.specs.declared.event.Event.TheVariants.{Reserved, Transfer as EventTransfer};
 ghost use Rattle.m51_cells.specs.declared.event.Why.TheVariants.{PastEnd};
 ghost use Rattle.m51_cells.specs.Cells.{IsDataCell};
+ghost use Rattle.m51_flat.specs.Outcome.{outcome_by};
 ghost use Rattle.m51_irq.specs.Choice.{chosen};
 ghost use Rattle.m51_irq.specs.Vectoring.{vectored};
 ghost use Rattle.m51_module.specs.Sound.{IsSound};
@@ -18,27 +19,19 @@ ghost use Rattle.m51_print.specs.Lines.{HasText};
 ghost use Rattle.m51_sim.specs.Boards.{IsInOrder, memory_of, stores_read};
 ghost use Rattle.m51_sim.specs.Cycles.{inputs_of};
 ghost use Rattle.m51_sim.specs.Effects.{attempt_of, idle_effect};
-ghost use Rattle.m51_sim.specs.Ready.{AreOpen, IsPrepared, IsReady, MayCommit};
+ghost use Rattle.m51_sim.specs.Ready.{AreOpen, IsReady, MayCommit};
 ghost use Rattle.m51_sim.specs.SeparateMachine.{cells_of, concludes, instr_outcome, lie_inside, memory_after};
 ghost use Rattle.m51_sim.specs.SeparateMachine.{separate_effect, unless_past_end, unwritten_in, with_move};
-ghost use Rattle.m51_monitor.specs.Judgement.{judge_of};
 ghost use Rattle.m51_monitor.specs.declared.step.Move.TheVariants.{Stay};
 
 use crate::attempt::Attempt;
 use crate::chip::{Chip, idle};
 use m51_cells::{Cell, Event, Why};
-use m51_flat::{Cpu, Effect, Outcome, Source, exec};
+use m51_flat::{Cpu, Effect, NoEffect, Source, exec};
 use m51_irq::vector;
 use m51_isa::{Instr, length};
 use m51_module::Layout;
 use m51_monitor::{Monitor, Move};
-
-// An effect that is allowed, and how it changes the records.
-#[derive(Drop)]
-pub(crate) struct Allowed {
-    pub(crate) effect: Effect,
-    pub(crate) step: Move,
-}
 
 // The memory of a monitor represents the stores that are read off it.
 pub(crate) fn stand(monitor: &Monitor)
@@ -99,42 +92,40 @@ fn unwritten(monitor: &Monitor, cell: Cell, at: u16) -> Event
     }
 }
 
-// An effect whose puts may be written is judged.
+// What a step comes to whose effect is this, where its reads and puts came to this answer.
 #[inline(always)]
-fn judge_effect(monitor: &Monitor, cpu: &Cpu, effect: Effect) -> Result<Allowed, Event>
-    requires { IsPrepared monitor.now cpu.now effect }
-    ensures value { result ≡ with_move effect (judge_of monitor.now.layout monitor.now.records cpu.now effect) }
-    ensures may { IfOk result (MayCommit monitor.now cpu.now) }
+fn conclude(
+    monitor: &Monitor,
+    cpu: &Cpu,
+    effect: &Effect,
+    answer: Result<(), NoEffect>,
+) -> Result<Move, Event>
+    requires { IsReady monitor.now cpu.now (outcome_by answer effect.now) }
+    ensures value { with_move effect.now result
+        ≡ concludes monitor.now.layout (memory_of monitor.now) cpu.now (outcome_by answer effect.now) }
+    ensures may { IfOk (with_move effect.now result) (MayCommit monitor.now cpu.now) }
     ensures text { IfErr result (HasText (length monitor.now.layout.placed)) }
 {
-    match monitor.judge(cpu, &effect) {
-        Ok(step) => Ok(Allowed { effect, step }),
-        Err(event) => Err(event),
-    }
-}
-
-// What a step comes to whose reads and puts came to this.
-#[inline(always)]
-fn conclude(monitor: &Monitor, cpu: &Cpu, outcome: Outcome) -> Result<Allowed, Event>
-    requires { IsReady monitor.now cpu.now outcome }
-    ensures value { result ≡ concludes monitor.now.layout (memory_of monitor.now) cpu.now outcome }
-    ensures may { IfOk result (MayCommit monitor.now cpu.now) }
-    ensures text { IfErr result (HasText (length monitor.now.layout.placed)) }
-{
-    match outcome {
-        Outcome::Done(effect) => judge_effect(monitor, cpu, effect),
-        Outcome::Outside(cell) => Err(Event::Outside { cell, at: cpu.pc }),
-        Outcome::Unset(cell) => Err(unwritten(monitor, cell, cpu.pc)),
-        Outcome::PowerDown => Err(Event::PowerDown { at: cpu.pc }),
+    match answer {
+        Ok(()) => monitor.judge(cpu, effect),
+        Err(NoEffect::Outside(cell)) => Err(Event::Outside { cell, at: cpu.pc }),
+        Err(NoEffect::Unset(cell)) => Err(unwritten(monitor, cell, cpu.pc)),
+        Err(NoEffect::PowerDown) => Err(Event::PowerDown { at: cpu.pc }),
     }
 }
 
 // What an instruction comes to over the memory.
 #[inline(always)]
-fn instr_outcome(monitor: &Monitor, chip: &Chip, instr: &Instr) -> Outcome
-    ensures value { result ≡ instr_outcome monitor.now.layout (memory_of monitor.now) chip.now.cpu instr.now
+fn instr_outcome(
+    monitor: &Monitor,
+    chip: &Chip,
+    instr: &Instr,
+    effect: &mut Effect,
+) -> Result<(), NoEffect>
+    ensures value { outcome_by result effect.new
+        ≡ instr_outcome monitor.now.layout (memory_of monitor.now) chip.now.cpu instr.now
         chip.now.image ((inputs_of chip.now.script).pins chip.now.cycle) }
-    ensures ready { IsReady monitor.now chip.now.cpu result }
+    ensures ready { IsReady monitor.now chip.now.cpu (outcome_by result effect.new) }
 {
     stand(monitor);
     exec(
@@ -143,37 +134,69 @@ fn instr_outcome(monitor: &Monitor, chip: &Chip, instr: &Instr) -> Outcome
         instr,
         chip.bytes(),
         &chip.pins(),
+        effect,
     )
 }
 
 // One instruction.
 #[inline(always)]
-fn execute(monitor: &Monitor, chip: &Chip, instr: &Instr) -> Result<Allowed, Event>
-    ensures value { result ≡ unless_past_end monitor.now.layout (memory_of monitor.now) chip.now.cpu.pc
+fn execute(
+    monitor: &Monitor,
+    chip: &Chip,
+    instr: &Instr,
+    effect: &mut Effect,
+) -> Result<Move, Event>
+    ensures value { with_move effect.new result
+        ≡ unless_past_end monitor.now.layout (memory_of monitor.now) chip.now.cpu.pc
         (length_of instr.now) (concludes monitor.now.layout (memory_of monitor.now) chip.now.cpu
         (instr_outcome monitor.now.layout (memory_of monitor.now) chip.now.cpu instr.now chip.now.image
         ((inputs_of chip.now.script).pins chip.now.cycle))) }
-    ensures may { IfOk result (MayCommit monitor.now chip.now.cpu) }
+    ensures may { IfOk (with_move effect.new result) (MayCommit monitor.now chip.now.cpu) }
     ensures text { IfErr result (HasText (length monitor.now.layout.placed)) }
 {
     let pc = chip.pc();
     if !lie_inside(monitor, pc, length(instr)) {
         return Err(past_end(pc, length(instr)));
     }
-    conclude(monitor, chip.cpu(), instr_outcome(monitor, chip, instr))
+    let answer = instr_outcome(monitor, chip, instr, effect);
+    conclude(monitor, chip.cpu(), effect, answer)
 }
 
 // What a vectoring comes to over the memory.
 #[inline(always)]
-fn vector_outcome(monitor: &Monitor, cpu: &Cpu, source: Source) -> Outcome
+fn vector_outcome(
+    monitor: &Monitor,
+    cpu: &Cpu,
+    source: Source,
+    effect: &mut Effect,
+) -> Result<(), NoEffect>
     requires order { IsInOrder monitor.now cpu.now }
     requires taken { chosen cpu.now ≡ Some source }
-    ensures value { result
+    ensures value { outcome_by result effect.new
         ≡ vectored cpu.now (outside_of (cells_of monitor.now.layout (memory_of monitor.now))) source }
-    ensures ready { IsReady monitor.now cpu.now result }
+    ensures ready { IsReady monitor.now cpu.now (outcome_by result effect.new) }
 {
     stand(monitor);
-    vector(cpu, monitor.store(), source)
+    vector(cpu, monitor.store(), source, effect)
+}
+
+// The vectoring of an interrupt.
+#[inline(always)]
+fn vectoring(
+    monitor: &Monitor,
+    cpu: &Cpu,
+    source: Source,
+    effect: &mut Effect,
+) -> Result<Move, Event>
+    requires order { IsInOrder monitor.now cpu.now }
+    requires taken { chosen cpu.now ≡ Some source }
+    ensures value { with_move effect.new result ≡ concludes monitor.now.layout (memory_of monitor.now) cpu.now
+        (vectored cpu.now (outside_of (cells_of monitor.now.layout (memory_of monitor.now))) source) }
+    ensures may { IfOk (with_move effect.new result) (MayCommit monitor.now cpu.now) }
+    ensures text { IfErr result (HasText (length monitor.now.layout.placed)) }
+{
+    let answer = vector_outcome(monitor, cpu, source, effect);
+    conclude(monitor, cpu, effect, answer)
 }
 
 // The reserved opcode.
@@ -189,51 +212,48 @@ fn refuse(monitor: &Monitor, pc: u16) -> Event
 }
 
 // A machine cycle without an instruction, which changes no record.
-fn idle_step(monitor: &Monitor, cpu: &Cpu) -> Allowed
+fn idle_step(monitor: &Monitor, cpu: &Cpu, effect: &mut Effect) -> Move
     requires { IsInOrder monitor.now cpu.now }
-    ensures value { result ≡ record { effect = idle_effect cpu.now; step = Stay } }
-    ensures may { MayCommit monitor.now cpu.now result }
+    ensures effect { effect.new ≡ idle_effect cpu.now }
+    ensures step { result ≡ Stay }
+    ensures may { MayCommit monitor.now cpu.now (record { effect = effect.new; step = result }) }
 {
     let _monitor = monitor;
-    Allowed {
-        effect: idle(cpu),
-        step: Move::Stay,
-    }
+    idle(effect, cpu);
+    Move::Stay
 }
 
 // The effect of the next step and how it changes the records, or the event that stops it.
 #[tactic(auto, unfolding(crate::specs::SeparateMachine::separate_effect))]
 #[inline(always)]
-pub(crate) fn judge(monitor: &Monitor, chip: &Chip) -> Result<Allowed, Event>
+pub(crate) fn judge(monitor: &Monitor, chip: &Chip, effect: &mut Effect) -> Result<Move, Event>
     requires { IsInOrder monitor.now chip.now.cpu }
-    ensures value { result ≡ separate_effect monitor.now.layout chip.now.image chip.now.cpu (memory_of monitor.now)
-        ((inputs_of chip.now.script).pins chip.now.cycle) (attempt_of chip.now.image chip.now.cpu) }
-    ensures may { IfOk result (MayCommit monitor.now chip.now.cpu) }
+    ensures value { with_move effect.new result ≡ separate_effect monitor.now.layout chip.now.image chip.now.cpu
+        (memory_of monitor.now) ((inputs_of chip.now.script).pins chip.now.cycle)
+        (attempt_of chip.now.image chip.now.cpu) }
+    ensures may { IfOk (with_move effect.new result) (MayCommit monitor.now chip.now.cpu) }
     ensures text { IfErr result (HasText (length monitor.now.layout.placed)) }
 {
     match chip.attempt() {
-        Attempt::Vectoring(source) => conclude(
-            monitor,
-            chip.cpu(),
-            vector_outcome(monitor, chip.cpu(), source),
-        ),
-        Attempt::Idling => Ok(idle_step(monitor, chip.cpu())),
-        Attempt::Executing(instr) => execute(monitor, chip, &instr),
+        Attempt::Vectoring(source) => vectoring(monitor, chip.cpu(), source, effect),
+        Attempt::Idling => Ok(idle_step(monitor, chip.cpu(), effect)),
+        Attempt::Executing(instr) => execute(monitor, chip, &instr, effect),
         Attempt::Refusing => Err(refuse(monitor, chip.pc())),
     }
 }
 
 // Makes the puts of an effect that is allowed, and changes the records.
 #[inline(always)]
-pub(crate) fn commit(monitor: &mut Monitor, allowed: &Allowed)
-    requires judged { WasJudged monitor.old allowed.now.effect allowed.now.step }
-    requires opened { AreOpen (shared_barred monitor.old.store) allowed.now.effect }
-    requires address { HasAddress allowed.now.effect allowed.now.step }
-    requires level { HasLevel monitor.old allowed.now.step }
+pub(crate) fn commit(monitor: &mut Monitor, effect: &Effect, step: Move)
+    requires judged { WasJudged monitor.old effect.now step }
+    requires opened { AreOpen (shared_barred monitor.old.store) effect.now }
+    requires address { HasAddress effect.now step }
+    requires level { HasLevel monitor.old step }
     ensures layout { monitor.new.layout ≡ monitor.old.layout }
-    ensures memory { memory_of monitor.new ≡ memory_after monitor.old.layout (memory_of monitor.old) allowed.now }
+    ensures memory { memory_of monitor.new
+        ≡ memory_after monitor.old.layout (memory_of monitor.old) (record { effect = effect.now; step = step }) }
 {
     stand(monitor);
-    monitor.commit(&allowed.effect, allowed.step);
+    monitor.commit(effect, step);
     stand(monitor);
 }

@@ -11,7 +11,7 @@ pub returns-in-Ok-clause-step : goal.returns-in-Ok-clause-step
 returns-in-Ok-clause-step c =
     let chip = c.args.chip.now in
     let new = c.pass.new.self in
-    let e = c.in-Ok.effect in
+    let e = c.judge.new.effect in
     let told = c.pass.result in
     let passed = subst (λ (inputs : Inputs). IsPassed inputs chip new e told) (no_extra (inputs_of chip.script)) (record { port = c.pass.ensures.port; passed = c.pass.ensures.passed }) in
     flat_done chip.image (inputs_of chip.script) chip (map_of c.args.memory.now) new (map_of c.put_both.new.memory) e told c.in-Ok.ensures.value c.put_both.ensures passed

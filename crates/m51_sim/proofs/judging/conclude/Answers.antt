@@ -1,10 +1,17 @@
+use Rattle.m51_sim.proofs.Fitting.{judged_commits, judged_text}
 use Rattle.m51_sim.proofs.judging.conclude.Goals as goal
 
-pub judge_effect-requires : goal.judge_effect-requires
-judge_effect-requires c = rw c.in-Done.is at c.requires.prepared
+pub returns-in-Ok-clause-may : goal.returns-in-Ok-clause-may
+returns-in-Ok-clause-may c =
+    judged_commits c.args.monitor.now c.args.cpu.now c.args.effect.now c.judge.result (rw c.in-Ok.is at c.requires.prepared) c.judge.ensures.answers
+
+pub returns-in-Ok-clause-text : goal.returns-in-Ok-clause-text
+returns-in-Ok-clause-text c = judged_text c.args.monitor.now c.args.cpu.now c.args.effect.now c.judge.result _ c.judge.ensures.answers
 
 pub unwritten-requires : goal.unwritten-requires
-unwritten-requires c = rw c.in-Unset.is at c.requires.named
+unwritten-requires c =
+    let cell = rw c.in-Err-Unset.is at c.in-Err-Unset.field-0-is in rw (c.in-Err-Unset.is, cell) at c.requires.named
 
-pub returns-in-Outside-clause-text : goal.returns-in-Outside-clause-text
-returns-in-Outside-clause-text c = rw c.in-Outside.is at c.requires.named
+pub returns-in-Err-Outside-clause-text : goal.returns-in-Err-Outside-clause-text
+returns-in-Err-Outside-clause-text c =
+    let cell = rw c.in-Err-Outside.is at c.in-Err-Outside.field-0-is in rw (c.in-Err-Outside.is, cell) at c.requires.named

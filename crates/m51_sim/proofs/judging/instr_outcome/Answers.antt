@@ -1,4 +1,5 @@
 use Rattle.m51_monitor.specs.Shared.{shared_cells}
+use Rattle.m51_flat.specs.Outcome.{outcome_by}
 use Rattle.m51_sim.specs.Boards.{stores_read}
 use Rattle.m51_sim.proofs.Preparing.{instr_ready}
 use Rattle.m51_sim.proofs.judging.instr_outcome.Goals as goal
@@ -11,5 +12,5 @@ pub returns-clause-ready : goal.returns-clause-ready
 returns-clause-ready c =
     let m = c.args.monitor.now in
     rw (← c.cpu.ensures)
-    (instr_ready m c.cpu.result.now (shared_cells m.store) c.args.instr.now c.bytes.result.now c.pins.result c.exec.result
+    (instr_ready m c.cpu.result.now (shared_cells m.store) c.args.instr.now c.bytes.result.now c.pins.result (outcome_by c.exec.result c.exec.new.effect)
     (rw c.store.ensures.store at c.exec.ensures.outcome) (rw c.store.ensures.store at c.exec.ensures.missing) c.exec.ensures.control c.exec.ensures.levels)

@@ -1,4 +1,5 @@
 use Rattle.m51_monitor.specs.Shared.{shared_cells}
+use Rattle.m51_flat.specs.Outcome.{outcome_by}
 use Rattle.m51_sim.specs.Boards.{stores_read}
 use Rattle.m51_sim.proofs.Preparing.{vector_ready}
 use Rattle.m51_sim.proofs.judging.vector_outcome.Goals as goal
@@ -9,5 +10,5 @@ returns-clause-value c = rw (c.store.ensures.barred, c.store.ensures.answers (st
 pub returns-clause-ready : goal.returns-clause-ready
 returns-clause-ready c =
     let m = c.args.monitor.now in
-    vector_ready m c.args.cpu.now c.args.source (shared_cells m.store) c.vector.result c.requires.order c.requires.taken
+    vector_ready m c.args.cpu.now c.args.source (shared_cells m.store) (outcome_by c.vector.result c.vector.new.effect) c.requires.order c.requires.taken
     (rw c.store.ensures.store at c.vector.ensures.outcome) (rw c.store.ensures.store at c.vector.ensures.missing) c.vector.ensures.control

@@ -1,0 +1,21 @@
+-- What a step comes to over a store: its effect, or why it has none.
+use Rattle.std.specs.Prelude.{Result, Ok, Err}
+use Rattle.m51_cells.specs.declared.cell.Cell.{Cell}
+use Rattle.m51_flat.specs.declared.state.Effect.{Effect}
+use Rattle.m51_flat.specs.declared.state.NoEffect.{NoEffect}
+use Rattle.m51_flat.specs.declared.state.NoEffect.TheVariants as lacks
+
+-- its effect, or a cell that it would read or write and that is outside the store, or one that it would read and that
+-- was never written, or that it would set the power-down bit of PCON
+pub data Outcome : Type 0 where
+  Done : Effect → Outcome
+  Outside : Cell → Outcome
+  Unset : Cell → Outcome
+  PowerDown : Outcome
+
+-- what the answer of a function says whose effect stands in a place of its caller
+abbrev pub outcome_by : {A : Type 0} → Result A NoEffect → Effect → Outcome
+outcome_by (Ok a) e = Done e
+outcome_by (Err (lacks.Outside c)) e = Outside c
+outcome_by (Err (lacks.Unset c)) e = Unset c
+outcome_by (Err lacks.PowerDown) e = PowerDown

@@ -10,3 +10,4 @@ pub mod Spared
 pub mod Running
 pub mod InTime
 pub mod Cycles
+pub mod Resting

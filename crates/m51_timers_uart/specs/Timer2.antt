@@ -64,6 +64,10 @@ unfoldable pub t2ex_heeded : Levels → Cpu → Cpu
 t2ex_heeded levels cpu =
     if flag cpu t2con exen2 && falls levels T2ex then exchanged2 (with_flag cpu t2con exf2 true) else cpu
 
+-- TR2 and EXEN2 are 0, so it does not count, and no fall of T2EX matters
+unfoldable pub timer2_rests : Cpu → Bool
+timer2_rests cpu = not (flag cpu t2con tr2) && not (flag cpu t2con exen2)
+
 -- the counts, and then T2EX
 abbrev pub timer2_ticked : Levels → Cpu → Overflowed
 timer2_ticked levels cpu =

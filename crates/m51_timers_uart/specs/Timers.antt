@@ -44,6 +44,10 @@ counts1 levels cpu =
     && (is_split (mode0 cpu) || is_open (flag cpu tcon tr1) (flag cpu tmod 7) (is_high levels Int1))
     && is_met (flag cpu tmod 6) (falls levels T1)
 
+-- TR0 and TR1 are 0 and timer 0 is not in mode 3, so neither counts, whatever the pins do
+unfoldable pub timers_rest : Cpu → Bool
+timers_rest cpu = not (flag cpu tcon tr0) && not (flag cpu tcon tr1) && not (is_split (mode0 cpu))
+
 -- the bytes of a timer
 abbrev pub bytes_at : ℕ → ℕ → Cpu → TimerBytes
 bytes_at high low cpu = record { high = latch cpu high; low = latch cpu low }

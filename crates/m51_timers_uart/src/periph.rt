@@ -1,14 +1,14 @@
 //! The devices, and one machine cycle of them.
 ghost use Rattle.std.specs.Prelude.{◌≡◌, ◌++◌};
 ghost use Rattle.m51_timers_uart.specs.Sending.{begun};
-ghost use Rattle.m51_timers_uart.specs.Tick.{clocks_ticked, reset_periph, ticked};
+ghost use Rattle.m51_timers_uart.specs.Tick.{clocks_rest, clocks_ticked, reset_periph, ticked};
 
 use crate::external::tick_externals;
 use crate::levels::{Levels, read_levels};
 use crate::receiving::{Frame, receive_both};
 use crate::sending::{start, tick_sending};
-use crate::timer2::tick_timer2;
-use crate::timers::tick_timers;
+use crate::timer2::{tick_timer2, timer2_rests};
+use crate::timers::{tick_timers, timers_rest};
 use m51_flat::{Cpu, Pins};
 
 /// A byte that went out on the serial line.
@@ -41,11 +41,25 @@ pub struct Periph {
     pub count: u8,
 }
 
+/// No timer runs, and no byte is on its way.
+#[tactic(auto, unfolding(crate::specs::Tick::clocks_rest))]
+fn clocks_rest(periph: &Periph, cpu: &Cpu) -> bool
+    ensures { result ≡ clocks_rest cpu.now periph.now }
+{
+    let timers = timers_rest(cpu);
+    let timer2 = timer2_rests(cpu);
+    timers && timer2 && periph.left == 0
+}
+
 /// Timers 0 and 1, timer 2, and sending at the rate that they give.
+#[tactic(auto, using(crate::proofs::Resting::clocks_stay))]
 fn tick_clocks(periph: &mut Periph, cpu: &mut Cpu, levels: &Levels) -> Option<Sent>
     ensures { record { cpu = cpu.new; periph = periph.new; sent = result }
         ≡ clocks_ticked levels.now cpu.old periph.old }
 {
+    if clocks_rest(periph, cpu) {
+        return None;
+    }
     let timer1 = tick_timers(cpu, levels);
     let timer2 = tick_timer2(cpu, levels);
     tick_sending(periph, cpu, timer1, timer2)

@@ -4,7 +4,7 @@ ghost use Rattle.m51_alu.specs.Arithmetic.{bit_of};
 ghost use Rattle.m51_timers_uart.specs.declared.counting.TimerMode.TheVariants.{SixteenBits};
 ghost use Rattle.m51_timers_uart.specs.Counting.{number_of};
 ghost use Rattle.m51_timers_uart.specs.Timer2.{captured, counted_times, exchanged2, gives_rate, once_more, reload2};
-ghost use Rattle.m51_timers_uart.specs.Timer2.{reloaded, t2ex_heeded, timer2_ticked, times2};
+ghost use Rattle.m51_timers_uart.specs.Timer2.{reloaded, t2ex_heeded, timer2_rests, timer2_ticked, times2};
 
 use crate::counting::{TimerBytes, count_sixteen};
 use crate::levels::{Input, Levels};
@@ -124,6 +124,16 @@ fn heed_t2ex(cpu: &mut Cpu, levels: &Levels)
         cpu.set_flag(T2CON, EXF2, true);
         exchange(cpu);
     }
+}
+
+/// TR2 and EXEN2 are 0, so timer 2 does not count, and no fall of T2EX matters.
+#[tactic(auto, unfolding(crate::specs::Timer2::timer2_rests))]
+pub(crate) fn timer2_rests(cpu: &Cpu) -> bool
+    ensures { result ≡ timer2_rests cpu.now }
+{
+    let runs = cpu.flag(T2CON, TR2);
+    let heeds = cpu.flag(T2CON, EXEN2);
+    !runs && !heeds
 }
 
 /// Timer 2, and how many of its counts were overflows.

@@ -2,7 +2,7 @@
 ghost use Rattle.std.specs.Prelude.{◌≡◌, ◌<◌};
 ghost use Rattle.m51_timers_uart.specs.Counting.{mode_of};
 ghost use Rattle.m51_timers_uart.specs.Timers.{bytes_at, counts0, counts1, flagged, is_split, is_met, is_open, mode0};
-ghost use Rattle.m51_timers_uart.specs.Timers.{mode1, th0_ticked, timer0_ticked, timer1_ticked, timers_ticked};
+ghost use Rattle.m51_timers_uart.specs.Timers.{mode1, th0_ticked, timer0_ticked, timer1_ticked, timers_rest, timers_ticked};
 ghost use Rattle.m51_timers_uart.specs.Timers.{with_bytes};
 
 use crate::counting::{TimerBytes, TimerMode, count_in};
@@ -154,6 +154,17 @@ fn tick_timer1(cpu: &mut Cpu, levels: &Levels) -> bool
     write_bytes(cpu, TH1, TL1, counted.bytes);
     set_where(cpu, counted.overflow && shown, TF1);
     counted.overflow
+}
+
+/// TR0 and TR1 are 0 and timer 0 is not in mode 3, so neither timer counts, whatever the pins do.
+#[tactic(auto, unfolding(crate::specs::Timers::timers_rest))]
+pub(crate) fn timers_rest(cpu: &Cpu) -> bool
+    ensures { result ≡ timers_rest cpu.now }
+{
+    let runs0 = cpu.flag(TCON, TR0);
+    let runs1 = cpu.flag(TCON, TR1);
+    let split = splits(timer0_mode(cpu));
+    !runs0 && !runs1 && !split
 }
 
 /// Timers 0 and 1, and whether timer 1 overflowed.

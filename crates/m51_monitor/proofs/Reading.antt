@@ -17,7 +17,7 @@ use Rattle.m51_flat.specs.States.{CellState, States, Holds, Absent, Fresh, answe
 use Rattle.m51_flat.proofs.Flat.{same_states}
 use Rattle.m51_cells.specs.Cells.{IsDataCell}
 use Rattle.m51_monitor.specs.Masks.{IsCellAt, Mask, IsMask, flag_in, flag_of, IsMarked}
-use Rattle.m51_monitor.specs.Shared.{Shared, masked, unwritten, shared_cells, shared_barred, IsTurned, turned_to, Blocks}
+use Rattle.m51_monitor.specs.Shared.{IsShared, Shared, masked, unwritten, shared_cells, shared_barred, IsTurned, turned_to, Blocks}
 use Rattle.m51_monitor.proofs.Marks.{between_or_beside}
 
 -- what holds of a cell of each memory
@@ -62,6 +62,9 @@ xfresh m n h e f = rw (e, f) (fresh_state ((flat_cells m.memory).xram n) (slice_
 -- one that was
 pub holds : (m : Shared) (n : ℕ) → flag_of m.live (ram_cell n) ≡ true → flag_of m.written (ram_cell n) ≡ true → (shared_cells m).ram n ≡ (flat_cells m.memory).ram n
 holds m n e f = rw (e, f) refl
+
+pub written : (m : Shared) (n : ℕ) → IsShared m → flag_of m.written (ram_cell n) ≡ true → (shared_cells m).ram n ≡ (flat_cells m.memory).ram n
+written m n is e = holds m n (is.only_live (ram_cell n) e) e
 
 pub xdead : (m : Shared) (n : ℕ) → flag_of m.live (xram_cell n) ≡ false → xbyte_seen (shared_cells m) n ≡ Outside (xram_cell n)
 xdead m n e = rw e refl

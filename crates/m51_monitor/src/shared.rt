@@ -103,8 +103,9 @@ impl SharedRam {
         self.written.mark(cells, false);
     }
 
-    // Why a cell of internal RAM has no value.
-    #[tactic(auto, using(crate::proofs::Reading::xdead, crate::proofs::Reading::xnew, crate::proofs::Reading::holds))]
+    // Why a cell of internal RAM has no value. Only live cells were written.
+    #[tactic(auto, using(crate::proofs::Reading::dead, crate::proofs::Reading::fresh, crate::proofs::Reading::written))]
+    #[inline(always)]
     fn blocked(&self, at: usize) -> Option<Seen>
         requires { at < 2048 }
         ensures some { IfSome result (λ seen. Blocks ((shared_cells self.now).ram at) × (seen
@@ -112,12 +113,12 @@ impl SharedRam {
         ensures none { IfNone result ((shared_cells self.now).ram at ≡ (flat_cells self.now.memory).ram at) }
     {
         let cell = ram_cell(at);
-        if !self.live.get(cell) {
-            Some(Seen::Outside(cell))
-        } else if !self.written.get(cell) {
+        if self.written.get(cell) {
+            None
+        } else if self.live.get(cell) {
             Some(Seen::Unset(cell))
         } else {
-            None
+            Some(Seen::Outside(cell))
         }
     }
 

@@ -167,6 +167,7 @@ pub(crate) fn count_run<B: Steps>(board: &mut B, n: u32) -> Tally
 
 // Writes the lines of what a step tells.
 #[tactic(auto, using(crate::proofs::Tellings::tellings))]
+#[inline(always)]
 fn write_told<S: Sink>(out: &mut S, told: Entries) -> Result<(), Failed>
     ensures whole { OnOk result
         (Appends (S.state out.old).text (S.state out.new).text (flat_map entry_line (entries_of told))) }
@@ -179,6 +180,7 @@ fn write_told<S: Sink>(out: &mut S, told: Entries) -> Result<(), Failed>
 }
 
 // Writes the line of an entry, if there is one.
+#[inline(always)]
 fn write_entry<S: Sink>(out: &mut S, entry: Option<Entry>) -> Result<(), Failed>
     ensures whole { OnOk result
         (Appends (S.state out.old).text (S.state out.new).text (flat_map entry_line (option_to_list entry))) }
@@ -188,12 +190,19 @@ fn write_entry<S: Sink>(out: &mut S, entry: Option<Entry>) -> Result<(), Failed>
 {
     match entry {
         None => Ok(()),
-        Some(entry) => {
-            let mut line = [0u8; 128];
-            let len = trace_line(&entry, &mut line);
-            write_whole(out, &line[..len])
-        }
+        Some(entry) => write_line(out, &entry),
     }
+}
+
+// Writes the line of an entry.
+fn write_line<S: Sink>(out: &mut S, entry: &Entry) -> Result<(), Failed>
+    ensures whole { OnOk result (Appends (S.state out.old).text (S.state out.new).text (entry_line entry.now)) }
+    ensures short { OnErr result (StopsWithin (S.state out.old).text (S.state out.new).text (entry_line entry.now)) }
+    ensures cause { HasCause (S.state out.old).faults (S.state out.new).faults result }
+{
+    let mut line = [0u8; 128];
+    let len = trace_line(entry, &mut line);
+    write_whole(out, &line[..len])
 }
 
 // Writes the last line.

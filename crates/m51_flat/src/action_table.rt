@@ -9,6 +9,7 @@ use crate::actions::{
 use m51_isa::Instr;
 
 /// The action of an instruction.
+#[inline(always)]
 pub(crate) fn action_for(instr: &Instr) -> Action
     ensures { result ≡ action_of instr.now }
 {

@@ -15,6 +15,7 @@ use m51_alu::{Sum, da, subb};
 use m51_sfr::addresses::ACC;
 
 /// The sum or difference of A and an operand.
+#[inline(always)]
 fn add_by(op: Addition, a: u8, value: u8, carry: bool) -> Sum
     ensures { result ≡ sum_by op a value carry }
 {
@@ -63,6 +64,7 @@ fn turn_by(by: Turning, a: u8, carry: bool, auxiliary: bool) -> (u8, bool)
 
 /// MOV and CLR A: a value is read and written.
 #[tactic(auto, using(crate::proofs::Readings::answer_then), unfolding(crate::specs::Arithmetic::assigned))]
+#[inline(always)]
 pub(crate) fn assign<M: CellStore>(
     store: &M,
     ext: &Pins,
@@ -81,6 +83,7 @@ pub(crate) fn assign<M: CellStore>(
 
 /// ADD, ADDC, SUBB: A and the flags become a sum.
 #[tactic(auto, using(crate::proofs::Readings::answer_then), unfolding(crate::specs::Arithmetic::summed))]
+#[inline(always)]
 pub(crate) fn accumulate<M: CellStore>(
     store: &M,
     ext: &Pins,
@@ -99,6 +102,7 @@ pub(crate) fn accumulate<M: CellStore>(
 
 /// ORL, ANL, XRL: an operand, of a port its latch, is combined with another.
 #[tactic(auto, using(crate::proofs::Readings::answer_then), unfolding(crate::specs::Arithmetic::combined))]
+#[inline(always)]
 pub(crate) fn combine<M: CellStore>(
     store: &M,
     ext: &Pins,
@@ -119,6 +123,7 @@ pub(crate) fn combine<M: CellStore>(
 
 /// INC and DEC: an operand, of a port its latch, is counted up or down.
 #[tactic(auto, using(crate::proofs::Readings::answer_then), unfolding(crate::specs::Arithmetic::changed))]
+#[inline(always)]
 pub(crate) fn change<M: CellStore>(
     store: &M,
     effect: &mut Effect,

@@ -26,6 +26,7 @@ pub(crate) fn meets(condition: Condition, cpu: &Cpu) -> bool
 
 /// CJNE: CY says that the first operand is less, and the branch is taken where they differ.
 #[tactic(auto, using(crate::proofs::Readings::answer_then), unfolding(crate::specs::Transfers::compared))]
+#[inline(always)]
 pub(crate) fn compare<M: CellStore>(
     store: &M,
     ext: &Pins,
@@ -46,6 +47,7 @@ pub(crate) fn compare<M: CellStore>(
 
 /// DJNZ: an operand, of a port its latch, is counted down, and the branch is taken where it is not 0.
 #[tactic(auto, using(crate::proofs::Readings::answer_then), unfolding(crate::specs::Transfers::counted_down))]
+#[inline(always)]
 pub(crate) fn count_down<M: CellStore>(
     store: &M,
     effect: &mut Effect,

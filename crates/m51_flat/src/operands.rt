@@ -76,6 +76,7 @@ pub(crate) fn locate<M: CellStore>(store: &M, cpu: &Cpu, place: Place) -> Result
 
 /// What is there, for an operand that is changed: of a port its latch.
 #[tactic(auto, unfolding(crate::specs::Operands::latch_at))]
+#[inline(always)]
 pub(crate) fn read_latch_at<M: CellStore>(
     store: &M,
     cpu: &Cpu,
@@ -131,6 +132,7 @@ pub(crate) fn read_operand<M: CellStore>(
 
 /// Writes to a location.
 #[tactic(auto, unfolding(crate::specs::Operands::with_location))]
+#[inline(always)]
 pub(crate) fn write_location(effect: &mut Effect, location: Location, value: u8)
     ensures { effect.new ≡ with_location location value effect.old }
 {

@@ -124,6 +124,7 @@ impl SharedRam {
 
     // The lowest of so many cells of internal RAM that is not live.
     #[tactic(auto, using(crate::proofs::Reading::barred_at, crate::proofs::Reading::barred_none))]
+    #[inline(always)]
     fn first_dead(&self, first: usize, count: usize) -> Option<Cell>
         requires { first + count ≤ 2048 }
         ensures { result ≡ first_barred (shared_barred self.now) count first }
@@ -195,6 +196,7 @@ impl CellStore for SharedRam {
     }
 
     #[tactic(auto, unfolding(m51_flat::specs::States::shut_of))]
+    #[inline(always)]
     fn shut(&self, put: &Put) -> Option<Cell> {
         match *put {
             Put::Nothing => None,

@@ -25,6 +25,7 @@ impl Monitor {
     }
 
     // To the next instruction.
+    #[inline(always)]
     fn next(&self, sp_after: u8, at: Option<u16>) -> Result<Move, Why>
         ensures { result ≡ judged_as self.now.layout self.now.records 0 sp_after 0 Transfer.Next at None }
     {
@@ -78,6 +79,7 @@ impl Monitor {
     }
 
     // The table, where the unit at the target and the root are known.
+    #[inline(always)]
     fn judged_as(
         &self,
         cpu: &Cpu,
@@ -113,6 +115,7 @@ impl Monitor {
     }
 
     // What the table says.
+    #[inline(always)]
     fn judged(&self, cpu: &Cpu, effect: &Effect) -> Result<Move, Why>
         ensures value { result
             ≡ judged self.now.layout self.now.records cpu.now effect.now
@@ -132,6 +135,7 @@ impl Monitor {
     /// Whether the instruction's own bytes lie in the current unit is not tested here.
     ///
     /// Source: own choice ("Activations").
+    #[inline(always)]
     pub fn judge(&self, cpu: &Cpu, effect: &Effect) -> Result<Move, Event>
         ensures value { result ≡ judge_of self.now.layout self.now.records cpu.now effect.now }
         ensures answers { Answers self.now.layout self.now.records cpu.now effect.now result }

@@ -98,6 +98,7 @@ impl Periph {
     ///
     /// Source: family manual; own choice ("Devices").
     #[tactic(auto, unfolding(crate::specs::Tick::ticked))]
+    #[inline(always)]
     pub fn tick(
         &mut self,
         cpu: &mut Cpu,

@@ -96,7 +96,8 @@ pub fn levels_are_kept()
     ensures { LevelsAreKept }
 {}
 
-/// The puts of an effect may be written, and over each map that agrees with the store the effect is the same.
+/// Where an instruction comes to an effect, both puts may be written, PCON bit 1 is 0, and over each map that agrees
+/// with the store the effect is the same.
 ///
 /// Source: own choice ("Two readings of an instruction").
 pub fn effects_are_done()

@@ -39,7 +39,7 @@ fn bytes(alloc: Global, fill: u8, count: usize) -> Result<Vec<u8>, NoMemory>
 }
 
 impl FlatRam {
-    /// Memory with this byte everywhere.
+    /// Memory with this byte everywhere. Error: out of memory.
     ///
     /// Source: own choice ("The fill").
     pub fn filled(alloc: Global, fill: u8) -> Result<FlatRam, NoMemory>

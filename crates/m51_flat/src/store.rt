@@ -23,7 +23,7 @@ pub trait CellStore {
     fn byte(&self, address: u8) -> Seen
         ensures { result ≡ byte_seen (cells self.now) address };
 
-    /// A bit of internal RAM by its bit address: 0 or 1, or the answer of its cell.
+    /// A bit of internal RAM by its bit address, 00H to 7FH: 0 or 1, or the answer of its cell.
     ///
     /// Source: own choice ("Stores of cells").
     fn bit(&self, address: u8) -> Seen
@@ -42,7 +42,8 @@ pub trait CellStore {
     fn shut(&self, put: &Put) -> Option<Cell>
         ensures { result ≡ shut_of (barred self.now) put.now };
 
-    /// Writes the cells of the put. All others hold what they held, and those that may not be written stay the same.
+    /// Writes the cells of the put, all of which may be written (`shut` answers none). All others hold what they held,
+    /// and those that may not be written stay the same.
     ///
     /// Source: own choice ("Stores of cells").
     fn put(&mut self, put: &Put)

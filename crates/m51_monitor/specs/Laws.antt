@@ -30,7 +30,7 @@ abbrev pub OneAnswer : Type 0
 OneAnswer = (l : LayoutParts) (a : Records) (s : Stores) (c : Cell) (x y : CellState) → IsSound l → AreWalks l a
     → Resolves l (live_by l (units_named a)) s c x → Resolves l (live_by l (units_named a)) s c y → x ≡ y
 
--- what holds of the records holds of them after each move that the table allows
+-- records that a run may have are such after each move that the table allows, where an interrupt comes over at most one
 abbrev pub MovesAreKept : Type 0
 MovesAreKept = (m : Monitored) (cpu : Cpu) (e : Effect) (step : Move) → latch e.cpu sp < 256 → HasLevel m step
     → Judges m.layout m.records cpu e (Ok step)

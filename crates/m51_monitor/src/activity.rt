@@ -21,8 +21,11 @@ use m51_module::{Layout, Placed};
 use std::alloc::Global;
 use std::marker::Model;
 
-// The most units that records name: there are at most three walks at once, and no unit is twice in one of them.
-const MOST_NAMED: usize = 3_000;
+/// The places of the list of units that records name, which are taken at the start: there are at most three walks at
+/// once, and no unit is twice in one of them.
+///
+/// Source: own choice ("Activations").
+pub const MOST_NAMED: usize = 3_000;
 
 /// The units that the records name, how many records name each unit, and the memory.
 #[derive(Drop)]

@@ -17,7 +17,8 @@ pub fn one_answer()
     ensures { OneAnswer }
 {}
 
-/// What holds of the records holds of them after each move that the table allows.
+/// The units of the records form walks, SP rises from record to record, and at most two interrupts are in progress: so
+/// it is after each move that the table allows, if it was so before and an interrupt comes over at most one other.
 ///
 /// Source: own choice ("Activations").
 pub fn moves_are_kept()
@@ -33,7 +34,8 @@ pub fn runs_are_bounded()
     ensures { RunsAreBounded }
 {}
 
-/// A memory represents one state of the separate stores: what it represents is read off it.
+/// In a sound layout, if the units of the records form walks, a memory represents at most one state of the separate
+/// stores.
 ///
 /// Source: own choice ("Stores of segments").
 pub fn one_state()

@@ -63,8 +63,8 @@ impl FlatBoard {
 
     /// At most `n` steps, 1 to 10,000,000, with a line for each entry and the last line.
     ///
-    /// WriteFault: the sink has failed. The board is after the step whose line is not whole, or after the last step
-    /// where that line is the last. It may be run on.
+    /// WriteFault: the sink has failed. Where it tells its text, the board is after the step whose line is not whole,
+    /// or after the last step where that line is the last; else after any of the steps. It may be run on.
     ///
     /// Source: own choice ("Runs").
     pub fn run<S: Sink>(&mut self, n: u32, out: &mut S) -> RunEnd

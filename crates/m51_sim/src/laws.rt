@@ -2,10 +2,10 @@
 ghost use Rattle.m51_sim.specs.Laws.{FilledHasFill, FlatRunsAgree};
 ghost use Rattle.m51_sim.specs.StepLaws.{StepsAreShort};
 
-/// Whatever overlaid cells hold at the start: over the steps that the separate machine performs, the flat machine with
-/// the same image and script gives the same entries, and no event; where the separate machine then stops at the
-/// reserved opcode or at power-down, the flat machine stops there at the same event. A flat board starts with such a
-/// map.
+/// In a sound layout, from each map that has the fill on the cells that no overlaid segment covers, and anything on the
+/// others: over the steps that the separate machine performs, the flat machine with the same image and script gives the
+/// same entries, and no event; where the separate machine then stops at the reserved opcode or at power-down, the flat
+/// machine stops there at the same event. A flat board starts with such a map.
 ///
 /// Source: own choice ("Boards").
 pub fn flat_runs_agree()

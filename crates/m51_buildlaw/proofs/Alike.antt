@@ -11,7 +11,7 @@ use Rattle.m51_sim.specs.Cycles.{inputs_of}
 use Rattle.m51_sim.proofs.Keeping.{flat_runs_agree}
 use Rattle.m51_jobs.specs.declared.job.BuildJob.{BuildJob}
 use Rattle.m51_jobs.specs.declared.job.Job.TheVariants.{Build}
-use Rattle.m51_chain.specs.Outcome.{Outcome}
+use Rattle.m51_verbs.specs.Outcome.{Outcome}
 use Rattle.m51_chain.specs.Programs.{hex_kept}
 use Rattle.m51_chain.specs.Verbs.{IsOutcome}
 use Rattle.m51_buildlaw.specs.Builds.{AreOfBytes, IsBuilt, separate_run}

@@ -32,11 +32,11 @@ use Rattle.m51_inputs.specs.Inputs.{InputsTree}
 use Rattle.m51_script.specs.declared.error.ScriptError.TheVariants as script
 use Rattle.m51_sim.specs.Report.{report_of}
 use Rattle.m51_jobs.specs.declared.job.BuildJob.{BuildJob}
-use Rattle.m51_chain.specs.declared.status.Status.TheVariants.{Link}
+use Rattle.m51_verbs.specs.declared.status.Status.TheVariants.{Link}
 use Rattle.m51_chain.specs.Builds.{build_files}
 use Rattle.m51_chain.specs.InputRefusals.{input_outcome}
 use Rattle.m51_chain.specs.Linking.{Follows, IsInputsOutcome, IsProgramOutcome, Unlinked, program_in}
-use Rattle.m51_chain.specs.Outcome.{Outcome}
+use Rattle.m51_verbs.specs.Outcome.{Outcome}
 use Rattle.m51_chain.specs.ProgramFiles.{AreAnswered, Given, IsGivenOutcome, Refused}
 use Rattle.m51_chain.specs.Programs.{IsReport}
 use Rattle.m51_buildlaw.specs.Overlay.{ComesToPlacing, L12OnlyAtPlacing}

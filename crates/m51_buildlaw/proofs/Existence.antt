@@ -43,8 +43,9 @@ use Rattle.m51_jobs.specs.declared.job.BuildJob.{BuildJob}
 use Rattle.m51_jobs.specs.declared.job.Job.TheVariants.{Build}
 use Rattle.m51_chain.specs.Builds.{IsBuildOutcome, build_files}
 use Rattle.m51_chain.specs.InputRefusals.{input_outcome}
-use Rattle.m51_chain.specs.Linking.{Follows, IsInputsOutcome, Unlinked, link_outcome, program_in}
-use Rattle.m51_chain.specs.Outcome.{Outcome}
+use Rattle.m51_chain.specs.Linking.{Follows, IsInputsOutcome, Unlinked, program_in}
+use Rattle.m51_verbs.specs.LinkRefusals.{link_outcome}
+use Rattle.m51_verbs.specs.Outcome.{Outcome}
 use Rattle.m51_chain.specs.ProgramFiles.{AreAnswered, Given, IsGivenOutcome, ProgramFiles, Refused, control_content, script_content, word_contents}
 use Rattle.m51_chain.specs.Programs.{IsReport, program_report}
 use Rattle.m51_chain.proofs.OneOutcome.{one_outcome}

@@ -24,7 +24,7 @@ use Rattle.m51_records.specs.Spelling.{bytes_of, records_in}
 use Rattle.m51_records.proofs.FieldLaws.{IsBytes, fit_back}
 use Rattle.m51_records.proofs.ModuleLaws.{IsRead, module_takes}
 use Rattle.m51_records.proofs.Tools.{on_ok, ok_is}
-use Rattle.m51_library.specs.Reading.{at_end, count_in, library_of, modules_at, modules_of, or_object}
+use Rattle.m51_library.specs.Reading.{at_end, count_in, library_of, module_in, modules_at, modules_of, nothing_after, or_object}
 use Rattle.m51_library.specs.Spelling.{count_record}
 use Rattle.m51_library.proofs.Accepting.{makes_all}
 use Rattle.m51_library.proofs.LibraryLaws.{first_takes}
@@ -36,11 +36,12 @@ use Rattle.m51_inputs.specs.declared.error.SourceFaults.{SourceFaults}
 use Rattle.m51_inputs.specs.Files.{includes_of, source_words, sources_of}
 use Rattle.m51_inputs.specs.Inputs.{InputsTree, controls_in, inputs_of, or_control, script_in}
 use Rattle.m51_inputs.specs.Objects as objects
-use Rattle.m51_inputs.specs.Objects.{linked_by, linked_from, module_in, nothing_after, or_library, with_library, with_module, with_source}
+use Rattle.m51_inputs.specs.Objects.{linked_by, linked_from, or_library, with_library, with_module, with_source}
 use Rattle.m51_inputs.specs.Sources.{AreAnswers, faults_in, modules_in, unless_faults}
 use Rattle.m51_resolve.specs.Choice.{choice, chosen_of, first_needed, is_needed, members_of}
 use Rattle.m51_resolve.specs.Rules.{first_refusal, resolved_of, unless_refused}
 use Rattle.m51_chain.specs.ProgramFiles.{AreAnswered, ProgramFiles, word_contents}
+use Rattle.m51_chain.proofs.Accepted.{on_value}
 use Rattle.m51_buildlaw.specs.Builds.{AreOfBytes}
 use Rattle.m51_buildlaw.proofs.ControlsKept.{controls_kept, none_kept}
 
@@ -184,11 +185,6 @@ module _ (P : ModuleParts → Type 0)
   words_linked word (name ∷ names) (file ∷ contents) sources l bytes valid h =
       word_first (ending_of name) word file sources (linked_from (word + 1) names contents) l (bytes_are file (All-head IsOfBytes file contents bytes)) valid
       (λ others k all is. words_linked (word + 1) names contents others k (All-tail IsOfBytes file contents bytes) all is) h
-
-  -- the value of a step that was not refused
-  on_value : {A B : Type 0} (r : Result A InputError) (f : A → Result B InputError) (y : B) (P : Type 0) → ((x : A) → r ≡ Ok x → f x ≡ Ok y → P) → and_then r f ≡ Ok y → P
-  on_value (Ok x) f y P k h = k x refl h
-  on_value (Err error) f y P k h = absurd (cc h)
 
   no_faults : (faults : List SourceFaults) (modules ms : List ModuleParts) → unless_faults faults modules ≡ Ok ms → modules ≡ ms
   no_faults [] modules ms h = cc h

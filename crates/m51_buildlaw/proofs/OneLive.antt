@@ -45,7 +45,7 @@ use Rattle.m51_stacklaw.proofs.Bounded.{Held, judged_of}
 use Rattle.m51_stacklaw.proofs.Meeting.{root_at}
 use Rattle.m51_jobs.specs.declared.job.BuildJob.{BuildJob}
 use Rattle.m51_chain.specs.Builds.{IsBuildOutcome}
-use Rattle.m51_chain.specs.Outcome.{Outcome}
+use Rattle.m51_verbs.specs.Outcome.{Outcome}
 use Rattle.m51_buildlaw.specs.Builds.{AreOfBytes, IsBuilt, separate_run}
 use Rattle.m51_buildlaw.proofs.Rooted.{layout_root}
 use Rattle.m51_buildlaw.proofs.Verdicts.{reported}

@@ -21,10 +21,11 @@ use Rattle.m51_inputs.specs.declared.error.InputError.{InputError}
 use Rattle.m51_inputs.specs.Inputs.{InputsTree}
 use Rattle.m51_inputs.proofs.OneEach.{one_answer as one_for_files}
 use Rattle.m51_jobs.specs.declared.job.BuildJob.{BuildJob}
-use Rattle.m51_chain.specs.declared.status.Status.TheVariants.{Event, Link, Ran}
+use Rattle.m51_verbs.specs.declared.status.Status.TheVariants.{Event, Link, Ran}
 use Rattle.m51_chain.specs.Builds.{IsBuildOutcome, build_files}
-use Rattle.m51_chain.specs.Linking.{IsInputsOutcome, IsProgramOutcome, link_outcome, program_in, reason_of}
-use Rattle.m51_chain.specs.Outcome.{Outcome, status_by, status_of}
+use Rattle.m51_chain.specs.Linking.{IsInputsOutcome, IsProgramOutcome, program_in}
+use Rattle.m51_verbs.specs.LinkRefusals.{link_outcome, reason_of}
+use Rattle.m51_verbs.specs.Outcome.{Outcome, status_by, status_of}
 use Rattle.m51_chain.specs.ProgramFiles.{AreAnswered, Given, IsGivenOutcome, ProgramFiles, Refused, control_content, script_content, word_contents}
 use Rattle.m51_chain.specs.Programs.{IsReport}
 use Rattle.m51_buildlaw.specs.Overlay.{ReachesPlacing}

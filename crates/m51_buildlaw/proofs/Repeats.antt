@@ -1,22 +1,19 @@
 -- The verb flat over the kept file prints the entries that build printed.
 use Rattle.std.proofs.Common.{◌≡◌, ℕ, zero, suc, ◌+◌, ◌-◌, ◌<◌, List, [], ◌∷◌, ◌++◌, codes, Option, Some, None, Result, Ok, Err, refl, sym, ap, subst, ◌∙◌, arith, append-nil}
 use Rattle.std.specs.Prelude.{flat_map}
-use Rattle.m51_cells.specs.Outcome.{and_then}
 use Rattle.m51_cells.specs.declared.event.Entry.{Entry}
 use Rattle.m51_cells.specs.declared.event.Event.{Event}
 use Rattle.m51_cells.specs.declared.event.Event.TheVariants.{Outside, PowerDown, Reserved, Transfer, Unwritten}
 use Rattle.m51_asm.specs.Answer.{AnswerTree}
 use Rattle.m51_flat.specs.Reads.{CellMap}
 use Rattle.m51_inputs.specs.declared.error.InputError.{InputError}
-use Rattle.m51_inputs.specs.Inputs.{InputsTree, controls_in, inputs_of as all_inputs, or_script, script_in}
+use Rattle.m51_inputs.specs.Inputs.{InputsTree, controls_in, inputs_of as all_inputs, script_in}
 use Rattle.m51_inputs.specs.Files.{source_words}
 use Rattle.m51_inputs.specs.Objects.{linked_from}
 use Rattle.m51_inputs.specs.Sources.{faults_in, modules_in, unless_faults}
 use Rattle.m51_linker.specs.declared.linked.Linked.{Linked}
 use Rattle.m51_print.specs.Lines.{entry_line, last_line, titles_of}
-use Rattle.m51_script.specs.declared.error.ScriptError.{ScriptError}
 use Rattle.m51_script.specs.declared.script.Script.{Script}
-use Rattle.m51_script.specs.Reading.{plain_script, script_of}
 use Rattle.m51_sim.specs.Cycles.{inputs_of}
 use Rattle.m51_sim.specs.FlatMachine.{filled_map, flat_machine, reset_with}
 use Rattle.m51_sim.specs.Laws.{IsSameRun, IsSharedEvent}
@@ -30,29 +27,17 @@ use Rattle.m51_jobs.specs.declared.job.BuildJob.{BuildJob}
 use Rattle.m51_jobs.specs.declared.job.FlatJob.{FlatJob}
 use Rattle.m51_jobs.specs.declared.job.Job.TheVariants.{Build, Flat}
 use Rattle.m51_chain.specs.Builds.{build_files}
-use Rattle.m51_chain.specs.FlatRuns as flats
-use Rattle.m51_chain.specs.FlatRuns.{Ran, Read, flat_report}
-use Rattle.m51_chain.specs.Optional.{content_if}
-use Rattle.m51_chain.specs.Outcome.{Outcome, status_by}
+use Rattle.m51_verbs.specs.FlatRuns as flats
+use Rattle.m51_verbs.specs.FlatRuns.{Ran, Read, flat_report}
+use Rattle.m51_verbs.specs.Optional.{content_if}
+use Rattle.m51_verbs.specs.Outcome.{Outcome, status_by}
 use Rattle.m51_chain.specs.ProgramFiles.{ProgramFiles, control_content, script_content, word_contents}
 use Rattle.m51_chain.specs.Verbs.{IsOutcome}
+use Rattle.m51_chain.proofs.Accepted.{on_value, script_is}
 use Rattle.m51_chain.proofs.OneOutcome.{one_outcome}
 use Rattle.m51_buildlaw.specs.Builds.{AreOfBytes, IsBuilt, flat_run, separate_run}
 use Rattle.m51_buildlaw.specs.Headline.{FlatGives, FlatRepeats, IfShared, RunsAlike}
 use Rattle.m51_buildlaw.proofs.Alike.{runs_alike}
-
--- the script of the files of a build is that of the verb flat
-or_read : (r : Result Script ScriptError) (board : Script) → or_script r ≡ Ok board → r ≡ Ok board
-or_read (Ok found) board h = let same : found ≡ board = cc h in ap (λ (s : Script). Ok s) same
-or_read (Err error) board h = absurd (cc h)
-
-script_read : (script : Option (List ℕ)) (board : Script) → script_in script ≡ Ok board → flats.script_in script ≡ Ok board
-script_read None board h = let same : plain_script ≡ board = cc h in ap (λ (s : Script). Ok s) same
-script_read (Some bytes) board h = or_read (script_of bytes) board h
-
-on_value : {A B : Type 0} (r : Result A InputError) (f : A → Result B InputError) (y : B) (P : Type 0) → ((x : A) → r ≡ Ok x → f x ≡ Ok y → P) → and_then r f ≡ Ok y → P
-on_value (Ok x) f y P k h = k x refl h
-on_value (Err error) f y P k h = absurd (cc h)
 
 inputs_same : (x y : InputsTree) (h : ◌≡◌ {A = Result InputsTree InputError} (Ok x) (Ok y)) → x ≡ y
 inputs_same x y h = cc h
@@ -66,7 +51,7 @@ given_script files contents control script answers inputs h =
     on_value (controls_in control) _ inputs (flats.script_in script ≡ Ok inputs.script) (λ lines three h3.
     on_value (script_in script) _ inputs (flats.script_in script ≡ Ok inputs.script) (λ board four h4.
     let made : InputsTree = record { modules = linked.modules; libraries = linked.libraries; controls = lines; script = board } in
-    script_read script board four ∙ ap (λ (i : InputsTree). Ok i.script) (inputs_same made inputs h4)) h3) h2) h1) h
+    script_is script board four ∙ ap (λ (i : InputsTree). Ok i.script) (inputs_same made inputs h4)) h3) h2) h1) h
 
 -- a record of steps
 module _ {M : Type 0} (machine : Machine M) where

@@ -24,8 +24,9 @@ use Rattle.m51_script.specs.declared.script.Script.{Script}
 use Rattle.m51_sim.specs.Report.{report_of}
 use Rattle.m51_jobs.specs.declared.job.BuildJob.{BuildJob}
 use Rattle.m51_chain.specs.Builds.{build_files}
-use Rattle.m51_chain.specs.Linking.{Follows, IsProgramOutcome, Unlinked, link_outcome}
-use Rattle.m51_chain.specs.Outcome.{Outcome}
+use Rattle.m51_chain.specs.Linking.{Follows, IsProgramOutcome, Unlinked}
+use Rattle.m51_verbs.specs.LinkRefusals.{link_outcome}
+use Rattle.m51_verbs.specs.Outcome.{Outcome}
 use Rattle.m51_chain.specs.Programs.{IsReport, filled_by}
 use Rattle.m51_buildlaw.specs.Overlay.{BuildHasWeight, BuildPrintsLeast, BuildRefusesOverlay, ReachesPlacing, IsPremise, PrintsLeast, PrintsWeight, RefusesOverlay}
 use Rattle.m51_buildlaw.specs.Builds.{IsRun}

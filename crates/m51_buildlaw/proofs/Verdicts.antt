@@ -13,14 +13,11 @@ use Rattle.m51_inputs.specs.Inputs.{InputsTree}
 use Rattle.m51_inputs.proofs.OneEach.{one_answer as one_for_files}
 use Rattle.m51_linker.specs.declared.linked.Linked.{Linked}
 use Rattle.m51_linker.specs.Broken.{broken_rule}
-use Rattle.m51_linker.specs.Image.{IsFilled}
 use Rattle.m51_linker.specs.Link.{IsLinked, Program, checked_of, joined_of, placed_of}
 use Rattle.m51_module.specs.declared.library_error.LibError.{LibError}
 use Rattle.m51_module.specs.declared.library_error.LibError.TheVariants as library
 use Rattle.m51_module.specs.declared.linked.Refusal.{Refusal}
 use Rattle.m51_module.specs.declared.linked.Refusal.TheVariants as refusal
-use Rattle.m51_module.specs.declared.linked.Run.{Run}
-use Rattle.m51_module.specs.declared.parts.LayoutParts.{LayoutParts}
 use Rattle.m51_module.specs.declared.parts.ModuleParts.{ModuleParts}
 use Rattle.m51_place.specs.declared.placing.Placing.{Placing}
 use Rattle.m51_place.specs.Placement.{placing_of}
@@ -30,15 +27,17 @@ use Rattle.m51_script.specs.declared.error.ScriptError.TheVariants as script
 use Rattle.m51_script.specs.declared.script.Script.{Script}
 use Rattle.m51_sim.specs.Report.{report_of}
 use Rattle.m51_jobs.specs.declared.job.BuildJob.{BuildJob}
-use Rattle.m51_chain.specs.declared.status.Status.{Status}
-use Rattle.m51_chain.specs.declared.status.Status.TheVariants as status
+use Rattle.m51_verbs.specs.declared.status.Status.{Status}
+use Rattle.m51_verbs.specs.declared.status.Status.TheVariants as status
 use Rattle.m51_chain.specs.Builds.{IsBuildOutcome, build_files}
 use Rattle.m51_chain.specs.InputRefusals.{input_outcome}
-use Rattle.m51_chain.specs.Linking.{Follows, IsInputsOutcome, IsProgramOutcome, Unlinked, link_outcome, program_in}
-use Rattle.m51_chain.specs.Outcome.{Outcome, status_by}
+use Rattle.m51_chain.specs.Linking.{Follows, IsInputsOutcome, IsProgramOutcome, Unlinked, program_in}
+use Rattle.m51_verbs.specs.LinkRefusals.{link_outcome}
+use Rattle.m51_verbs.specs.Outcome.{Outcome, status_by}
 use Rattle.m51_chain.specs.ProgramFiles.{AreAnswered, Given, IsGivenOutcome, ProgramFiles, Refused, control_content, script_content, word_contents}
 use Rattle.m51_chain.specs.Programs.{IsReport}
-use Rattle.m51_chain.proofs.OneRuns.{one_image, one_roots, one_runs}
+use Rattle.m51_chain.proofs.Accepted.{ok_same}
+use Rattle.m51_chain.proofs.OneOutcome.{err_same, one_linked}
 use Rattle.m51_buildlaw.specs.Builds.{IsAccepted, IsBuilt, IsRun, MeetsRules}
 use Rattle.m51_buildlaw.specs.Headline.{LinksExactly, PrintsRecord}
 
@@ -140,25 +139,6 @@ not_run outcome other same none run = absurd (cc (sym (ap (λ (o : Outcome). is_
 event_run : (event : Option RunEvent) (outcome : Outcome) → outcome.status ≡ status_by event → IsRun outcome
 event_run None outcome h = inl h
 event_run (Some event) outcome h = inr h
-
-err_same : {A E : Type 0} (r : Result A E) (x y : E) → r ≡ Err x → r ≡ Err y → x ≡ y
-err_same r x y h k = cc (h, k)
-
-ok_same : {A E : Type 0} (r : Result A E) (x y : A) → r ≡ Ok x → r ≡ Ok y → x ≡ y
-ok_same r x y h k = cc (h, k)
-
--- a program is linked in one way
-abbrev linked_as : LayoutParts → List ℕ → List Run → List ℕ → Linked
-linked_as layout image written roots = record { layout = layout; image = image; written = written; roots = roots }
-
-one_linked : (p : Program) (a b : Linked) → IsLinked p a → IsLinked p b → a ≡ b
-one_linked p a b h k =
-    let layout : a.layout ≡ b.layout = h.layout ∙ sym k.layout in
-    let image : a.image ≡ b.image = one_image p.modules p.placing a.image b.image h.image k.image in
-    let written : a.written ≡ b.written = one_runs (IsFilled p.modules p.placing) a.written b.written h.written k.written in
-    let roots : a.roots ≡ b.roots = one_roots p.graph a.roots b.roots h.roots k.roots in
-    ap (λ x. linked_as x a.image a.written a.roots) layout ∙ ap (λ x. linked_as b.layout x a.written a.roots) image
-    ∙ ap (λ x. linked_as b.layout b.image x a.roots) written ∙ ap (λ x. linked_as b.layout b.image b.written x) roots
 
 -- what comes of a build that has these inputs
 abbrev IsOf : BuildJob → InputsTree → Outcome → Type 0

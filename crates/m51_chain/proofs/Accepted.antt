@@ -26,13 +26,13 @@ use Rattle.m51_jobs.specs.Endings.{are_boards, ending_of, is_a_source, is_source
 use Rattle.m51_jobs.specs.declared.job.Job.TheVariants.{Party}
 use Rattle.m51_jobs.specs.declared.job.PartyJob.{PartyJob}
 use Rattle.m51_jobs.specs.Files.{names_read}
-use Rattle.m51_chain.specs.FlatRuns.{script_in}
-use Rattle.m51_chain.specs.Optional.{content_if}
+use Rattle.m51_verbs.specs.FlatRuns.{script_in}
+use Rattle.m51_verbs.specs.Optional.{content_if}
 use Rattle.m51_chain.specs.Parties.{party_files}
 use Rattle.m51_chain.specs.ProgramFiles.{AreAnswered, script_content}
 
 -- the value with which a step goes on
-on_value : {A B E : Type 0} (r : Result A E) (go : A → Result B E) (y : B) (P : Type 0) → ((x : A) → r ≡ Ok x → go x ≡ Ok y → P) → and_then r go ≡ Ok y → P
+pub on_value : {A B E : Type 0} (r : Result A E) (go : A → Result B E) (y : B) (P : Type 0) → ((x : A) → r ≡ Ok x → go x ≡ Ok y → P) → and_then r go ≡ Ok y → P
 on_value (Ok x) go y P k h = k x refl h
 on_value (Err e) go y P k h = absurd (cc h)
 
@@ -48,7 +48,8 @@ script_given : (r : Result Script ScriptError) (s : Script) → or_script r ≡ 
 script_given (Ok x) s h = ap (λ v. Ok v) (ok_same _ x s refl h)
 script_given (Err e) s h = absurd (cc h)
 
-script_is : (file : Option (List ℕ)) (s : Script) → script_read file ≡ Ok s → script_in file ≡ Ok s
+-- the script of the files of a program is that of the verb flat
+pub script_is : (file : Option (List ℕ)) (s : Script) → script_read file ≡ Ok s → script_in file ≡ Ok s
 script_is None s h = ap (λ v. Ok v) (ok_same _ plain_script s refl h)
 script_is (Some bytes) s h = script_given (script_of bytes) s h
 

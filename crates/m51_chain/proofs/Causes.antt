@@ -3,17 +3,17 @@ use Rattle.std.proofs.Common.{◌≡◌, ℕ, List, Option, Some, None, refl, sy
 use Rattle.std.specs.Prelude.{option_map}
 use Rattle.m51_jobs.specs.declared.job.Job.{Job}
 use Rattle.m51_jobs.specs.Files.{name_kept, names_read}
-use Rattle.m51_chain.specs.declared.status.Status.{Status}
-use Rattle.m51_chain.specs.declared.status.Status.TheVariants as status
+use Rattle.m51_verbs.specs.declared.status.Status.{Status}
+use Rattle.m51_verbs.specs.declared.status.Status.TheVariants as status
 use Rattle.m51_shelf.specs.Shelf.{File, Files}
 use Rattle.m51_shelf.specs.States.{ReadAt}
 use Rattle.m51_chain.specs.Outside.{Change}
-use Rattle.m51_chain.specs.Outcome.{Answer, under, usage_answer, many_answer, long_answer, unread_answer}
+use Rattle.m51_verbs.specs.Outcome.{Answer, under, usage_answer, many_answer, long_answer, unread_answer}
 use Rattle.m51_chain.specs.Expected.{MayKeep}
 use Rattle.m51_shelf.specs.Reading.{IsLong}
-use Rattle.m51_chain.specs.Reading.{AreRead, IsReached}
-use Rattle.m51_chain.specs.Carried as carried
-use Rattle.m51_chain.specs.Carried.{IsUnkept}
+use Rattle.m51_verbs.specs.Reading.{AreRead, IsReached}
+use Rattle.m51_verbs.specs.Carried as carried
+use Rattle.m51_verbs.specs.Carried.{IsUnkept}
 use Rattle.m51_chain.specs.Due as due
 use Rattle.m51_chain.specs.Due.{IsWorkFor, IsAtFor, IsDueFor, IsDue}
 use Rattle.m51_chain.specs.Told.{Written, Ended, IsSaid, IsWorked, IsKeepFault, IsCaused}

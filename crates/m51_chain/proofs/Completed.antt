@@ -3,16 +3,16 @@ use Rattle.std.proofs.Common.{◌≡◌, ◌⊎◌, ℕ, ◌<◌, ◌≤◌, Lis
 use Rattle.m51_cells.specs.declared.limits.TheConstants.{MOST_FILES}
 use Rattle.m51_jobs.specs.declared.job.Job.{Job}
 use Rattle.m51_jobs.specs.Files.{file_count, name_kept, names_read}
-use Rattle.m51_chain.specs.declared.status.Status.{Status}
-use Rattle.m51_chain.specs.declared.status.Status.TheVariants as status
+use Rattle.m51_verbs.specs.declared.status.Status.{Status}
+use Rattle.m51_verbs.specs.declared.status.Status.TheVariants as status
 use Rattle.m51_words.specs.Jobs.{job_of}
-use Rattle.m51_chain.specs.Carried as carried
+use Rattle.m51_verbs.specs.Carried as carried
 use Rattle.m51_chain.specs.Complete.{Completed, IsComplete, IsUnfailed}
 use Rattle.m51_chain.specs.Expected as answers
 use Rattle.m51_chain.specs.Expected.{HasOutcome, IsAnswer}
-use Rattle.m51_chain.specs.Outcome.{Answer, long_answer, many_answer, named_answer, unread_answer, usage_answer}
+use Rattle.m51_verbs.specs.Outcome.{Answer, long_answer, many_answer, named_answer, unread_answer, usage_answer}
 use Rattle.m51_chain.specs.Outside.{Change}
-use Rattle.m51_chain.specs.Reading.{Absent, Reading, TooLong, Whole, read_of}
+use Rattle.m51_verbs.specs.Reading.{Absent, Reading, TooLong, Whole, read_of}
 use Rattle.m51_shelf.specs.Shelf.{Files}
 use Rattle.m51_chain.specs.Told.{Ended, IsTold, IsUnread, Written}
 use Rattle.m51_chain.proofs.OneOutcome.{one_outcome}

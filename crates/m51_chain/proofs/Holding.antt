@@ -3,10 +3,11 @@ use Rattle.std.proofs.Common.{◌≡◌, inl, inr, ℕ, List, Option, Some, None
 use Rattle.m51_jobs.specs.Files.{name_kept}
 use Rattle.m51_shelf.specs.Shelf.{File, Files}
 use Rattle.m51_shelf.specs.States.{ReadAt}
-use Rattle.m51_chain.specs.Outcome.{Answer}
+use Rattle.m51_verbs.specs.Outcome.{Answer}
 use Rattle.m51_chain.specs.Due as due
 use Rattle.m51_chain.specs.Due.{IsDue}
-use Rattle.m51_chain.specs.Told.{HoldsBut, HoldsButKept, IsKeptName}
+use Rattle.m51_verbs.specs.Carried.{HoldsBut}
+use Rattle.m51_chain.specs.Told.{HoldsButKept, IsKeptName}
 use Rattle.m51_chain.proofs.Causes.{under_name}
 
 by_keeps : (words : List (List ℕ)) (old new : Option Files) (keeps : Option File) → ((file : File) → keeps ≡ Some file → IsKeptName words file.0)

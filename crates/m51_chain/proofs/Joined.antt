@@ -1,8 +1,10 @@
 -- Modules that are linked each alone, their boards, and the report of their party.
 use Rattle.std.proofs.Common.{◌≡◌, ◌≢◌, ℕ, suc, List, [], ◌∷◌, ◌++◌, length, drop, append-nil, Result, Ok, Err, refl, sym, ap, ◌∙◌, subst, arith}
-use Rattle.std.specs.Prelude.{All}
+use Rattle.std.specs.Prelude.{All, Vec}
+use Rattle.std.specs.declared.alloc.Global.{Global}
 use Rattle.std.specs.Result.{IsOk}
 use Rattle.std.proofs.lemmas.List.Elements.{All-cons, All-nil}
+use Rattle.std.proofs.lemmas.Option.{IfSome_then}
 use Rattle.m51_cells.specs.Outcome.{RefusesWith, and_then}
 use Rattle.m51_cells.specs.Outside.{Rose}
 use Rattle.m51_inputs.specs.Inputs.{InputsTree}
@@ -18,6 +20,7 @@ use Rattle.m51_party.specs.Rounds.{family_of}
 use Rattle.m51_party.specs.Text.{party_text}
 use Rattle.m51_party.proofs.One.{only_family}
 use Rattle.m51_module.specs.declared.parts.LayoutParts.{LayoutParts}
+use Rattle.m51_jobs.specs.declared.job.PartyJob.{PartyJob}
 use Rattle.m51_script.specs.declared.error.ScriptError.{ScriptError}
 use Rattle.m51_script.specs.declared.error.ScriptError.TheVariants as script
 use Rattle.m51_script.specs.declared.script.Script.{Script}
@@ -27,15 +30,17 @@ use Rattle.m51_sim.specs.Cycles.{inputs_of}
 use Rattle.m51_sim.specs.FlatMachine.{reset_with}
 use Rattle.m51_sim.specs.SeparateMachine.{separate_start}
 use Rattle.m51_shelf.specs.Writing.{SinkState}
-use Rattle.m51_chain.specs.declared.work.Stop.{Stop}
-use Rattle.m51_chain.specs.declared.work.Stop.TheVariants as stop
-use Rattle.m51_chain.specs.Carried.{IsWritten}
+use Rattle.m51_verbs.specs.declared.work.Stop.{Stop}
+use Rattle.m51_verbs.specs.Carried.{IsWritten}
 use Rattle.m51_chain.specs.Linking.{Follows, IsLinkedOr, IsProgramOutcome, Unlinked, alone}
-use Rattle.m51_chain.specs.Outcome.{Comes, Outcome, party_status, refused, status_if}
+use Rattle.m51_verbs.specs.Outcome.{Outcome, stopped}
+use Rattle.m51_chain.specs.Parties.{party_status, status_if}
 use Rattle.m51_chain.specs.Parties as parties
-use Rattle.m51_chain.specs.Parties.{AreBoardsFor, AreBoardsOf, AreBoardsOr, IsBoardOf, IsBoardOr, IsPartyWork, IsUnlinked, each_of, party_report, programs_of}
-use Rattle.m51_chain.specs.ProgramFiles.{AreAnswered, Given, IsFilesOutcome, Nothing, ProgramFiles}
-use Rattle.m51_chain.proofs.Accepted.{ok_same}
+use Rattle.m51_chain.specs.Parties.{AreBoardsFor, AreBoardsOf, AreBoardsOr, AreJoinedOr, IsBoardOf, IsBoardOr, IsPartyWork, IsUnlinked, each_of, party_files, programs_of}
+use Rattle.m51_chain.specs.ProgramFiles.{AreAnswered, Given, Nothing}
+use Rattle.m51_verbs.proofs.Edits.{none_left}
+use Rattle.m51_chain.proofs.Accepted.{AreGiven, ok_same}
+use Rattle.m51_chain.proofs.Following.{inputs_refused}
 use Rattle.m51_chain.proofs.InputsGiven.{script_refuses}
 
 -- ---- what each gives
@@ -127,43 +132,43 @@ for_more script done parts boards new board h is put = rw put (record {
 })
 
 -- where none is left, all are done
-nothing_left : {A : Type 0} (old new : List A) → old ≡ new → new ≡ drop 1 old → old ≡ []
-nothing_left [] new same rest = refl
-nothing_left (x ∷ old) new same rest = absurd (omega (arith, ap length same, ap length rest))
-
 pub for_all : (script : Script) (all done old new : List ModuleParts) (boards : List BoardState) → old ≡ new → new ≡ drop 1 old → done ++ old ≡ all
     → AreBoardsFor script done boards → AreBoardsFor script all boards
 for_all script all done old new boards same rest is h =
     subst (λ (modules : List ModuleParts). AreBoardsFor script modules boards)
-    (sym (append-nil done) ∙ ap (λ (left : List ModuleParts). done ++ left) (sym (nothing_left old new same rest)) ∙ is) h
+    (sym (append-nil done) ∙ ap (λ (left : List ModuleParts). done ++ left) (sym (none_left old new same rest)) ∙ is) h
 
 -- a refusal of one is that of all
 pub for_refused : (script : Script) (all done rest : List ModuleParts) (parts : ModuleParts) (boards : List BoardState) (why : Stop)
     → done ++ parts ∷ rest ≡ all → AreBoardsFor script done boards → IsBoardOr script parts (Err why) → AreBoardsOr script all (Err why)
-for_refused script all done rest parts boards stop.Memory is h none = tt
-for_refused script all done rest parts boards (stop.Refused why text) is h none = record {
-  why = none.why;
-  refuses = subst (λ modules. programs_of modules ≡ Err none.why) is (given_refused alone done parts rest h.programs none.why h.are none.refuses);
-  is = none.is;
-}
+for_refused script all done rest parts boards why is h none = IfSome_then (stopped why) none (λ o it. record {
+  why = it.why;
+  refuses = subst (λ modules. programs_of modules ≡ Err it.why) is (given_refused alone done parts rest h.programs it.why h.are it.refuses);
+  is = it.is;
+})
 
-pub boards_refused : (files : ProgramFiles) (contents : List (List ℕ)) (steps : ℕ) (inputs : InputsTree) (why : Stop) → AreAnswered files contents (Ok inputs)
-    → AreBoardsOr inputs.script inputs.modules (Err why) → Comes (IsFilesOutcome files contents (IsPartyWork steps)) (Err why)
-boards_refused files contents steps inputs stop.Memory answered none = tt
-boards_refused files contents steps inputs (stop.Refused why text) answered none =
-    record { given = Ok inputs; answer = answered; is = Given inputs refl (parties.Unlinked none.why none.refuses none.is) }
-
--- the boards of all modules, as their party is reported
-pub boards_report : (files : ProgramFiles) (contents : List (List ℕ)) (steps : ℕ) (inputs : InputsTree) (boards : List BoardState) (outcome : Outcome)
-    → AreAnswered files contents (Ok inputs) → AreBoardsFor inputs.script inputs.modules boards → outcome ≡ party_report boards steps (family_of boards steps)
-    → IsFilesOutcome files contents (IsPartyWork steps) outcome
-boards_report files contents steps inputs boards outcome answered h is =
-    let only = only_family boards steps (all_fresh inputs.script h.programs boards h.each) in
+-- the boards of all modules are those of a party
+pub joined : (job : PartyJob) (contents : List (List ℕ)) (inputs : InputsTree) (result : Result (Vec BoardState Global) Stop)
+    → AreAnswered (party_files job) contents (Ok inputs) → AreGiven job contents inputs → AreBoardsOr inputs.script inputs.modules result
+    → AreJoinedOr job contents result
+joined job contents inputs (Ok boards) answered given h =
+    let count : length boards.items ≡ length inputs.modules = for_count inputs.script inputs.modules boards.items h in
+    let fresh : All IsFresh boards.items = all_fresh inputs.script h.programs boards.items h.each in
+    let family = family_of boards.items job.steps in
+    let one = only_family boards.items job.steps fresh in
     record {
-      given = Ok inputs;
-      answer = answered;
-      is = Given inputs refl (parties.Ran h.programs boards h.are h.each (record { family = family_of boards steps; belongs = only.is; is = is }));
+      least = omega (arith, given.least, count);
+      most = omega (arith, given.most, count);
+      fresh = fresh;
+      is = record {
+        given = Ok inputs;
+        answer = answered;
+        is = Given inputs refl (parties.Ran h.programs boards.items h.are h.each (record { family = family; belongs = one.is; is = refl }));
+      };
     }
+joined job contents inputs (Err why) answered given none =
+    inputs_refused (party_files job) contents (IsPartyWork job.steps) inputs why answered
+    (IfSome_then (stopped why) none (λ o it. parties.Unlinked it.why it.refuses it.is))
 
 -- ---- one board
 
@@ -173,8 +178,7 @@ unlinked_only program outcome (Unlinked why refuses is) = record { why = why; re
 unlinked_only program outcome (Follows p linked is are none) = absurd none
 
 pub alone_refused : (script : Script) (parts : ModuleParts) (why : Stop) → IsLinkedOr (alone parts) (Err why) → IsBoardOr script parts (Err why)
-alone_refused script parts stop.Memory h = tt
-alone_refused script parts (stop.Refused why text) h = unlinked_only (alone parts) (refused why text) h
+alone_refused script parts why h = IfSome_then (stopped why) h (unlinked_only (alone parts))
 
 -- the board of a program as it is linked, where the script is read again
 pub alone_started : (script again : Script) (parts : ModuleParts) (linked : Linked) (board : BoardState) (answer : Result Script ScriptError)

@@ -1,13 +1,7 @@
-pub mod Carries
-pub mod Readings
-pub mod HandedOut
 pub mod Dues
 pub mod Causes
 pub mod Holding
 pub mod Planned
-pub mod Objects
-pub mod Ends
-pub mod Edits
 pub mod FitJobs
 pub mod InputsGiven
 pub mod Accepted
@@ -19,6 +13,5 @@ pub mod Completed
 pub mod Listed
 pub mod Ready
 pub mod Following
-pub mod Bounded
 pub mod Chained
 pub mod Built

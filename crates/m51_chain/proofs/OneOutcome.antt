@@ -26,21 +26,25 @@ use Rattle.m51_jobs.specs.declared.job.FlatJob.{FlatJob}
 use Rattle.m51_jobs.specs.declared.job.Job.{Job}
 use Rattle.m51_jobs.specs.declared.job.Job.TheVariants as jobs
 use Rattle.m51_chain.specs.Assembles.{IsAssembledOutcome, IsOneOutcome, assembled_outcome}
-use Rattle.m51_chain.specs.Analyses.{IsBounded, IsDisassembled, bound_outcome, link_files}
+use Rattle.m51_verbs.specs.Analyses.{IsBounded, IsDisassembled, bound_outcome}
+use Rattle.m51_chain.specs.Analyses.{link_files}
 use Rattle.m51_chain.specs.Builds.{build_files}
 use Rattle.m51_asm.specs.Answer as answers
 use Rattle.m51_generator.specs.Lines.{generated}
 use Rattle.m51_jobs.specs.declared.job.GenJob.{GenJob}
 use Rattle.m51_chain.specs.Generates.{IsCounted, IsGenOutcome, IsGenerated}
-use Rattle.m51_chain.specs.FlatRuns as flats
-use Rattle.m51_chain.specs.FlatRuns.{IsFlatOutcome, IsFlatWork, IsScripted, flat_report}
-use Rattle.m51_chain.specs.InputRefusals.{input_outcome, script_outcome}
-use Rattle.m51_chain.specs.Linking.{Follows, IsInputsOutcome, IsLinkedOutcome, IsProgramOutcome, Unlinked, link_outcome, program_in}
-use Rattle.m51_chain.specs.Optional.{content_if}
-use Rattle.m51_chain.specs.Outcome.{Outcome, status_if}
+use Rattle.m51_verbs.specs.FlatRuns as flats
+use Rattle.m51_verbs.specs.FlatRuns.{IsFlatOutcome, IsFlatWork, IsScripted, flat_report}
+use Rattle.m51_chain.specs.InputRefusals.{input_outcome}
+use Rattle.m51_verbs.specs.ScriptRefusals.{script_outcome}
+use Rattle.m51_chain.specs.Linking.{Follows, IsInputsOutcome, IsLinkedOutcome, IsProgramOutcome, Unlinked, program_in}
+use Rattle.m51_verbs.specs.LinkRefusals.{link_outcome}
+use Rattle.m51_verbs.specs.Optional.{content_if}
+use Rattle.m51_verbs.specs.Outcome.{Outcome}
+use Rattle.m51_chain.specs.Parties.{status_if}
 use Rattle.m51_chain.specs.Parties as parties
 use Rattle.m51_chain.specs.Parties.{AreBoardsOf, IsBoardOf, IsPartyReport, IsPartyWork, party_files, party_report}
-use Rattle.m51_chain.specs.Refusals.{hex_outcome}
+use Rattle.m51_verbs.specs.Refusals.{hex_outcome}
 use Rattle.m51_chain.specs.ProgramFiles.{Given, IsFilesOutcome, IsGivenOutcome, ProgramFiles, Refused, control_content, script_content, word_contents}
 use Rattle.m51_chain.specs.Programs.{IsReport, program_report}
 use Rattle.m51_chain.specs.Verbs.{IsOutcome}
@@ -49,14 +53,14 @@ use Rattle.m51_chain.proofs.Joined.{all_fresh}
 use Rattle.m51_chain.proofs.OneChains.{one_heaviest}
 use Rattle.m51_chain.proofs.OneRuns.{one_image, one_roots, one_runs}
 
-err_same : {A E : Type 0} (r : Result A E) (x y : E) → r ≡ Err x → r ≡ Err y → x ≡ y
+pub err_same : {A E : Type 0} (r : Result A E) (x y : E) → r ≡ Err x → r ≡ Err y → x ≡ y
 err_same r x y h k = cc (h, k)
 
 abbrev linked_of : LayoutParts → List ℕ → List Run → List ℕ → Linked
 linked_of layout image written roots = record { layout = layout; image = image; written = written; roots = roots }
 
 -- a program is linked in one way
-one_linked : (p : Program) (a b : Linked) → IsLinked p a → IsLinked p b → a ≡ b
+pub one_linked : (p : Program) (a b : Linked) → IsLinked p a → IsLinked p b → a ≡ b
 one_linked p a b h k =
     let layout : a.layout ≡ b.layout = h.layout ∙ sym k.layout in
     let image : a.image ≡ b.image = one_image p.modules p.placing a.image b.image h.image k.image in
@@ -108,10 +112,10 @@ one_report linked hex script steps a b h k =
     let chains = one_heaviest linked.layout h.chains k.chains k.sound h.heaviest k.heaviest in
     h.is ∙ ap (λ c. program_report linked c hex script steps) chains ∙ sym k.is
 
-one_bounded : (linked : Linked) (a b : Outcome) → IsBounded linked a → IsBounded linked b → a ≡ b
-one_bounded linked a b h k =
-    let same : h.answer ≡ k.answer = answer_is_unique linked.layout linked.image h.sound h.answer k.answer h.tied k.tied h.answers k.answers in
-    h.is ∙ ap (bound_outcome linked.layout) same ∙ sym k.is
+one_bounded : (layout : LayoutParts) (image : List ℕ) (a b : Outcome) → IsBounded layout image a → IsBounded layout image b → a ≡ b
+one_bounded layout image a b h k =
+    let same : h.answer ≡ k.answer = answer_is_unique layout image h.sound h.answer k.answer h.tied k.tied h.answers k.answers in
+    h.is ∙ ap (bound_outcome layout) same ∙ sym k.is
 
 one_assembled : (files : List (List ℕ)) (source : SourceFile) (includes : List SourceFile) (a b : Outcome)
     → IsAssembledOutcome files source includes a → IsAssembledOutcome files source includes b → a ≡ b
@@ -210,7 +214,9 @@ one_outcome (jobs.Library job) contents a b h k = h ∙ sym k
 one_outcome (jobs.Flat job) contents a b h k = one_run job contents a b h k
 one_outcome (jobs.Gen job) contents a b h k = one_generated job a b h k
 one_outcome (jobs.Dis job) contents a b h k =
-    one_files (link_files job) contents (λ script. IsDisassembled) a b (λ script linked x y i j. i ∙ sym j) h k
+    one_files (link_files job) contents (λ script linked. IsDisassembled linked.layout linked.image) a b
+    (λ script linked x y i j. i ∙ sym j) h k
 one_outcome (jobs.Stack job) contents a b h k =
-    one_files (link_files job) contents (λ script. IsBounded) a b (λ script. one_bounded) h k
+    one_files (link_files job) contents (λ script linked. IsBounded linked.layout linked.image) a b
+    (λ script linked. one_bounded linked.layout linked.image) h k
 one_outcome (jobs.Party job) contents a b h k = one_answered_files (party_files job) contents (IsPartyWork job.steps) a b (one_party job.steps) h k

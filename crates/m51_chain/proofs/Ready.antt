@@ -1,23 +1,14 @@
--- What linking answers: a refusal that is none of out of memory, and runs of at most 65,536 bytes.
-use Rattle.std.proofs.Common.{◌≡◌, ◌≢◌, ℕ, suc, ◌+◌, ◌<◌, ◌≤◌, List, [], ◌∷◌, Result, Err, refl, arith}
+-- What linking answers: runs of at most 65,536 bytes.
+use Rattle.std.proofs.Common.{◌≡◌, ℕ, suc, ◌+◌, ◌<◌, ◌≤◌, List, [], ◌∷◌, arith}
 use Rattle.std.specs.List.{All, AllPairs}
 use Rattle.std.proofs.lemmas.List.Elements.{All-head, All-tail}
 use Rattle.std.proofs.lemmas.List.Sums.{sum_by-cons}
 use Rattle.std.specs.Prelude.{map}
-use Rattle.m51_cells.specs.Outcome.{RefusesWith}
 use Rattle.m51_hex.specs.Writing.{IsWithin}
-use Rattle.m51_module.specs.declared.linked.Refusal.{Refusal}
-use Rattle.m51_module.specs.declared.linked.Refusal.TheVariants as refusal
 use Rattle.m51_module.specs.declared.linked.Run.{Run}
-use Rattle.m51_resolve.specs.Rules.{but_memory}
 use Rattle.m51_linker.specs.declared.linked.Linked.{Linked}
-use Rattle.m51_linker.specs.Link.{IsInside, IsReady, Program}
+use Rattle.m51_linker.specs.Link.{IsInside, IsReady}
 use Rattle.m51_chain.specs.Programs.{filled_by}
-
--- a refusal is that of the program
-pub unlinked : (program : Result Program Refusal) (why : Refusal) → why ≢ refusal.Memory → RefusesWith (but_memory why) program → program ≡ Err why
-unlinked program refusal.Memory none h = absurd (none refl)
-unlinked program why none h = h
 
 -- runs that ascend and end in program memory have at most as many bytes as follow their first
 runs_below : (runs : List Run) (from : ℕ) → from ≤ 65536 → All (λ r. from ≤ r.first) runs → All IsInside runs

@@ -1,59 +1,21 @@
 -- What dis and stack make of their files: both link the program, and look at it.
-use Rattle.std.specs.Prelude.{◌≡◌, ℕ, List, None, Result, Ok, Err}
-use Rattle.m51_disasm.specs.Answer.{disassembled}
-use Rattle.m51_linker.specs.declared.linked.Linked.{Linked}
-use Rattle.m51_module.specs.declared.linked.Quantity.{Quantity}
-use Rattle.m51_module.specs.declared.linked.Refusal.TheVariants as refusal
-use Rattle.m51_module.specs.declared.parts.LayoutParts.{LayoutParts}
-use Rattle.m51_module.specs.declared.stack_bound.StackBound.{StackBound}
-use Rattle.m51_module.specs.declared.stack_bound.StackError.{StackError}
-use Rattle.m51_module.specs.declared.stack_bound.StackError.TheVariants.{Limit}
-use Rattle.m51_module.specs.Sound.{IsSound}
-use Rattle.m51_print.specs.Stack.{stack_of, stack_refusal}
-use Rattle.m51_stackbound.specs.Bounds.{Answers}
-use Rattle.m51_stackbound.specs.Laws.{IsTied}
+use Rattle.std.specs.Prelude.{ℕ, List, None}
 use Rattle.m51_jobs.specs.declared.job.LinkJob.{LinkJob}
-use Rattle.m51_chain.specs.declared.work.Reason.{Reason}
-use Rattle.m51_chain.specs.declared.work.Reason.TheVariants as reason
-use Rattle.m51_chain.specs.Linking.{IsLinkedOutcome, link_outcome}
-use Rattle.m51_chain.specs.Outcome.{Outcome, refused, written}
+use Rattle.m51_chain.specs.Linking.{IsLinkedOutcome}
 use Rattle.m51_chain.specs.ProgramFiles.{ProgramFiles, named}
+use Rattle.m51_verbs.specs.Analyses.{IsBounded, IsDisassembled}
+use Rattle.m51_verbs.specs.Outcome.{Outcome}
 
 -- they take no script
 abbrev pub link_files : LinkJob → ProgramFiles
 link_files job = named job.files job.control None
 
--- the text is written, or it passes a limit
-abbrev pub text_outcome : Result (List ℕ) Quantity → Outcome
-text_outcome (Ok text) = written text
-text_outcome (Err what) = link_outcome (refusal.Limit what)
-
--- the text of the linked program as a source
-abbrev pub IsDisassembled : Linked → Outcome → Type 0
-IsDisassembled linked outcome = outcome ≡ text_outcome (disassembled linked.layout linked.image)
-
 -- what dis makes of the contents of its files
 abbrev pub IsDisOutcome : LinkJob → List (List ℕ) → Outcome → Type 0
-IsDisOutcome job contents outcome = IsLinkedOutcome (link_files job) contents (λ script. IsDisassembled) outcome
-
--- a bound is refused at the limit of points, or by K1 to K6
-abbrev pub reason_of : StackError → Reason
-reason_of Limit = reason.Limit
-reason_of other = reason.Stack
-
--- the bound is written, or why there is none; out of memory is never asked for
-abbrev pub bound_outcome : LayoutParts → Result StackBound StackError → Outcome
-bound_outcome l (Ok bound) = written (stack_of l bound)
-bound_outcome l (Err why) = refused (reason_of why) (stack_refusal why)
-
--- the stack bound of the linked program, whose layout is sound, or why it has none, which is not out of memory
-pub record IsBounded (linked : Linked) (outcome : Outcome) : Type 0 where
-  pub sound : IsSound linked.layout
-  pub answer : Result StackBound StackError
-  pub tied : IsTied answer
-  pub answers : Answers linked.layout linked.image answer
-  pub is : outcome ≡ bound_outcome linked.layout answer
+IsDisOutcome job contents outcome =
+    IsLinkedOutcome (link_files job) contents (λ script linked. IsDisassembled linked.layout linked.image) outcome
 
 -- what stack makes of the contents of its files
 abbrev pub IsStackOutcome : LinkJob → List (List ℕ) → Outcome → Type 0
-IsStackOutcome job contents outcome = IsLinkedOutcome (link_files job) contents (λ script. IsBounded) outcome
+IsStackOutcome job contents outcome =
+    IsLinkedOutcome (link_files job) contents (λ script linked. IsBounded linked.layout linked.image) outcome

@@ -4,17 +4,18 @@ use Rattle.m51_cells.specs.declared.limits.TheConstants.{MOST_FILES}
 use Rattle.m51_cells.specs.declared.memory.NoMemory.{NoMemory}
 use Rattle.m51_jobs.specs.declared.job.Job.{Job}
 use Rattle.m51_jobs.specs.Files.{file_count, names_read}
-use Rattle.m51_chain.specs.declared.work.Finished.{Finished}
-use Rattle.m51_chain.specs.declared.work.Plan.{Plan}
-use Rattle.m51_chain.specs.declared.work.Stop.{Stop}
-use Rattle.m51_chain.specs.declared.work.Stop.TheVariants as stop
+use Rattle.m51_chain.specs.declared.work.Task.{Task}
+use Rattle.m51_chain.specs.declared.work.Work.{Work}
+use Rattle.m51_chain.specs.Work.{answer_of, outcome_of}
+use Rattle.m51_verbs.specs.declared.work.Stop.{Stop}
+use Rattle.m51_verbs.specs.declared.work.Stop.TheVariants as stop
 use Rattle.m51_words.specs.Jobs.{job_of}
 use Rattle.m51_shelf.specs.Shelf.{Files}
 use Rattle.m51_shelf.specs.States.{ReadAt, HasFailed}
-use Rattle.m51_chain.specs.Outcome.{Answer, answer_of, outcome_of, refused, named_answer}
-use Rattle.m51_chain.specs.Outcome.{usage_answer, many_answer, long_answer, unread_answer}
+use Rattle.m51_verbs.specs.Outcome.{Answer, refused, named_answer}
+use Rattle.m51_verbs.specs.Outcome.{usage_answer, many_answer, long_answer, unread_answer}
 use Rattle.m51_shelf.specs.Reading.{IsLong}
-use Rattle.m51_chain.specs.Reading.{AreRead, AreGiven, ReadsSome, IsReached}
+use Rattle.m51_verbs.specs.Reading.{AreRead, AreGiven, ReadsSome, IsReached}
 use Rattle.m51_chain.specs.Expected.{HasOutcome}
 
 -- The work was done on contents that were read whole, and that are what the shelf handed out.
@@ -52,11 +53,11 @@ pub record ReadsOnly (words : List (List ℕ)) (before after : ReadAt) : Type 0 
   pub few : file_count job ≤ MOST_FILES
   pub reads : ReadsSome (names_read job) before after
 
--- The plan for what work comes to, where the file that is kept has this name: a step between the parts.
-abbrev pub IsPlanned : Option (List ℕ) → Result Finished Stop → Result Plan NoMemory → Type 0
-IsPlanned name (Ok work) (Ok plan) = answer_of plan ≡ named_answer name (outcome_of work)
+-- What is to be done for what work comes to, where the file that is kept has this name: a step between the parts.
+abbrev pub IsPlanned : Option (List ℕ) → Result Work Stop → Result Task NoMemory → Type 0
+IsPlanned name (Ok work) (Ok task) = answer_of task ≡ named_answer name (outcome_of work)
 IsPlanned name (Ok work) (Err none) = ⊥
-IsPlanned name (Err (stop.Refused why text)) (Ok plan) = answer_of plan ≡ named_answer name (refused why text)
+IsPlanned name (Err (stop.Refused why text)) (Ok task) = answer_of task ≡ named_answer name (refused why text)
 IsPlanned name (Err (stop.Refused why text)) (Err none) = ⊥
-IsPlanned name (Err stop.Memory) (Ok plan) = ⊥
+IsPlanned name (Err stop.Memory) (Ok task) = ⊥
 IsPlanned name (Err stop.Memory) (Err none) = Unit {0}

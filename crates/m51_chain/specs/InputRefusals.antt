@@ -1,35 +1,20 @@
--- The refusals of the files of a build: of sources, objects and libraries, of the control file, and of the script.
-use Rattle.std.specs.Prelude.{ℕ, List, [], ◌++◌, codes, decimal}
-use Rattle.m51_control.specs.declared.error.ControlError.{ControlError}
-use Rattle.m51_control.specs.declared.error.ControlError.TheVariants as control
+-- The refusals of the files of a program: of sources, objects and libraries, of the control file, and of the script.
+use Rattle.std.specs.Prelude.{ℕ, List, [], flat_map}
 use Rattle.m51_inputs.specs.declared.error.InputError.{InputError}
 use Rattle.m51_inputs.specs.declared.error.InputError.TheVariants as input
-use Rattle.m51_script.specs.declared.error.ScriptError.{ScriptError}
-use Rattle.m51_script.specs.declared.error.ScriptError.TheVariants as script
-use Rattle.m51_chain.specs.declared.work.Reason.TheVariants as reason
-use Rattle.m51_chain.specs.FaultLines.{faults_text, word_at}
-use Rattle.m51_chain.specs.Outcome.{Outcome, refused}
-use Rattle.m51_chain.specs.Refusals.{library_outcome, object_outcome}
+use Rattle.m51_inputs.specs.declared.error.SourceFaults.{SourceFaults}
+use Rattle.m51_verbs.specs.declared.work.Reason.TheVariants as reason
+use Rattle.m51_verbs.specs.FaultLines.{fault_lines, word_at}
+use Rattle.m51_verbs.specs.Outcome.{Outcome, refused}
+use Rattle.m51_verbs.specs.Refusals.{library_outcome, object_outcome}
+use Rattle.m51_verbs.specs.ScriptRefusals.{control_outcome, script_outcome}
 
--- a line of the script is refused by this rule
-abbrev pub script_refused : List ℕ → ℕ → Outcome
-script_refused rule line =
-    refused reason.Script (codes "SCRIPT LINE " ++ decimal line ++ codes ": " ++ rule ++ codes "\n")
+-- the faults of the sources of these words
+abbrev pub faulty_lines : List (List ℕ) → SourceFaults → List ℕ
+faulty_lines files faulty = fault_lines (word_at files faulty.file) files faulty.faults
 
--- a script is refused; out of memory is never asked for
-abbrev pub script_outcome : ScriptError → Outcome
-script_outcome (script.S1 line) = script_refused (codes "S1") line
-script_outcome (script.S2 line) = script_refused (codes "S2") line
-script_outcome (script.S3 line) = script_refused (codes "S3") line
-script_outcome script.Limit = refused reason.Limit (codes "LIMIT SCRIPTLINES 65536\n")
-script_outcome script.Memory = refused reason.Script []
-
--- a control file is refused; out of memory is never asked for
-abbrev pub control_outcome : ControlError → Outcome
-control_outcome (control.C1 line) =
-    refused reason.Script (codes "CONTROL LINE " ++ decimal line ++ codes ": C1\n")
-control_outcome control.Limit = refused reason.Limit (codes "LIMIT CONTROLLINES 1000\n")
-control_outcome control.Memory = refused reason.Script []
+abbrev pub faults_text : List (List ℕ) → List SourceFaults → List ℕ
+faults_text files all = flat_map (faulty_lines files) all
 
 -- the files of a build are refused; out of memory is never asked for
 abbrev pub input_outcome : List (List ℕ) → InputError → Outcome

@@ -1,11 +1,6 @@
 pub mod Outside
-pub mod Reading
 pub mod Asked
-pub mod Targets
-pub mod Outcome
-pub mod Refusals
-pub mod Optional
-pub mod FaultLines
+pub mod Work
 pub mod InputRefusals
 pub mod ProgramFiles
 pub mod Linking
@@ -14,13 +9,9 @@ pub mod Builds
 pub mod Analyses
 pub mod Assembles
 pub mod Generates
-pub mod Edits
-pub mod Libraries
-pub mod FlatRuns
 pub mod Parties
 pub mod Verbs
 pub mod Expected
 pub mod Due
-pub mod Carried
 pub mod Told
 pub mod Complete

@@ -4,24 +4,13 @@ use Rattle.m51_inputs.specs.Inputs.{InputsTree}
 use Rattle.m51_linker.specs.declared.linked.Linked.{Linked}
 use Rattle.m51_linker.specs.Link.{IsLinked, Program, program_of}
 use Rattle.m51_module.specs.declared.linked.Refusal.{Refusal}
-use Rattle.m51_module.specs.declared.linked.Refusal.TheVariants as refusal
 use Rattle.m51_module.specs.declared.parts.ModuleParts.{ModuleParts}
-use Rattle.m51_print.specs.Refusals.{refusal_text}
 use Rattle.m51_script.specs.declared.script.Script.{Script}
 use Rattle.m51_chain.specs.declared.linking.LinkedFiles.{LinkedFiles}
-use Rattle.m51_chain.specs.declared.work.Reason.{Reason}
-use Rattle.m51_chain.specs.declared.work.Reason.TheVariants as reason
-use Rattle.m51_chain.specs.declared.work.Stop.{Stop}
-use Rattle.m51_chain.specs.Outcome.{Outcome, refused, stopped}
+use Rattle.m51_verbs.specs.declared.work.Stop.{Stop}
+use Rattle.m51_verbs.specs.LinkRefusals.{link_outcome}
+use Rattle.m51_verbs.specs.Outcome.{Outcome, stopped}
 use Rattle.m51_chain.specs.ProgramFiles.{AreAnswered, IsFilesOutcome, Nothing, ProgramFiles}
-
--- a link is refused at a limit, or by a rule
-abbrev pub reason_of : Refusal → Reason
-reason_of (refusal.Limit what) = reason.Limit
-reason_of other = reason.Link
-
-abbrev pub link_outcome : Refusal → Outcome
-link_outcome why = refused (reason_of why) (refusal_text why)
 
 -- A program is not linked, or there is what comes of it as it is linked.
 pub data IsProgramOutcome (program : Result Program Refusal) (Is : Linked → Outcome → Type 0) (outcome : Outcome)

@@ -1,5 +1,5 @@
 -- What party makes of its files: each program is linked alone and is a board, and the boards run on one line.
-use Rattle.std.specs.Prelude.{◌≡◌, ℕ, List, [], ◌∷◌, None, Result, Ok, Err, IfSome, Vec}
+use Rattle.std.specs.Prelude.{◌≡◌, ℕ, ◌≤◌, Bool, true, false, List, [], ◌∷◌, length, All, None, Result, Ok, Err, IfSome, Vec}
 use Rattle.std.specs.declared.alloc.Global.{Global}
 use Rattle.m51_cells.specs.Outcome.{◌>>=◌}
 use Rattle.m51_inputs.specs.Inputs.{InputsTree}
@@ -7,16 +7,24 @@ use Rattle.m51_linker.specs.declared.linked.Linked.{Linked}
 use Rattle.m51_linker.specs.Link.{IsLinked, Program}
 use Rattle.m51_module.specs.declared.linked.Refusal.{Refusal}
 use Rattle.m51_module.specs.declared.parts.ModuleParts.{ModuleParts}
-use Rattle.m51_party.specs.Family.{Family, IsFamily}
+use Rattle.m51_party.specs.declared.party.PartyEnd.{PartyEnd}
+use Rattle.m51_party.specs.declared.party.PartyEnd.TheVariants as party_ends
+use Rattle.m51_party.specs.Family.{Family, IsFamily, IsFresh}
 use Rattle.m51_party.specs.Report.{has_event}
+use Rattle.m51_party.specs.Rounds.{family_of}
 use Rattle.m51_party.specs.Text.{party_text}
 use Rattle.m51_script.specs.declared.script.Script.{Script}
 use Rattle.m51_sim.specs.Boards.{BoardState, IsStarted}
+use Rattle.m51_jobs.specs.declared.endings.TheConstants.{LEAST_BOARDS, MOST_BOARDS}
 use Rattle.m51_jobs.specs.declared.job.PartyJob.{PartyJob}
-use Rattle.m51_chain.specs.declared.work.Stop.{Stop}
-use Rattle.m51_chain.specs.Linking.{alone, link_outcome}
-use Rattle.m51_chain.specs.Outcome.{Outcome, status_if, stopped}
+use Rattle.m51_chain.specs.Linking.{alone}
 use Rattle.m51_chain.specs.ProgramFiles.{IsFilesOutcome, ProgramFiles, named}
+use Rattle.m51_shelf.specs.declared.sink.Failed.{Failed}
+use Rattle.m51_verbs.specs.declared.status.Status.{Status}
+use Rattle.m51_verbs.specs.declared.status.Status.TheVariants as status
+use Rattle.m51_verbs.specs.declared.work.Stop.{Stop}
+use Rattle.m51_verbs.specs.LinkRefusals.{link_outcome}
+use Rattle.m51_verbs.specs.Outcome.{Outcome, stopped}
 
 -- there is no control file
 abbrev pub party_files : PartyJob → ProgramFiles
@@ -47,6 +55,11 @@ AreBoardsOf script (program ∷ programs) (board ∷ boards) =
     IsBoardOf script program board × AreBoardsOf script programs boards
 AreBoardsOf script programs boards = ⊥
 
+-- an event ends the run of some board before its last step
+abbrev pub status_if : Bool → Status
+status_if false = status.Ran
+status_if true = status.Event
+
 -- the text of a family of records, and whether some record has an event
 abbrev pub party_report : List BoardState → ℕ → Family → Outcome
 party_report boards steps family = record {
@@ -54,6 +67,10 @@ party_report boards steps family = record {
   text = party_text boards steps family;
   keeps = None;
 }
+
+-- the report of the one family of records of boards
+abbrev pub party_outcome : List BoardState → ℕ → Outcome
+party_outcome boards steps = party_report boards steps (family_of boards steps)
 
 -- the report of the family that belongs to the boards
 pub record IsPartyReport (boards : List BoardState) (steps : ℕ) (outcome : Outcome) : Type 0 where
@@ -96,3 +113,21 @@ pub record AreBoardsFor (script : Script) (modules : List ModuleParts) (boards :
 abbrev pub AreBoardsOr : Script → List ModuleParts → Result (Vec BoardState Global) Stop → Type 0
 AreBoardsOr script modules (Ok boards) = AreBoardsFor script modules boards.items
 AreBoardsOr script modules (Err stop) = IfSome (stopped stop) (IsUnlinked (programs_of modules))
+
+-- the boards of a party that were not stepped, and what they come to
+pub record AreJoined (job : PartyJob) (contents : List (List ℕ)) (boards : List BoardState) : Type 0 where
+  pub least : LEAST_BOARDS ≤ length boards
+  pub most : length boards ≤ MOST_BOARDS
+  pub fresh : All IsFresh boards
+  pub is : IsPartyOutcome job contents (party_outcome boards job.steps)
+
+-- the same, or a refusal; out of memory is free
+abbrev pub AreJoinedOr : PartyJob → List (List ℕ) → Result (Vec BoardState Global) Stop → Type 0
+AreJoinedOr job contents (Ok boards) = AreJoined job contents boards.items
+AreJoinedOr job contents (Err stop) = IfSome (stopped stop) (IsPartyOutcome job contents)
+
+-- the status of a party that came to its end
+abbrev pub party_status : PartyEnd → Result Status Failed
+party_status party_ends.Finished = Ok status.Ran
+party_status party_ends.Stopped = Ok status.Event
+party_status party_ends.WriteFault = Err (record {})

@@ -1,12 +1,14 @@
 -- The files of a program: file words, a control file and a script. They are refused, or something comes of them.
-use Rattle.std.specs.Prelude.{◌≡◌, ℕ, ◌+◌, List, length, take, drop, Option, option_to_list, Result, Ok, Err, IfSome}
+use Rattle.std.specs.Prelude.{◌≡◌, ℕ, ◌+◌, ◌≤◌, List, length, take, drop, Option, option_to_list, Result, Ok, Err, IfSome}
+use Rattle.std.specs.List.{All}
+use Rattle.m51_cells.specs.declared.limits.TheConstants.{MOST_FILES, MOST_FILE_BYTES}
 use Rattle.m51_inputs.specs.declared.error.InputError.{InputError}
 use Rattle.m51_inputs.specs.declared.inputs.Inputs.{Inputs}
 use Rattle.m51_inputs.specs.Inputs.{Answers, InputsTree, inputs_tree}
-use Rattle.m51_chain.specs.declared.work.Stop.{Stop}
+use Rattle.m51_verbs.specs.declared.work.Stop.{Stop}
 use Rattle.m51_chain.specs.InputRefusals.{input_outcome}
-use Rattle.m51_chain.specs.Optional.{content_if}
-use Rattle.m51_chain.specs.Outcome.{Outcome, stopped}
+use Rattle.m51_verbs.specs.Optional.{content_if}
+use Rattle.m51_verbs.specs.Outcome.{Outcome, stopped}
 
 -- File words, and the files that options name. They are read in this order.
 pub record ProgramFiles : Type 0 where
@@ -53,10 +55,12 @@ pub record IsFilesOutcome
 
 -- Conditions of functions, and what functions on the way answer.
 
--- there are as many contents as files
+-- there are few file words, and as many contents as files, each within the limit
 pub record HasParts (files : ProgramFiles) (contents : List (List ℕ)) : Type 0 where
+  pub few : length files.words ≤ MOST_FILES
   pub count : length contents
       ≡ length files.words + length (option_to_list files.control) + length (option_to_list files.script)
+  pub within : All (λ bytes. length bytes ≤ MOST_FILE_BYTES) contents
 
 -- nothing comes of it: what is left are refusals
 abbrev pub Nothing : {A : Type 0} → A → Outcome → Type 0

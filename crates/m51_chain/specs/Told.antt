@@ -5,15 +5,15 @@ use Rattle.m51_cells.specs.declared.limits.TheConstants.{MOST_FILES, MOST_FILE_B
 use Rattle.m51_cells.specs.Outside.{Rose, AppendsFront}
 use Rattle.m51_jobs.specs.declared.job.Job.{Job}
 use Rattle.m51_jobs.specs.Files.{file_count, name_kept}
-use Rattle.m51_chain.specs.declared.status.Status.{Status}
-use Rattle.m51_chain.specs.declared.status.Status.TheVariants as status
+use Rattle.m51_verbs.specs.declared.status.Status.{Status}
+use Rattle.m51_verbs.specs.declared.status.Status.TheVariants as status
 use Rattle.m51_words.specs.Jobs.{job_of}
-use Rattle.m51_shelf.specs.Shelf.{File, Files, HoldsOthers}
+use Rattle.m51_shelf.specs.Shelf.{Files, HoldsOthers}
 use Rattle.m51_shelf.specs.States.{HasFailed}
 use Rattle.m51_chain.specs.Outside.{Change}
-use Rattle.m51_chain.specs.Outcome.{Answer, usage_answer, many_answer, long_answer, unread_answer}
-use Rattle.m51_chain.specs.Targets.{unkept_text}
-use Rattle.m51_chain.specs.Carried.{IsWhole, IsCut, IsUnkept, IsUntouched, IsEnded}
+use Rattle.m51_verbs.specs.Outcome.{Answer, usage_answer, many_answer, long_answer, unread_answer}
+use Rattle.m51_verbs.specs.Targets.{unkept_text}
+use Rattle.m51_verbs.specs.Carried.{IsWhole, IsCut, IsUnkept, IsUntouched, IsEnded}
 use Rattle.m51_chain.specs.Expected.{IsAnswer}
 use Rattle.m51_chain.specs.Due.{IsWorkFor, IsAtFor, IsDue}
 
@@ -121,11 +121,6 @@ pub record IsKeptName (words : List (List ℕ)) (name : List ℕ) : Type 0 where
   pub job : Job
   pub asked : job_of words ≡ Some job
   pub named : name_kept job ≡ Some name
-
--- told files stay, but for the one that is kept, if one is
-abbrev pub HoldsBut : Option File → Option Files → Option Files → Type 0
-HoldsBut None old new = new ≡ old
-HoldsBut (Some file) old new = HoldsOthers old new file.0
 
 -- told files stay, or all but the one that the words keep
 abbrev pub HoldsButKept : List (List ℕ) → Option Files → Option Files → Type 0

@@ -1,41 +1,22 @@
 //! The verb `asm`.
-ghost use Rattle.std.specs.Prelude.{◌≡◌, ◌≤◌, ℕ, List, IfOk, Some, count_by, length};
+ghost use Rattle.std.specs.Prelude.{◌≡◌, ℕ, List, IfOk, count_by};
 ghost use Rattle.m51_asm.specs.Answer.{Gives, IsAnswer, tree_of};
-ghost use Rattle.m51_cells.specs.declared.limits.TheConstants.{MOST_FILES};
+ghost use Rattle.m51_jobs.specs.declared.job.Job.TheVariants.{Asm};
 ghost use Rattle.m51_jobs.specs.Endings.{is_source};
 ghost use Rattle.m51_chain.specs.Assembles.{IsAsmOutcome, assembled_outcome};
 ghost use Rattle.m51_print.specs.Listing.{AreOf};
-ghost use Rattle.m51_chain.specs.Outcome.{Comes, outcome_of, refused, stopped};
-ghost use Rattle.m51_chain.specs.FaultLines.{fault_lines};
+ghost use Rattle.m51_verbs.specs.Contents.{AreContentsOf};
+ghost use Rattle.m51_verbs.specs.Outcome.{Comes, outcome_of};
 
-use crate::faulting::push_faults;
-use crate::work::{Ending, Finished, Reason, Stop};
 use m51_asm::Assembled;
 use m51_cells::{Bytes, NoMemory};
 use m51_inputs::{AssembledSource, assemble_source};
-use m51_module::{Fault, Module, Rows, SourceFile};
+use m51_module::{Module, Rows, SourceFile};
 use m51_print::listing;
 use m51_records::write_module;
+use m51_verbs::{Ending, Finished, Stop, refuse_source};
 use m51_words::{AsmJob, FileName};
 use std::alloc::Global;
-
-// A source has faults.
-pub(crate) fn refuse_source(
-    alloc: Global,
-    files: &[FileName],
-    source: &SourceFile,
-    faults: &[Fault],
-) -> Result<Stop, NoMemory>
-    ensures { IfOk result (λ stop. stopped stop
-        ≡ Some (refused Reason.Source (fault_lines source.now.name files.now faults.now))) }
-{
-    let mut text = Vec::new(alloc);
-    push_faults(alloc, &mut text, source.name.as_slice(), files, faults)?;
-    Ok(Stop::Refused {
-        why: Reason::Source,
-        text: Bytes::of(text),
-    })
-}
 
 // The object of a module, which is kept, and the listing of its source.
 fn list(
@@ -74,8 +55,7 @@ fn assembled(alloc: Global, files: &[FileName], all: &AssembledSource) -> Result
 // Assembles a source, keeps its object and lists it.
 pub(crate) fn assemble(alloc: Global, job: &AsmJob, contents: &[Bytes]) -> Result<Finished, Stop>
     requires one { count_by is_source job.now.files ≡ 1 }
-    requires few { length job.now.files ≤ MOST_FILES }
-    requires count { length contents.now ≡ length job.now.files }
+    requires contents { AreContentsOf (Asm job.now) contents.now }
     ensures { Comes (IsAsmOutcome job.now contents.now) result }
 {
     let files = job.files.as_slice();

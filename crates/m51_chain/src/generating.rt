@@ -1,83 +1,24 @@
 //! The verb `gen`.
-ghost use Rattle.std.specs.Prelude.{◌≡◌, ◌≤◌, [], IfOk, length};
-ghost use Rattle.m51_linker.specs.Link.{IsReady};
+ghost use Rattle.std.specs.Prelude.{◌≤◌};
 ghost use Rattle.m51_jobs.specs.declared.numbers.TheConstants.{MOST_GENERATED_UNITS};
-ghost use Rattle.m51_chain.specs.Generates.{IsCounted, IsGenOutcome, overlaid_size, overlaid_sizes, summary_outcome};
+ghost use Rattle.m51_chain.specs.Generates.{IsCounted, IsGenOutcome};
 ghost use Rattle.m51_chain.specs.Linking.{IsProgramOutcome, alone};
-ghost use Rattle.m51_chain.specs.Outcome.{Comes, outcome_of, status_at, status_by, text_at};
+ghost use Rattle.m51_verbs.specs.Outcome.{Comes};
 
-use crate::assembling::refuse_source;
-use crate::linking::{board_of, link_alone};
-use crate::work::{Ending, Finished, Stop};
+use crate::linking::link_alone;
 use m51_asm::{Assembled, assemble};
-use m51_cells::{Bytes, NoMemory};
 use m51_generator::generate;
-use m51_linker::Linked;
-use m51_module::{Mark, Module, Placed, Tally};
-use m51_print::{overlaid_below, summary_text};
-use m51_script::Script;
+use m51_module::Module;
+use m51_verbs::{Finished, Stop, refuse_source, summary};
 use m51_words::{GenJob, Steps};
 use std::alloc::Global;
-
-// The size of an overlaid segment, and 0 of another.
-fn overlaid_size(mark: Mark, size: u16) -> u16
-    ensures value { result ≡ overlaid_size mark size }
-{
-    match mark {
-        Mark::Overlaid => size,
-        _ => 0,
-    }
-}
-
-// The sizes of all overlaid segments, added up.
-fn overlaid_sizes(placed: &[Placed]) -> u32
-    requires { length placed.now ≤ 65535 }
-    ensures { result ≡ overlaid_sizes placed.now }
-{
-    let mut sizes = 0;
-    for extent in placed {
-        sizes += u32::from(overlaid_size(extent.mark, extent.size));
-    }
-    sizes
-}
-
-// How a run that was counted ends.
-#[tactic(auto, unfolding(crate::specs::Outcome::status_at, crate::specs::Outcome::text_at))]
-fn ending_of(tally: &Tally) -> Ending
-    ensures status { status_at result ≡ status_by tally.now.event }
-    ensures text { text_at result ≡ [] }
-{
-    match tally.event {
-        Some(_) => Ending::Event,
-        None => Ending::Ran,
-    }
-}
-
-// The summary of the run of a linked program, which is made after it. The board and its text are the last that take
-// memory.
-fn summary(alloc: Global, steps: Steps, linked: Linked) -> Result<Finished, NoMemory>
-    requires { IsReady linked }
-    ensures { IfOk result (λ work. outcome_of work ≡ summary_outcome linked steps) }
-{
-    let units = linked.layout.units().len() as u16;
-    let overlaid = overlaid_below(linked.layout.placed(), 256);
-    let sizes = overlaid_sizes(linked.layout.placed());
-    let mut board = board_of(alloc, linked, Script::plain(alloc)?)?;
-    let tally = board.tally(steps.number());
-    let text = summary_text(alloc, units, overlaid, sizes, &tally, board.layout())?;
-    Ok(Finished {
-        keeps: None,
-        text: Bytes::of(text),
-        ending: ending_of(&tally),
-    })
-}
 
 // Links a module, runs it, and counts.
 fn count_program(alloc: Global, steps: Steps, parts: Module) -> Result<Finished, Stop>
     ensures { Comes (IsProgramOutcome (alone parts) (IsCounted steps)) result }
 {
     let linked = link_alone(alloc, parts)?;
-    Ok(summary(alloc, steps, linked)?)
+    Ok(summary(alloc, steps, linked.layout, linked.image)?)
 }
 
 // Makes a source, assembles, links and runs it, and counts.

@@ -2,28 +2,25 @@
 ghost use Rattle.std.specs.Prelude.{◌≡◌, ◌≤◌, All, IfOk, Ok, length, true};
 ghost use Rattle.std.specs.Option.{option_copied};
 ghost use Rattle.std.specs.Result.{IsOk};
-ghost use Rattle.m51_cells.specs.declared.limits.TheConstants.{MOST_FILES, MOST_FILE_BYTES};
 ghost use Rattle.m51_party.specs.Family.{IsFresh};
-ghost use Rattle.m51_party.specs.Rounds.{family_of};
 ghost use Rattle.m51_script.specs.declared.script.Script.{Script as ScriptState};
 ghost use Rattle.m51_jobs.specs.declared.endings.TheConstants.{LEAST_BOARDS, MOST_BOARDS};
 ghost use Rattle.m51_jobs.specs.declared.job.Job.TheVariants.{Party};
 ghost use Rattle.m51_jobs.specs.Endings.{are_boards};
-ghost use Rattle.m51_jobs.specs.Files.{names_read};
-ghost use Rattle.m51_chain.specs.FlatRuns.{script_in};
-ghost use Rattle.m51_chain.specs.Outcome.{Comes, outcome_of};
-ghost use Rattle.m51_chain.specs.Parties.{AreBoardsOr, IsBoardOr, IsPartyOutcome, party_report};
+ghost use Rattle.m51_chain.specs.Parties.{AreBoardsOr, AreJoinedOr, IsBoardOr, IsPartyOutcome, party_outcome};
+ghost use Rattle.m51_chain.specs.Work.{Comes, outcome_of};
+ghost use Rattle.m51_verbs.specs.Contents.{AreContentsOf};
+ghost use Rattle.m51_verbs.specs.FlatRuns.{script_in};
 
-use crate::flat::script_in;
 use crate::linking::{board_of, inputs_in, link_alone};
-use crate::optional::content_if;
 use crate::unrun::UnrunParty;
-use crate::work::{Ending, Finished, Stop};
+use crate::work::Work;
 use m51_cells::{Bytes, ListOf, NoMemory};
 use m51_inputs::Inputs;
 use m51_module::Module;
 use m51_script::{Script, ScriptError};
 use m51_sim::Board;
+use m51_verbs::{Stop, content_if, script_in};
 use m51_words::{PartyJob, Steps};
 use std::alloc::Global;
 use std::collections::VecDeque;
@@ -73,38 +70,36 @@ fn boards_alone(
 }
 
 // The run of boards on one line.
-fn together(alloc: Global, boards: Vec<Board>, steps: Steps) -> Result<Finished, NoMemory>
+fn together(alloc: Global, boards: Vec<Board>, steps: Steps) -> Result<Work, NoMemory>
     requires least { LEAST_BOARDS ≤ length boards.items }
     requires most { length boards.items ≤ MOST_BOARDS }
     requires fresh { All IsFresh boards.items }
-    ensures { IfOk result (λ work. outcome_of work
-        ≡ party_report boards.items steps (family_of boards.items steps)) }
+    ensures { IfOk result (λ work. outcome_of work ≡ party_outcome boards.items steps) }
 {
-    Ok(Finished {
-        keeps: None,
-        text: Bytes::new(alloc),
-        ending: Ending::Party {
-            party: UnrunParty::make(alloc, boards)?,
-            steps,
-        },
+    Ok(Work::Party {
+        party: UnrunParty::make(alloc, boards)?,
+        steps,
     })
 }
 
-// Builds each program alone, and joins their boards on one line. The party is the last that takes memory.
-pub(crate) fn join_files(
-    alloc: Global,
-    job: &PartyJob,
-    contents: &[Bytes],
-) -> Result<Finished, Stop>
+// The boards of a party: each program is built alone.
+fn party_boards(alloc: Global, job: &PartyJob, contents: &[Bytes]) -> Result<Vec<Board>, Stop>
     requires fit { are_boards job.now.files ≡ true }
-    requires few { length job.now.files ≤ MOST_FILES }
-    requires count { length contents.now ≡ length (names_read (Party job.now)) }
-    requires within { All (λ bytes. length bytes ≤ MOST_FILE_BYTES) contents.now }
-    ensures { Comes (IsPartyOutcome job.now contents.now) result }
+    requires contents { AreContentsOf (Party job.now) contents.now }
+    ensures { AreJoinedOr job.now contents.now result }
 {
     let files = job.files.as_slice();
     let Inputs { modules, .. } = inputs_in(alloc, files, &None, &job.script, contents)?;
     let script = content_if(&job.script, &contents[files.len()..]);
-    let boards = boards_alone(alloc, modules, script)?;
+    boards_alone(alloc, modules, script)
+}
+
+// Builds each program alone, and joins their boards on one line. The party is the last that takes memory.
+pub(crate) fn join_files(alloc: Global, job: &PartyJob, contents: &[Bytes]) -> Result<Work, Stop>
+    requires fit { are_boards job.now.files ≡ true }
+    requires contents { AreContentsOf (Party job.now) contents.now }
+    ensures { Comes (IsPartyOutcome job.now contents.now) result }
+{
+    let boards = party_boards(alloc, job, contents)?;
     Ok(together(alloc, boards, job.steps)?)
 }

@@ -4,23 +4,13 @@
 mod analysing;
 mod assembling;
 mod building;
-mod carrying;
-mod editing;
-mod faulting;
-mod flat;
 mod generating;
 mod input_refusing;
 mod joining;
-mod library;
 mod linking;
-mod object_refusing;
-mod optional;
 mod planning;
-mod reading;
-mod refusing;
 mod reporting;
-mod status;
-mod target;
+mod running;
 mod top;
 mod unrun;
 mod work;
@@ -29,5 +19,5 @@ pub use m51_generator::generate;
 pub use m51_shelf::{
     Call, DirShelf, Failed, MemShelf, MemSink, Shelf, Sink, StdSink, SureShelf, SureSink,
 };
-pub use status::Status;
+pub use m51_verbs::Status;
 pub use top::chain;

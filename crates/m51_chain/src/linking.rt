@@ -1,24 +1,19 @@
 //! From the files of a program to the program as it is linked.
-ghost use Rattle.std.specs.Prelude.{◌≡◌, ◌≢◌, ◌≤◌, IfOk, Some, length, option_to_list};
-ghost use Rattle.std.specs.List.{All};
-ghost use Rattle.m51_cells.specs.declared.limits.TheConstants.{MOST_FILES, MOST_FILE_BYTES};
+ghost use Rattle.std.specs.Prelude.{◌≡◌, ◌≤◌, IfOk, length, option_to_list};
 ghost use Rattle.m51_linker.specs.Link.{IsReady, program_of};
 ghost use Rattle.m51_sim.specs.Boards.{IsStarted};
-ghost use Rattle.m51_chain.specs.Linking.{AreLinkedOr, IsLinkedOr, alone, link_outcome, reason_of};
-ghost use Rattle.m51_chain.specs.Outcome.{stopped};
+ghost use Rattle.m51_chain.specs.Linking.{AreLinkedOr, IsLinkedOr, alone};
 ghost use Rattle.m51_chain.specs.ProgramFiles.{AreAnsweredOr, HasParts, named};
 
 use crate::input_refusing::refuse_inputs;
-use crate::optional::content_if;
-use crate::work::{Reason, Stop};
 use m51_cells::{Bytes, ListOf, NoMemory};
 use m51_control::Controls;
 use m51_inputs::{InputError, Inputs, read_inputs};
 use m51_linker::{Linked, link};
-use m51_module::{Library, Module, Refusal};
-use m51_print::refusal_text;
+use m51_module::{Library, Module};
 use m51_script::Script;
 use m51_sim::Board;
+use m51_verbs::{Stop, content_if, refuse_link};
 use m51_words::FileName;
 use std::alloc::Global;
 
@@ -48,9 +43,7 @@ pub(crate) fn inputs_in(
     script: &Option<FileName>,
     contents: &[Bytes],
 ) -> Result<Inputs, Stop>
-    requires few { length files.now ≤ MOST_FILES }
-    requires count { HasParts (named files.now control.now script.now) contents.now }
-    requires within { All (λ bytes. length bytes ≤ MOST_FILE_BYTES) contents.now }
+    requires { HasParts (named files.now control.now script.now) contents.now }
     ensures { AreAnsweredOr (named files.now control.now script.now) contents.now result }
 {
     let words = &contents[..files.len()];
@@ -61,29 +54,6 @@ pub(crate) fn inputs_in(
         Err(InputError::Memory) => Err(Stop::Memory),
         Err(error) => Err(refuse_inputs(alloc, files, &error)?),
     }
-}
-
-// The reason of a refusal of the link.
-fn reason_of(refusal: &Refusal) -> Reason
-    ensures { result ≡ reason_of refusal.now }
-{
-    match refusal {
-        Refusal::Limit { .. } => Reason::Limit,
-        _ => Reason::Link,
-    }
-}
-
-// A link is refused. Its clause `refusal` hands the condition on to the proof of the caller.
-pub(crate) fn refuse_link(alloc: Global, refusal: &Refusal) -> Result<Stop, NoMemory>
-    requires { refusal.now ≢ Refusal.Memory }
-    ensures refusal { refusal.now ≢ Refusal.Memory }
-    ensures stop { IfOk result (λ stop. stopped stop ≡ Some (link_outcome refusal.now)) }
-{
-    let text = refusal_text(alloc, refusal)?;
-    Ok(Stop::Refused {
-        why: reason_of(refusal),
-        text: Bytes::of(text),
-    })
 }
 
 // Links modules and libraries by control lines.
@@ -98,7 +68,6 @@ pub(crate) fn link_modules(
 {
     match link(alloc, modules, libraries, controls) {
         Ok(linked) => Ok(linked),
-        Err(Refusal::Memory) => Err(Stop::Memory),
         Err(refusal) => Err(refuse_link(alloc, &refusal)?),
     }
 }
@@ -122,9 +91,7 @@ pub(crate) fn link_files(
     script: &Option<FileName>,
     contents: &[Bytes],
 ) -> Result<LinkedFiles, Stop>
-    requires few { length files.now ≤ MOST_FILES }
-    requires count { HasParts (named files.now control.now script.now) contents.now }
-    requires within { All (λ bytes. length bytes ≤ MOST_FILE_BYTES) contents.now }
+    requires { HasParts (named files.now control.now script.now) contents.now }
     ensures answer { AreLinkedOr (named files.now control.now script.now) contents.now result }
     ensures ready { IfOk result (λ found. IsReady found.linked) }
 {

@@ -1,121 +1,22 @@
-//! What the work of a verb comes to, and what is to be kept and written.
-ghost use Rattle.std.specs.Prelude.{◌≡◌};
-ghost use Rattle.m51_chain.specs.Outcome.{outcome_of, status_of, written};
-
-use crate::status::Status;
-use crate::target::Target;
+//! What the work of a verb comes to, and what is to be done for it.
 use crate::unrun::UnrunParty;
-use m51_cells::{Bytes, NoMemory};
-use m51_sim::{Board, FlatBoard};
+use m51_verbs::{Finished, Plan};
 use m51_words::Steps;
-
-// Why the work of a verb is refused.
-#[derive(Clone, Copy, Debug, PartialEq, Eq)]
-pub(crate) enum Reason {
-    // A source has faults.
-    Source,
-    // The link is refused.
-    Link,
-    // An object, a library or a HEX file is refused.
-    Object,
-    // A control file or a script is refused.
-    Script,
-    // A quantity passed its limit.
-    Limit,
-    // The stack of a program has no bound.
-    Stack,
-}
-
-// The status of a reason.
-pub(crate) fn status_of(why: Reason) -> Status
-    ensures { result ≡ status_of why }
-{
-    match why {
-        Reason::Source => Status::Source,
-        Reason::Link => Status::Link,
-        Reason::Object => Status::Object,
-        Reason::Script => Status::Script,
-        Reason::Limit => Status::Limit,
-        Reason::Stack => Status::Stack,
-    }
-}
-
-// How accepted work ends.
-#[derive(Drop)]
-pub(crate) enum Ending {
-    // Without an event.
-    Ran,
-    // By an event of a run whose record is not written.
-    Event,
-    // With a run, whose record is written.
-    Run { board: Board, steps: Steps },
-    // With a run on one memory, whose record is written.
-    FlatRun { board: FlatBoard, steps: Steps },
-    // With the run of boards on one line, whose text is written.
-    Party { party: UnrunParty, steps: Steps },
-}
 
 // What the work of a verb comes to, where it is accepted.
 #[derive(Drop)]
-pub(crate) struct Finished {
-    // The bytes of the file that is kept.
-    pub keeps: Option<Bytes>,
-    // The text that is written first.
-    pub text: Bytes,
-    pub ending: Ending,
+pub(crate) enum Work {
+    // That of one board at most.
+    Alone(Finished),
+    // The run of boards on one line, whose text is written.
+    Party { party: UnrunParty, steps: Steps },
 }
 
-// This text is written, and nothing is kept.
-#[tactic(auto, using(crate::proofs::Ends::ran_alone))]
-pub(crate) fn text_alone(text: Vec<u8>) -> Finished
-    ensures { outcome_of result ≡ written text.items }
-{
-    Finished {
-        keeps: None,
-        text: Bytes::of(text),
-        ending: Ending::Ran,
-    }
-}
-
-// Why the work of a verb stops.
+// What is to be kept, written and run.
 #[derive(Drop)]
-pub(crate) enum Stop {
-    // It is refused, with a text.
-    Refused { why: Reason, text: Bytes },
-    // Out of memory.
-    Memory,
-}
-
-impl From<NoMemory> for Stop {
-    ghost use Rattle.std.specs.Prelude.{◌≡◌};
-    ghost use Rattle.m51_chain.specs.declared.work.Stop.TheVariants.{Memory};
-
-    ghost from_gives = { λ _ stop. stop ≡ Memory };
-
-    fn from(_error: NoMemory) -> Stop {
-        Stop::Memory
-    }
-}
-
-// What is to be kept and written.
-#[derive(Drop)]
-pub(crate) enum Plan {
-    // A refusal: a status, and its text.
-    Refused {
-        status: Status,
-        text: Bytes,
-    },
-    // The file that is kept, the text that is written first, and how it ends.
-    Accepted {
-        keeps: Option<Kept>,
-        text: Bytes,
-        ending: Ending,
-    },
-}
-
-// A file that is to be kept.
-#[derive(Drop)]
-pub(crate) struct Kept {
-    pub target: Target,
-    pub bytes: Bytes,
+pub(crate) enum Task {
+    // A plan, which runs one board at most.
+    Alone(Plan),
+    // The run of boards on one line, whose text is written.
+    Party { party: UnrunParty, steps: Steps },
 }

@@ -1,24 +1,16 @@
 -- Objects and libraries of a program.
-use Rattle.std.specs.Prelude.{ℕ, ◌+◌, List, [], ◌∷◌, length, Option, Some, Result, Ok, Err}
+use Rattle.std.specs.Prelude.{ℕ, ◌+◌, List, [], ◌∷◌, Option, Some, Result, Ok, Err}
 use Rattle.m51_cells.specs.Outcome.{and_then}
 use Rattle.m51_module.specs.declared.library_error.LibError.{LibError}
 use Rattle.m51_module.specs.declared.object_error.ObjError.{ObjError}
 use Rattle.m51_module.specs.declared.parts.ModuleParts.{ModuleParts}
-use Rattle.m51_records.specs.Reading.{module_at}
-use Rattle.m51_library.specs.Reading.{at_end, library_of}
+use Rattle.m51_library.specs.Reading.{library_of, module_in}
 use Rattle.m51_jobs.specs.declared.endings.Ending.{Ending}
 use Rattle.m51_jobs.specs.declared.endings.Ending.TheVariants as ending
 use Rattle.m51_jobs.specs.Endings.{ending_of}
 use Rattle.m51_inputs.specs.declared.error.InputError.{InputError}
 use Rattle.m51_inputs.specs.declared.error.InputError.TheVariants.{Object, Library}
 use Rattle.m51_inputs.specs.declared.objects.LinkedFiles.{LinkedFiles}
-
-abbrev pub nothing_after : ℕ → ModuleParts × List ℕ → Result ModuleParts ObjError
-nothing_after total found = at_end total found.1 found.0
-
--- the module of an object, with nothing after it: else O3 at the first byte that follows
-unfoldable pub module_in : List ℕ → Result ModuleParts ObjError
-module_in file = and_then (module_at (length file) 0 file) (nothing_after (length file))
 
 -- the module of the object of the word with this index
 abbrev pub or_object : ℕ → Result ModuleParts ObjError → Result ModuleParts InputError

@@ -12,6 +12,5 @@ mod sources;
 pub use error::{FaultySources, InputError, SourceFaults};
 pub use inputs::Inputs;
 pub use laws::each_program_has_one_answer;
-pub use objects::read_object;
 pub use reading::read_inputs;
 pub use sources::{AssembledSource, assemble_source};

@@ -1,53 +1,22 @@
 //! Objects and libraries of a program.
-ghost use Rattle.std.specs.Prelude.{◌≡◌, ◌<◌, ◌≤◌, ◌^◌, List, Result, length, All};
+ghost use Rattle.std.specs.Prelude.{◌≡◌, ◌≤◌, List, Result, length, All};
 ghost use Rattle.m51_cells.specs.declared.limits.TheConstants.{MOST_FILE_BYTES};
 ghost use Rattle.m51_cells.specs.Outcome.{Gives};
-ghost use Rattle.m51_library.specs.Reading.{at_end, library_of};
-ghost use Rattle.m51_frame.specs.Fields.{Reads};
+ghost use Rattle.m51_library.specs.Reading.{library_of, module_in};
 ghost use Rattle.m51_inputs.specs.Inputs.{refusal_of};
 ghost use Rattle.m51_inputs.specs.declared.error.InputError.{InputError as Error};
-ghost use Rattle.m51_inputs.specs.Objects.{Linked, module_in, or_object, or_library, linked_by, linked};
+ghost use Rattle.m51_inputs.specs.Objects.{Linked, or_object, or_library, linked_by, linked};
 ghost use Rattle.m51_inputs.specs.Objects.{with_source, with_object, with_archive};
 ghost use Rattle.m51_inputs.specs.Steps.{Steps, linked_kinds};
 ghost use Rattle.m51_module.specs.declared.parts.ModuleParts.{ModuleParts};
 
 use crate::error::InputError;
 use m51_cells::{Bytes, ListOf};
-use m51_frame::place;
 use m51_jobs::Ending;
-use m51_library::read_library;
+use m51_library::{read_library, read_object};
 use m51_module::{LibError, Library, Module, ObjError};
-use m51_records::module_at;
 use std::alloc::Global;
 use std::collections::VecDeque;
-
-// The module, where nothing follows it; else O3 at the first byte that does.
-fn at_end(total: u32, rest: &[u8], module: Module) -> Result<Module, ObjError>
-    ensures { Reads (λ m. m) result (at_end total rest.now «module») }
-{
-    match rest {
-        [] => Ok(module),
-        _ => Err(ObjError::O3 {
-            at: place(total, rest),
-        }),
-    }
-}
-
-/// The module of an object file, of less than 4,294,967,296 bytes.
-///
-/// Errors: the first refusal, record by record and in a record field by field, as `module_at` of m51_records gives it;
-/// then O3 at the first byte that follows the module. `Memory` is the only other error.
-///
-/// Source: own choice ("Object records").
-#[tactic(auto, unfolding(crate::specs::Objects::module_in))]
-pub fn read_object(alloc: Global, bytes: &[u8]) -> Result<Module, ObjError>
-    requires { length bytes.now < 2 ^ 32 }
-    ensures { Reads (λ m. m) result (module_in bytes.now) }
-{
-    let total = bytes.len() as u32;
-    let (module, rest, _) = module_at(alloc, total, 0, bytes)?;
-    at_end(total, rest, module)
-}
 
 // The module of the object of this word.
 fn object_at(alloc: Global, file: usize, bytes: &Bytes) -> Result<Module, InputError>

@@ -1,4 +1,4 @@
--- Reading a library, with the first refusal.
+-- Reading an object and a library, with the first refusal.
 use Rattle.std.specs.Prelude.{ℕ, zero, suc, ◌+◌, nat_le, List, [], ◌∷◌, length, Result, Ok, Err}
 use Rattle.m51_module.specs.declared.library_error.LibError.{LibError}
 use Rattle.m51_module.specs.declared.library_error.LibError.TheVariants.{Object, Memory}
@@ -33,6 +33,13 @@ modules_at (suc more) total number bytes = do
 abbrev pub at_end : {A : Type 0} → ℕ → List ℕ → A → Result A ObjError
 at_end total [] value = Ok value
 at_end total (byte ∷ rest) value = Err (O3 (place total (byte ∷ rest)))
+
+abbrev pub nothing_after : ℕ → ModuleParts × List ℕ → Result ModuleParts ObjError
+nothing_after total found = at_end total found.1 found.0
+
+-- the module of an object, with nothing after it: else O3 at the first byte that follows
+unfoldable pub module_in : List ℕ → Result ModuleParts ObjError
+module_in file = and_then (module_at (length file) 0 file) (nothing_after (length file))
 
 -- the modules of a file: their number, and then they and nothing else
 unfoldable pub modules_of : List ℕ → Result (List ModuleParts) ObjError

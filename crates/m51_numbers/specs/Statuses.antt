@@ -1,9 +1,9 @@
 -- The exit status of the command for each way in which it ends. docs/COMMAND.md has the same table; 12, for an argument
 -- that is no text, is a number of the program itself, which ends so before the top call.
 use Rattle.std.specs.Prelude.{ℕ}
-use Rattle.m51_chain.specs.declared.status.Status.{Status}
-use Rattle.m51_chain.specs.declared.status.Status.TheVariants.{Ran, Event, Usage, Source, Link, Object, Script, Limit}
-use Rattle.m51_chain.specs.declared.status.Status.TheVariants.{ReadFault, WriteFault, Memory, Stack}
+use Rattle.m51_verbs.specs.declared.status.Status.{Status}
+use Rattle.m51_verbs.specs.declared.status.Status.TheVariants.{Ran, Event, Usage, Source, Link, Object, Script, Limit}
+use Rattle.m51_verbs.specs.declared.status.Status.TheVariants.{ReadFault, WriteFault, Memory, Stack}
 
 abbrev pub number_of : Status → ℕ
 number_of Ran = 0

@@ -1,17 +1,14 @@
-use Rattle.m51_chain.specs.Analyses.{IsBounded, link_files}
-use Rattle.m51_chain.specs.Linking.{IsLinkedOutcome}
-use Rattle.m51_chain.proofs.Built.{comes_weaker}
-use Rattle.m51_chain.proofs.Following.{came, files_refused, follows}
+use Rattle.m51_chain.specs.Analyses.{link_files}
+use Rattle.m51_verbs.specs.Analyses.{IsBounded}
+use Rattle.m51_chain.proofs.Following.{came, files_refused, linked_comes}
 use Rattle.m51_chain.proofs.analysing.bound_files.Goals as goal
 
 pub returns : goal.returns
 returns c =
-    let files = link_files c.args.job.now in
-    comes_weaker (IsLinkedOutcome files c.args.contents.now (λ script. IsBounded)) (IsBounded c.in_ok-found.found.linked) c.bound_of.result
-    (λ o it. follows files c.args.contents.now (λ script. IsBounded) c.in_ok-found.found o (rw c.as_slice.ensures at c.in_ok-found.ensures.answer) it)
-    c.bound_of.ensures
+    linked_comes (link_files c.args.job.now) c.args.contents.now (λ script linked. IsBounded linked.layout linked.image) c.in_ok-found.found _
+    (rw c.as_slice.ensures at c.in_ok-found.ensures.answer) c.stack_bound.ensures
 
 pub returns-in_err-found : goal.returns-in_err-found
 returns-in_err-found c =
     rw (came c.from_residual.result _ c.from_residual.ensures.1)
-    (files_refused (link_files c.args.job.now) c.args.contents.now (λ script. IsBounded) _ (rw c.as_slice.ensures at c.in_err-found.ensures.answer))
+    (files_refused (link_files c.args.job.now) c.args.contents.now (λ script linked. IsBounded linked.layout linked.image) _ (rw c.as_slice.ensures at c.in_err-found.ensures.answer))

@@ -1,5 +1,5 @@
 use Rattle.std.proofs.Common.{◌∙◌}
-use Rattle.m51_chain.proofs.Ends.{listed}
+use Rattle.m51_chain.proofs.Built.{listed}
 use Rattle.m51_chain.proofs.assembling.list.Goals as goal
 
 pub returns : goal.returns

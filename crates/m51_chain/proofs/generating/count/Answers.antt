@@ -3,7 +3,7 @@ use Rattle.m51_asm.specs.Answer.{Gives, IsAnswer}
 use Rattle.m51_generator.specs.Lines.{generated}
 use Rattle.m51_chain.specs.Generates.{IsCounted, IsGenOutcome}
 use Rattle.m51_chain.specs.Linking.{IsProgramOutcome, alone}
-use Rattle.m51_chain.proofs.Built.{comes_weaker}
+use Rattle.m51_verbs.proofs.Ends.{comes_weaker}
 use Rattle.m51_chain.proofs.generating.count.Goals as goal
 
 pub returns : goal.returns

@@ -1,7 +1,8 @@
 use Rattle.std.proofs.Common.{Ok, Err}
+use Rattle.std.proofs.lemmas.Option.{IfSome_then}
 use Rattle.m51_chain.specs.Generates.{IsCounted}
 use Rattle.m51_chain.specs.Linking.{Follows, IsLinkedOr, alone}
-use Rattle.m51_chain.proofs.Following.{came, program_refused}
+use Rattle.m51_chain.proofs.Following.{came, unlinked}
 use Rattle.m51_chain.proofs.generating.count_program.Goals as goal
 
 pub returns : goal.returns
@@ -12,4 +13,4 @@ returns c =
 pub returns-in_err-linked : goal.returns-in_err-linked
 returns-in_err-linked c =
     let is : IsLinkedOr (alone c.args.parts) (Err c.in_err-linked.field-0.0) = c.in_err-linked.ensures.answer in
-    rw (came c.from_residual.result _ c.from_residual.ensures.1) (program_refused _ (IsCounted c.args.steps) _ is)
+    rw (came c.from_residual.result _ c.from_residual.ensures.1) (IfSome_then _ is (unlinked _ (IsCounted c.args.steps)))

@@ -2,7 +2,6 @@ use Rattle.std.proofs.Common.{◌+◌, length, Err, refl}
 use Rattle.std.specs.Prelude.{option_to_list}
 use Rattle.std.proofs.lemmas.List.{take_rest}
 use Rattle.m51_chain.specs.ProgramFiles.{AreAnswered, IsFilesOutcome, Nothing, ProgramFiles, Refused, named}
-use Rattle.m51_chain.proofs.Following.{told_of}
 use Rattle.m51_chain.proofs.InputsGiven.{error_told}
 use Rattle.m51_chain.proofs.linking.inputs_in.Goals as goal
 
@@ -18,5 +17,6 @@ returns-in_ok-refuse_inputs-in-Err c =
       take_rest c.args.contents.now (length c.args.files.now + length (option_to_list c.args.control.now)),
     )
     at (rw (error_told c.in-Err.error c.refuse_inputs.ensures.error) at c.in-Err.ensures) in
-    told_of (IsFilesOutcome files c.args.contents.now Nothing) _ _ c.in_ok-refuse_inputs-in-Err.ensures.stop
-    (record { given = Err c.in-Err.error; answer = given; is = Refused c.in-Err.error refl refl })
+    let refused : IsFilesOutcome files c.args.contents.now Nothing _ =
+    record { given = Err c.in-Err.error; answer = given; is = Refused c.in-Err.error refl refl } in
+    rw c.in_ok-refuse_inputs-in-Err.ensures.stop refused

@@ -1,0 +1,23 @@
+-- What the work of a verb comes to, boards on one line too, and the answer of what is to be done.
+use Rattle.std.specs.Prelude.{None, Result}
+use Rattle.m51_chain.specs.declared.work.Task.{Task}
+use Rattle.m51_chain.specs.declared.work.Task.TheVariants as task
+use Rattle.m51_chain.specs.declared.work.Work.{Work}
+use Rattle.m51_chain.specs.declared.work.Work.TheVariants as work
+use Rattle.m51_chain.specs.Parties.{party_outcome}
+use Rattle.m51_verbs.specs.declared.work.Stop.{Stop}
+use Rattle.m51_verbs.specs.Outcome as verbs
+use Rattle.m51_verbs.specs.Outcome.{Answer, ComesAs, Outcome, named_answer}
+
+abbrev pub outcome_of : Work → Outcome
+outcome_of (work.Alone done) = verbs.outcome_of done
+outcome_of (work.Party boards steps) = party_outcome boards steps
+
+-- what work comes to, out of memory aside, is one of these outcomes
+abbrev pub Comes : (Outcome → Type 0) → Result Work Stop → Type 0
+Comes Is result = ComesAs outcome_of Is result
+
+-- a party keeps nothing
+abbrev pub answer_of : Task → Answer
+answer_of (task.Alone plan) = verbs.answer_of plan
+answer_of (task.Party boards steps) = named_answer None (party_outcome boards steps)

@@ -1,0 +1,48 @@
+//! What is to be done is done. It allocates nothing.
+ghost use Rattle.std.specs.Prelude.{◌≡◌, ◌≤◌, None};
+ghost use Rattle.m51_chain.specs.Parties.{party_outcome, party_status};
+ghost use Rattle.m51_chain.specs.Work.{answer_of};
+ghost use Rattle.m51_verbs.specs.Carried.{HoldsBut, IsEnded, IsWritten};
+
+use crate::unrun::UnrunParty;
+use crate::work::Task;
+use m51_party::PartyEnd;
+use m51_shelf::{Failed, Shelf, Sink};
+use m51_verbs::{Status, carry_out, status_told};
+use m51_words::Steps;
+
+// The status of a party that came to its end.
+fn party_status(end: PartyEnd) -> Result<Status, Failed>
+    ensures { result ≡ party_status end }
+{
+    match end {
+        PartyEnd::Finished => Ok(Status::Ran),
+        PartyEnd::Stopped => Ok(Status::Event),
+        PartyEnd::WriteFault => Err(Failed),
+    }
+}
+
+// Runs the boards of a party, and writes their text.
+fn run_party<S: Sink>(party: UnrunParty, steps: Steps, out: &mut S) -> Result<Status, Failed>
+    ensures written { IsWritten (party_outcome party steps).status (party_outcome party steps).text
+        (S.state out.old) (S.state out.new) result }
+    ensures later { (S.state out.old).faults ≤ (S.state out.new).faults }
+{
+    party_status(party.run(steps.number(), out))
+}
+
+// Keeps, writes and runs what is to be done, up to the first failed call.
+pub(crate) fn perform<F: Shelf, S: Sink>(task: Task, files: &mut F, out: &mut S) -> Status
+    ensures carried { IsEnded (answer_of task) (F.state files.old).keeps (F.state files.new).keeps
+        (S.state out.old) (S.state out.new) result }
+    ensures quiet { (answer_of task).keeps ≡ None → files.new ≡ files.old }
+    ensures holds { HoldsBut (answer_of task).keeps (F.state files.old).holds (F.state files.new).holds }
+    ensures reads { (F.state files.new).reads ≡ (F.state files.old).reads }
+    ensures kept_later { (F.state files.old).keeps.faults ≤ (F.state files.new).keeps.faults }
+    ensures later { (S.state out.old).faults ≤ (S.state out.new).faults }
+{
+    match task {
+        Task::Alone(plan) => carry_out(plan, files, out),
+        Task::Party { party, steps } => status_told(run_party(party, steps, out)),
+    }
+}

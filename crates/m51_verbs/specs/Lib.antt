@@ -1,0 +1,15 @@
+pub mod Reading
+pub mod Targets
+pub mod Outcome
+pub mod Carried
+pub mod Refusals
+pub mod LinkRefusals
+pub mod ScriptRefusals
+pub mod FaultLines
+pub mod Optional
+pub mod Contents
+pub mod Analyses
+pub mod Counts
+pub mod Edits
+pub mod Libraries
+pub mod FlatRuns

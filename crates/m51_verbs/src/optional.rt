@@ -1,0 +1,19 @@
+//! The content of a file that an option names.
+ghost use Rattle.std.specs.Prelude.{◌≡◌};
+ghost use Rattle.std.specs.Option.{option_copied};
+ghost use Rattle.m51_verbs.specs.Optional.{content_if};
+
+use m51_cells::Bytes;
+use m51_words::FileName;
+
+/// The first of these contents, where the option names a file.
+///
+/// Source: own choice ("The top call").
+pub fn content_if<'a>(name: &Option<FileName>, contents: &'a [Bytes]) -> Option<&'a Bytes>
+    ensures { option_copied result ≡ content_if name.now contents.now }
+{
+    match name {
+        Some(_) => contents.first(),
+        None => None,
+    }
+}

@@ -1,16 +1,10 @@
 //! The command `m51`.
 #![tactic(auto)]
 
-use m51_chain::{DirShelf, StdSink, chain};
+use m51_chain::{DirShelf, NOT_TEXT, Status, StdSink, chain};
 use std::env;
 use std::io::ErrorKind;
 use std::process::ExitCode;
-
-// No memory for the words.
-const MEMORY: u8 = 10;
-
-// A word that is not UTF-8.
-const NOT_TEXT: u8 = 12;
 
 fn main(rt: HostRuntime) -> ExitCode {
     let mut words = Vec::new(rt.alloc());
@@ -18,11 +12,13 @@ fn main(rt: HostRuntime) -> ExitCode {
         Ok(args) => {
             for word in args.skip(1) {
                 if words.push(word).is_err() {
-                    return ExitCode::from(MEMORY);
+                    return ExitCode::from(Status::Memory as u8);
                 }
             }
         }
-        Err(error) if error.kind() == ErrorKind::OutOfMemory => return ExitCode::from(MEMORY),
+        Err(error) if error.kind() == ErrorKind::OutOfMemory => return ExitCode::from(
+            Status::Memory as u8,
+        ),
         Err(_) => return ExitCode::from(NOT_TEXT),
     }
     let mut files = DirShelf::make(&rt);

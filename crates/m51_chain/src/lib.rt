@@ -19,5 +19,5 @@ pub use m51_generator::generate;
 pub use m51_shelf::{
     Call, DirShelf, Failed, MemShelf, MemSink, Shelf, Sink, StdSink, SureShelf, SureSink,
 };
-pub use m51_verbs::Status;
+pub use m51_verbs::{NOT_TEXT, Status};
 pub use top::chain;

@@ -7,6 +7,7 @@ use Rattle.m51_cells.specs.declared.limits.TheConstants.{MOST_SEGMENTS, MOST_UNI
 use Rattle.m51_cells.specs.declared.limits.TheConstants.{MOST_SCRIPT_LINES, MOST_STEPS, MOST_RETURN_RECORDS}
 use Rattle.m51_cells.specs.declared.limits.TheConstants.{MOST_POINTS}
 use Rattle.m51_module.specs.declared.image.TheConstants.{IMAGE_LEN}
+use Rattle.m51_monitor.specs.declared.activity.TheConstants.{MOST_NAMED}
 use Rattle.m51_script.specs.Timing.{latest_cycle}
 use Rattle.m51_jobs.specs.declared.endings.TheConstants.{LEAST_BOARDS, MOST_BOARDS}
 use Rattle.m51_jobs.specs.declared.numbers.TheConstants.{MOST_GENERATED_UNITS}
@@ -54,6 +55,8 @@ pub record RunLimits : Type 0 where
   pub steps : MOST_STEPS ≡ 10000000
   -- return records at once
   pub return_records : MOST_RETURN_RECORDS ≡ 128
+  -- places in the list of units that they name
+  pub named_units : MOST_NAMED ≡ 3000
   -- boards on one serial line
   pub least_boards : LEAST_BOARDS ≡ 2
   pub most_boards : MOST_BOARDS ≡ 8

@@ -1,6 +1,6 @@
--- The exit status of the command for each way in which it ends. docs/COMMAND.md has the same table; 12, for an argument
--- that is no text, is a number of the program itself, which ends so before the top call.
-use Rattle.std.specs.Prelude.{ℕ}
+-- The exit status of the command for each way in which it ends. docs/COMMAND.md has the same table.
+use Rattle.std.specs.Prelude.{◌≡◌, ℕ}
+use Rattle.m51_verbs.specs.declared.status.TheConstants.{NOT_TEXT}
 use Rattle.m51_verbs.specs.declared.status.Status.{Status}
 use Rattle.m51_verbs.specs.declared.status.Status.TheVariants.{Ran, Event, Usage, Source, Link, Object, Script, Limit}
 use Rattle.m51_verbs.specs.declared.status.Status.TheVariants.{ReadFault, WriteFault, Memory, Stack}
@@ -18,3 +18,7 @@ number_of ReadFault = 8
 number_of WriteFault = 9
 number_of Memory = 10
 number_of Stack = 11
+
+-- an argument that is no text: the program ends so before the top call
+abbrev pub NotTextHasNumber : Type 0
+NotTextHasNumber = NOT_TEXT ≡ 12

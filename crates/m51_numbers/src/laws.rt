@@ -1,9 +1,9 @@
-//! What number each constant is. Each law but the last is the contract of a function that does nothing.
+//! What number each constant is. Each law but `status_number` is the contract of a function that does nothing.
 ghost use Rattle.std.specs.Prelude.{◌≡◌};
 ghost use Rattle.m51_numbers.specs.Faults.{FaultsHaveNumbers};
 ghost use Rattle.m51_numbers.specs.Limits.{LimitsHaveNumbers};
 ghost use Rattle.m51_numbers.specs.Records.{RecordsHaveTypes};
-ghost use Rattle.m51_numbers.specs.Statuses.{number_of};
+ghost use Rattle.m51_numbers.specs.Statuses.{NotTextHasNumber, number_of};
 
 use m51_chain::Status;
 
@@ -36,3 +36,10 @@ pub fn status_number(status: Status) -> u8
 {
     status as u8
 }
+
+/// The exit status of the command if an argument is not UTF-8.
+///
+/// Source: own choice ("Numbers on one page").
+pub fn not_text_has_a_number()
+    ensures { NotTextHasNumber }
+{}

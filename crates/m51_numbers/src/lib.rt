@@ -3,4 +3,7 @@
 
 mod laws;
 
-pub use laws::{faults_have_numbers, limits_have_numbers, records_have_types, status_number};
+pub use laws::{
+    faults_have_numbers, limits_have_numbers, not_text_has_a_number, records_have_types,
+    status_number,
+};

@@ -32,6 +32,6 @@ pub use plan::{Kept, Plan, accepted, refused};
 pub use reading::{Contents, read_all};
 pub use refusing::{refuse_long_file, refuse_many_files, refuse_unread_file, refuse_words};
 pub use script_refusing::{refuse_control, refuse_script};
-pub use status::Status;
+pub use status::{NOT_TEXT, Status};
 pub use target::Target;
 pub use work::{Ending, Finished, Reason, Stop};

@@ -9,7 +9,7 @@ use Rattle.std.proofs.lemmas.Option.{get_or_from_slice_get, same_Some, slice_get
 use Rattle.m51_linker.specs.declared.fields.Field.{Field}
 use Rattle.m51_linker.specs.declared.fields.Field.TheVariants.{One}
 use Rattle.m51_linker.specs.Fields.{block_field, bytes_of as field_bytes, far_of, field_of, one_if}
-use Rattle.m51_isa.specs.Targets.{bit_address, fits_byte, in_one_block, is_near}
+use Rattle.m51_isa.specs.Targets.{fits_byte, in_one_block, is_near}
 use Rattle.m51_linker.specs.Image.{IsImage, byte_at, content_of, fields_of, fixup_field, module_content, module_fields, placed_field, placed_piece}
 use Rattle.m51_linker.specs.Stretches.{Stretch, byte_among, byte_in, stretch_at}
 use Rattle.m51_linker.specs.Targets.{address_of, target_of}

@@ -21,7 +21,7 @@ use Rattle.m51_expr.specs.Meanings.{Meanings, is_absolute, is_unplaced, as_numbe
 use Rattle.m51_expr.specs.Operators.{under, kept_under, or_number, unary, settled, beside, same_base, arithmetic, class_of, base_of, on_base, of_numbers, of_wholes, binary}
 use Rattle.m51_expr.specs.Bits.{has_bits, keeps_base, with_bit, placed_bit, bit_of, dot}
 use Rattle.m51_expr.specs.Evaluation.{is_dot, applied, or_unknown, value_of}
-use Rattle.m51_coding.specs.FieldLaws.{IsBitOf}
+use Rattle.m51_encode.specs.FieldLaws.{IsBitOf}
 
 -- a value of such a base, under no bit above 7
 pub record IsBased (G : Base → Type 0) (v : Value) : Type 0 where

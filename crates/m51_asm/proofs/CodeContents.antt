@@ -12,14 +12,14 @@ use Rattle.m51_isa.proofs.Codes.{rows_are_short}
 use Rattle.m51_isa.proofs.RowsFilled.{texts_are_rows}
 use Rattle.m51_expr.specs.Meanings.{Meanings}
 use Rattle.m51_expr.specs.Operand.{OperandTree}
-use Rattle.m51_coding.specs.declared.outcome.Outcome.{Outcome}
-use Rattle.m51_coding.specs.declared.outcome.Outcome.TheVariants.{Faulty}
-use Rattle.m51_coding.specs.declared.reference.Reference.{Reference}
-use Rattle.m51_coding.specs.JumpForm.{address_after}
-use Rattle.m51_coding.specs.Filling.{Answer, beginning_at, reference_at, references_of}
-use Rattle.m51_coding.specs.Outcomes.{linked, outcome_of}
-use Rattle.m51_coding.specs.Coding.{gathered, first_of, second_of, third_of, three_outcomes, coded, outcomes, length_of}
-use Rattle.m51_coding.specs.Lengths.{HasRow}
+use Rattle.m51_encode.specs.declared.outcome.Outcome.{Outcome}
+use Rattle.m51_encode.specs.declared.outcome.Outcome.TheVariants.{Faulty}
+use Rattle.m51_encode.specs.declared.reference.Reference.{Reference}
+use Rattle.m51_encode.specs.JumpForm.{address_after}
+use Rattle.m51_encode.specs.Filling.{Answer, beginning_at, reference_at, references_of}
+use Rattle.m51_encode.specs.Outcomes.{linked, outcome_of}
+use Rattle.m51_encode.specs.Coding.{gathered, first_of, second_of, third_of, three_outcomes, coded, outcomes, length_of}
+use Rattle.m51_encode.specs.Lengths.{HasRow}
 use Rattle.m51_asm.specs.Content.{placed_from, coded_content}
 use Rattle.m51_asm.proofs.ContentFields.{Held, row_content}
 use Rattle.m51_asm.proofs.MadeParts.{one_fixup, fixes, AreFine, IsGiven}

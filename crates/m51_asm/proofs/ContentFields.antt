@@ -19,13 +19,13 @@ use Rattle.m51_expr.specs.Value.{Valued}
 use Rattle.m51_expr.specs.Meanings.{Meanings}
 use Rattle.m51_expr.specs.Evaluation.{value_of}
 use Rattle.m51_expr.specs.Operand.{OperandTree}
-use Rattle.m51_coding.specs.declared.reference.FieldValue.{FieldValue}
-use Rattle.m51_coding.specs.declared.reference.FieldValue.TheVariants.{Number, Linked}
-use Rattle.m51_coding.specs.declared.reference.Reference.{Reference}
-use Rattle.m51_coding.specs.Reference.{form_of, reference_of}
-use Rattle.m51_coding.specs.FieldValues.{field_of}
-use Rattle.m51_coding.specs.Filling.{Answer, and_then, or_out_of_range, held_at, nothing, valued, expression, filled_by, filled, beginning_at, reference_at, references_of}
-use Rattle.m51_coding.proofs.BitNumbers.{linked_is}
+use Rattle.m51_encode.specs.declared.reference.FieldValue.{FieldValue}
+use Rattle.m51_encode.specs.declared.reference.FieldValue.TheVariants.{Number, Linked}
+use Rattle.m51_encode.specs.declared.reference.Reference.{Reference}
+use Rattle.m51_encode.specs.Reference.{form_of, reference_of}
+use Rattle.m51_encode.specs.FieldValues.{field_of}
+use Rattle.m51_encode.specs.Filling.{Answer, and_then, or_out_of_range, held_at, nothing, valued, expression, filled_by, filled, beginning_at, reference_at, references_of}
+use Rattle.m51_encode.proofs.BitNumbers.{linked_is}
 use Rattle.m51_asm.proofs.Members.{In, Every, Pairs, in_cons, no_element, pairs_weaker}
 use Rattle.m51_asm.specs.Content.{ReferenceAt, Content, placed_from}
 use Rattle.m51_asm.proofs.RowFields.{width, HasField, rows_do_lie}

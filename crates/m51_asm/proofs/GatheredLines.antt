@@ -9,12 +9,12 @@ use Rattle.m51_module.specs.declared.content.Fixup.{Fixup}
 use Rattle.m51_module.specs.declared.content.Piece.{Piece}
 use Rattle.m51_module.specs.declared.segment.Segment.{Segment}
 use Rattle.m51_text.specs.Answer.{LineTree}
-use Rattle.m51_content.specs.Within.{LieInside}
-use Rattle.m51_content.specs.Gathering.{Gathered, run_of, runs_of, fixups_of, gathered_of, with_line, pieces_in, all_pieces, all_fixups}
-use Rattle.m51_content.specs.declared.content.Content.{Content}
-use Rattle.m51_content.specs.declared.gathering.ModuleContent.{ModuleContent}
-use Rattle.m51_content.proofs.GrownRuns.{gathered_grows}
-use Rattle.m51_content.proofs.LyingContent.{references_lie}
+use Rattle.m51_emit.specs.Within.{LieInside}
+use Rattle.m51_emit.specs.Gathering.{Gathered, run_of, runs_of, fixups_of, gathered_of, with_line, pieces_in, all_pieces, all_fixups}
+use Rattle.m51_emit.specs.declared.content.Content.{Content}
+use Rattle.m51_emit.specs.declared.gathering.ModuleContent.{ModuleContent}
+use Rattle.m51_emit.proofs.GrownRuns.{gathered_grows}
+use Rattle.m51_emit.proofs.LyingContent.{references_lie}
 use Rattle.m51_asm.specs.Assignment.{Assignment, body_at}
 use Rattle.m51_asm.specs.ObjectMeanings.{final}
 use Rattle.m51_asm.specs.ObjectSegments.{Kept, kept, object_segments, from_one, place_in, number_in, segment_number}

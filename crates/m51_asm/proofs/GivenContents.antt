@@ -9,8 +9,8 @@ use Rattle.m51_isa.specs.declared.generics.Jump.{Jump}
 use Rattle.m51_expr.specs.Meanings.{Meanings}
 use Rattle.m51_stmt.specs.Statement as body
 use Rattle.m51_stmt.specs.Statement.{BodyTree}
-use Rattle.m51_coding.specs.declared.outcome.Outcome.{Outcome}
-use Rattle.m51_coding.proofs.FormRows.{forms_have_rows}
+use Rattle.m51_encode.specs.declared.outcome.Outcome.{Outcome}
+use Rattle.m51_encode.proofs.FormRows.{forms_have_rows}
 use Rattle.m51_text.specs.Answer.{LineTree}
 use Rattle.m51_asm.specs.Assignment.{TextSegment, Assignment, body_at, above}
 use Rattle.m51_asm.specs.Fitting.{size_by, size_at}

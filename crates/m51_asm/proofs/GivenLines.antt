@@ -6,11 +6,11 @@ use Rattle.m51_module.specs.declared.source.Fault.{Fault}
 use Rattle.m51_module.specs.declared.source.Row.{Row}
 use Rattle.m51_stmt.specs.Statement.{BodyTree, StmtTree, Public}
 use Rattle.m51_text.specs.Answer.{LineTree}
-use Rattle.m51_content.specs.Outcomes.{made_with, made_with_all, or_next, leftmost_fault}
-use Rattle.m51_content.specs.declared.content.Content.{Content}
-use Rattle.m51_content.specs.Content.{outcomes_by, content_by}
-use Rattle.m51_content.proofs.CountedParts.{or_nothing}
-use Rattle.m51_content.specs.PublicNames.{Published, public_outcome, if_public}
+use Rattle.m51_emit.specs.Outcomes.{made_with, made_with_all, or_next, leftmost_fault}
+use Rattle.m51_emit.specs.declared.content.Content.{Content}
+use Rattle.m51_emit.specs.Content.{outcomes_by, content_by}
+use Rattle.m51_emit.proofs.CountedParts.{or_nothing}
+use Rattle.m51_emit.specs.PublicNames.{Published, public_outcome, if_public}
 use Rattle.m51_asm.specs.declared.contents.Contents.{Contents}
 use Rattle.m51_asm.specs.Assignment.{Assignment, body_of, body_at}
 use Rattle.m51_asm.specs.ObjectMeanings.{final}
@@ -24,7 +24,7 @@ use Rattle.m51_asm.specs.Fitting.{last_set, Fits}
 use Rattle.m51_asm.specs.OpenSegments.{text_segment}
 use Rattle.m51_asm.specs.Placing.{here_of, IsPlaceOf}
 use Rattle.m51_asm.proofs.FinalNames.{place_is}
-use Rattle.m51_content.specs.Rows.{has_place, place_in, row_in}
+use Rattle.m51_emit.specs.Rows.{has_place, place_in, row_in}
 use Rattle.m51_asm.specs.ValuesAt.{IsSetAt}
 use Rattle.m51_asm.specs.Publishing.{publics_among, fault_among}
 use Rattle.m51_asm.specs.Repeats.{publics_in}

@@ -8,21 +8,21 @@ use Rattle.m51_expr.specs.Value.{Valued}
 use Rattle.m51_expr.specs.Meanings.{Meanings}
 use Rattle.m51_expr.specs.Evaluation.{value_of}
 use Rattle.m51_expr.specs.Operand.{ItemTree, Value as ValueItem, Text}
-use Rattle.m51_coding.specs.declared.item.Width.{Width}
-use Rattle.m51_coding.specs.declared.item.Width.TheVariants.{Byte, Word}
-use Rattle.m51_coding.specs.declared.outcome.Outcome.{Outcome}
-use Rattle.m51_coding.specs.declared.outcome.Outcome.TheVariants.{Faulty, Fixes, Stands}
-use Rattle.m51_coding.specs.declared.reference.FieldValue.{FieldValue}
-use Rattle.m51_coding.specs.declared.reference.FieldValue.TheVariants.{Number, Linked}
-use Rattle.m51_coding.specs.declared.reference.Reference.{Reference}
-use Rattle.m51_coding.specs.Reference.{reference_of}
-use Rattle.m51_coding.specs.FieldValues.{field_of}
-use Rattle.m51_coding.specs.Filling.{Answer, and_then, or_out_of_range, fielded}
-use Rattle.m51_coding.specs.Items.{item_field, field_of_width, number_bytes}
-use Rattle.m51_coding.proofs.BitNumbers.{linked_is}
+use Rattle.m51_encode.specs.declared.item.Width.{Width}
+use Rattle.m51_encode.specs.declared.item.Width.TheVariants.{Byte, Word}
+use Rattle.m51_encode.specs.declared.outcome.Outcome.{Outcome}
+use Rattle.m51_encode.specs.declared.outcome.Outcome.TheVariants.{Faulty, Fixes, Stands}
+use Rattle.m51_encode.specs.declared.reference.FieldValue.{FieldValue}
+use Rattle.m51_encode.specs.declared.reference.FieldValue.TheVariants.{Number, Linked}
+use Rattle.m51_encode.specs.declared.reference.Reference.{Reference}
+use Rattle.m51_encode.specs.Reference.{reference_of}
+use Rattle.m51_encode.specs.FieldValues.{field_of}
+use Rattle.m51_encode.specs.Filling.{Answer, and_then, or_out_of_range, fielded}
+use Rattle.m51_encode.specs.Items.{item_field, field_of_width, number_bytes}
+use Rattle.m51_encode.proofs.BitNumbers.{linked_is}
 use Rattle.m51_stmt.proofs.ListWords.{Each}
 use Rattle.m51_stmt.proofs.PrintedLists.{IsItem}
-use Rattle.m51_content.specs.Sizes.{item_size, items_size}
+use Rattle.m51_emit.specs.Sizes.{item_size, items_size}
 use Rattle.m51_asm.specs.Content.{ReferenceAt, Content, item_outcome, item_given, item_content, later, followed_by, joined}
 use Rattle.m51_asm.proofs.Members.{Every, Pairs, in_cons, no_element, in_map, every_append, pairs_append, pairs_map, pairs_weaker}
 use Rattle.m51_asm.proofs.RowFields.{width}

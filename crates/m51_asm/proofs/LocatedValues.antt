@@ -14,8 +14,8 @@ use Rattle.m51_expr.specs.Meanings.{Meanings}
 use Rattle.m51_expr.specs.Evaluation.{or_unknown, applied, value_of}
 use Rattle.m51_expr.specs.Operators.{unary}
 use Rattle.m51_isa.specs.declared.generics.Verb.{Verb}
-use Rattle.m51_coding.specs.Bases.{same_segment}
-use Rattle.m51_coding.specs.JumpForm.{jump_form_of}
+use Rattle.m51_encode.specs.Bases.{same_segment}
+use Rattle.m51_encode.specs.JumpForm.{jump_form_of}
 use Rattle.m51_asm.specs.ObjectSegments.{from_one, place_in, local_number}
 use Rattle.m51_asm.specs.ObjectMeanings.{object_base, object_value}
 use Rattle.m51_asm.specs.Renumbering.{SameBase, with_base, SameValue, SameValued, Renumbers, IsRenumbering, IsUnchanged}

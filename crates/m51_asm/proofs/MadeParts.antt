@@ -2,8 +2,8 @@
 use Rattle.std.proofs.Common.{◌≡◌, ℕ, suc, ◌+◌, ◌<◌, ◌≤◌, nat_lt, Bool, true, false, cond, List, [], ◌∷◌, length, Some, None, refl, sym, ◌∙◌, arith, add-zero}
 use Rattle.std.proofs.lemmas.Bool.{ltb-true}
 use Rattle.m51_expr.specs.Meanings.{Meanings}
-use Rattle.m51_coding.specs.declared.outcome.Outcome.{Outcome}
-use Rattle.m51_coding.specs.declared.outcome.Outcome.TheVariants.{Faulty, Fixes, Stands}
+use Rattle.m51_encode.specs.declared.outcome.Outcome.{Outcome}
+use Rattle.m51_encode.specs.declared.outcome.Outcome.TheVariants.{Faulty, Fixes, Stands}
 use Rattle.m51_asm.specs.Outcomes.{made_with_all, or_next, leftmost_fault}
 use Rattle.m51_asm.specs.Content.{Content, nothing}
 use Rattle.m51_asm.proofs.Members.{Every, Pairs, no_element}

@@ -6,9 +6,9 @@ use Rattle.m51_cells.specs.declared.kind.Base.TheVariants as base
 use Rattle.m51_expr.specs.declared.value.Value.{Value}
 use Rattle.m51_stmt.specs.Statement.{BodyTree, Segment as Declares}
 use Rattle.m51_text.specs.Answer.{LineTree}
-use Rattle.m51_content.specs.Outcomes.{or_next, leftmost_fault}
-use Rattle.m51_content.specs.PublicNames.{Published, public_outcome}
-use Rattle.m51_content.specs.PublicNames as content
+use Rattle.m51_emit.specs.Outcomes.{or_next, leftmost_fault}
+use Rattle.m51_emit.specs.PublicNames.{Published, public_outcome}
+use Rattle.m51_emit.specs.PublicNames as content
 use Rattle.m51_asm.specs.declared.object_names.ObjectNames.{ObjectNames}
 use Rattle.m51_asm.specs.declared.object_names.PlacedText.{PlacedText}
 use Rattle.m51_asm.specs.declared.stepping.LinePlace.{LinePlace}

@@ -14,14 +14,14 @@ use Rattle.m51_module.specs.Validity.{numbered, IsBitNumber, IsTarget, IsFixupVa
 use Rattle.m51_expr.specs.declared.value.Value.{Value}
 use Rattle.m51_expr.specs.Value.{counted}
 use Rattle.m51_expr.specs.Meanings.{Meanings}
-use Rattle.m51_coding.specs.declared.reference.FieldValue.{FieldValue}
-use Rattle.m51_coding.specs.declared.reference.FieldValue.TheVariants.{Number, Linked}
-use Rattle.m51_coding.specs.declared.reference.Reference.{Reference}
-use Rattle.m51_coding.specs.Taking.{held_of}
-use Rattle.m51_coding.specs.Reference.{reference_of}
-use Rattle.m51_coding.specs.Bases.{is_current, stands_absolute, is_linked}
-use Rattle.m51_coding.specs.FieldValues.{is_taken, distance, is_near, same_block, rel_of, addr11_of, taken_of, field_of}
-use Rattle.m51_coding.proofs.BitNumbers.{linked_is, references_have_bits}
+use Rattle.m51_encode.specs.declared.reference.FieldValue.{FieldValue}
+use Rattle.m51_encode.specs.declared.reference.FieldValue.TheVariants.{Number, Linked}
+use Rattle.m51_encode.specs.declared.reference.Reference.{Reference}
+use Rattle.m51_encode.specs.Taking.{held_of}
+use Rattle.m51_encode.specs.Reference.{reference_of}
+use Rattle.m51_encode.specs.Bases.{is_current, stands_absolute, is_linked}
+use Rattle.m51_encode.specs.FieldValues.{is_taken, distance, is_near, same_block, rel_of, addr11_of, taken_of, field_of}
+use Rattle.m51_encode.proofs.BitNumbers.{linked_is, references_have_bits}
 use Rattle.m51_text.specs.Answer.{LineTree}
 use Rattle.m51_asm.specs.Assignment.{Assignment, here_at}
 use Rattle.m51_asm.specs.ObjectSegments.{kept, object_segments, segment_number, number_in}

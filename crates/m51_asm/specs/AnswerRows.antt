@@ -2,8 +2,8 @@
 use Rattle.std.specs.Prelude.{ℕ, suc, List, [], ◌∷◌, Option}
 use Rattle.m51_module.specs.declared.source.Row.{Row}
 use Rattle.m51_text.specs.Answer.{LineTree}
-pub use Rattle.m51_content.specs.Rows.{has_place, place_in, first_three, is_any, row_in}
-use Rattle.m51_content.specs.declared.content.Content.{Content}
+pub use Rattle.m51_emit.specs.Rows.{has_place, place_in, first_three, is_any, row_in}
+use Rattle.m51_emit.specs.declared.content.Content.{Content}
 use Rattle.m51_asm.specs.Assignment.{Assignment}
 use Rattle.m51_asm.specs.Pieces.{content_at}
 

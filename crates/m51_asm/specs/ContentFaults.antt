@@ -5,7 +5,7 @@ use Rattle.m51_module.specs.declared.source.Fault.{Fault}
 use Rattle.m51_text.specs.Answer.{LineTree}
 use Rattle.m51_asm.specs.Assignment.{Assignment, body_at}
 use Rattle.m51_asm.specs.ObjectMeanings.{final}
-use Rattle.m51_coding.specs.declared.outcome.Outcome.{Outcome}
+use Rattle.m51_encode.specs.declared.outcome.Outcome.{Outcome}
 use Rattle.m51_asm.specs.Outcomes.{made_with_all, leftmost_fault}
 use Rattle.m51_asm.specs.Content.{outcomes_by}
 use Rattle.m51_asm.specs.PublicNames.{published, public_outcome}

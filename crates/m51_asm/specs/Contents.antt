@@ -1,7 +1,7 @@
 -- Pass 2 over the lines of a text: what is kept of the lines above a line.
 use Rattle.std.specs.Prelude.{◌≡◌, ℕ, ◌++◌, List, [], length, drop, slice_get, Some}
 use Rattle.m51_text.specs.Answer.{LineTree}
-use Rattle.m51_content.specs.declared.content.Content.{Content}
+use Rattle.m51_emit.specs.declared.content.Content.{Content}
 use Rattle.m51_asm.specs.declared.contents.Contents.{Contents}
 use Rattle.m51_asm.specs.Assignment.{Assignment}
 use Rattle.m51_asm.specs.ContentFaults.{made_before, content_fault, faults_from, content_faults}

@@ -2,8 +2,8 @@
 use Rattle.std.specs.Prelude.{◌≡◌, ℕ, zero, suc, ◌==◌, if◌then◌else◌, List, [], ◌∷◌, ◌++◌, map}
 use Rattle.m51_module.specs.declared.source.SourceFile.{SourceFile}
 use Rattle.m51_text.specs.Answer.{LineTree, Lines, text_of}
-use Rattle.m51_content.specs.Gathering.{Gathered, PlacedContent, gathered_of}
-use Rattle.m51_content.specs.declared.content.Content.{Content}
+use Rattle.m51_emit.specs.Gathering.{Gathered, PlacedContent, gathered_of}
+use Rattle.m51_emit.specs.declared.content.Content.{Content}
 use Rattle.m51_asm.specs.declared.object_names.PlacedText.{PlacedText}
 use Rattle.m51_asm.specs.Assignment.{Assignment}
 use Rattle.m51_asm.specs.ContentFaults.{content_faults}

@@ -10,7 +10,7 @@ use Rattle.m51_expr.specs.Value.{Valued}
 use Rattle.m51_expr.specs.Meanings.{Meanings}
 use Rattle.m51_expr.specs.Evaluation.{value_of}
 use Rattle.m51_isa.specs.declared.generics.Verb.{Verb}
-use Rattle.m51_coding.specs.JumpForm.{jump_form_of}
+use Rattle.m51_encode.specs.JumpForm.{jump_form_of}
 use Rattle.m51_expr.specs.declared.fault.ExprError.{ExprError}
 use Rattle.m51_asm.specs.declared.values.Origin.{Origin}
 use Rattle.m51_asm.specs.declared.values.Origin.TheVariants as origin

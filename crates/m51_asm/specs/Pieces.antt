@@ -3,10 +3,10 @@ use Rattle.std.specs.Prelude.{ℕ, suc, ◌==◌, if◌then◌else◌, List, [],
 use Rattle.m51_module.specs.declared.content.Fixup.{Fixup}
 use Rattle.m51_module.specs.declared.content.Piece.{Piece}
 use Rattle.m51_text.specs.Answer.{LineTree}
-pub use Rattle.m51_content.specs.Pieces.{Run, before_runs, if_bytes, piece_at, pieces_of_run, base_of, target_base}
-pub use Rattle.m51_content.specs.Pieces.{fixup_of}
-use Rattle.m51_content.specs.declared.content.Content.{Content}
-use Rattle.m51_content.specs.Content.{content_by}
+pub use Rattle.m51_emit.specs.Pieces.{Run, before_runs, if_bytes, piece_at, pieces_of_run, base_of, target_base}
+pub use Rattle.m51_emit.specs.Pieces.{fixup_of}
+use Rattle.m51_emit.specs.declared.content.Content.{Content}
+use Rattle.m51_emit.specs.Content.{content_by}
 use Rattle.m51_asm.specs.Assignment.{Assignment, body_at}
 use Rattle.m51_asm.specs.Fitting.{filled}
 use Rattle.m51_asm.specs.ObjectSegments.{Kept, kept, object_segments, segment_number}

@@ -7,7 +7,7 @@ use Rattle.m51_module.specs.declared.symbol.Public.{Public}
 use Rattle.m51_expr.specs.declared.value.Value.{Value}
 use Rattle.m51_expr.specs.Value.{is_whole}
 use Rattle.m51_text.specs.Answer.{LineTree}
-pub use Rattle.m51_content.specs.PublicNames.{Published, public, from_base, public_from, public_outcome, if_public}
+pub use Rattle.m51_emit.specs.PublicNames.{Published, public, from_base, public_from, public_outcome, if_public}
 use Rattle.m51_asm.specs.Definitions.{Definition, SegmentOf, SetOf, ExternOf, definition_of}
 use Rattle.m51_asm.specs.Assignment.{TextSegment, Assignment}
 use Rattle.m51_asm.specs.ObjectSegments.{segment_number, segment_of}

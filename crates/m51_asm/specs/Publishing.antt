@@ -6,10 +6,10 @@ use Rattle.m51_module.specs.declared.symbol.Public.{Public}
 use Rattle.m51_expr.specs.declared.value.Value.{Value}
 use Rattle.m51_stmt.specs.Statement.{BodyTree, Segment as Declares}
 use Rattle.m51_text.specs.Answer.{LineTree, line_tree}
-use Rattle.m51_content.specs.declared.publics.Definer.{Definer}
-use Rattle.m51_content.specs.declared.publics.Definer.TheVariants as by
-use Rattle.m51_content.specs.Outcomes.{or_next}
-use Rattle.m51_content.specs.PublicNames.{Published, public_by, if_public}
+use Rattle.m51_emit.specs.declared.publics.Definer.{Definer}
+use Rattle.m51_emit.specs.declared.publics.Definer.TheVariants as by
+use Rattle.m51_emit.specs.Outcomes.{or_next}
+use Rattle.m51_emit.specs.PublicNames.{Published, public_by, if_public}
 use Rattle.m51_asm.specs.declared.definitions.How.{How}
 use Rattle.m51_asm.specs.declared.definitions.How.TheVariants as how
 use Rattle.m51_asm.specs.declared.names.FirstDefinition.{FirstDefinition}

@@ -23,7 +23,7 @@ use crate::outcome::Assembled;
 use crate::placing::{NamedText, Placing};
 use crate::stepping::LinePlace;
 use m51_cells::NoMemory;
-use m51_content::ModuleContent;
+use m51_emit::ModuleContent;
 use m51_module::{Module, ModuleParts, Publics, Segment, Segments};
 use m51_text::Line;
 use std::alloc::Global;

@@ -18,7 +18,7 @@ use crate::stepping::LinePlace;
 use crate::valuation::Values;
 use crate::values_at::take_set;
 use m51_cells::{ListOf, NoMemory};
-use m51_content::{Content, line_content, place_of, row_of};
+use m51_emit::{Content, line_content, place_of, row_of};
 use m51_module::{Faults, Publics, Row, Rows};
 use m51_text::Line;
 use std::alloc::Global;

@@ -1,8 +1,8 @@
 //! The content of the module of a text: what its lines give to each of the segments.
 ghost use Rattle.std.specs.Prelude.{◌≡◌, ◌+◌, ◌≤◌, length, map, IfOk, OnOk};
 ghost use Rattle.m51_text.specs.Answer.{line_tree};
-ghost use Rattle.m51_content.specs.Gathering.{with_line};
-ghost use Rattle.m51_content.specs.Within.{LieInside};
+ghost use Rattle.m51_emit.specs.Gathering.{with_line};
+ghost use Rattle.m51_emit.specs.Within.{LieInside};
 ghost use Rattle.m51_asm.specs.Assignment.{Assignment};
 ghost use Rattle.m51_asm.specs.Fitting.{Fits};
 ghost use Rattle.m51_asm.specs.Pieces.{pieces, fixups};
@@ -11,7 +11,7 @@ ghost use Rattle.m51_asm.specs.Gathering.{nothing_gathered, changed, IsText, IsG
 use crate::numbering::number_at;
 use crate::object_names::PlacedText;
 use m51_cells::{MOST_MODULE_SEGMENTS, NoMemory};
-use m51_content::{Content, ModuleContent, SegmentContent, gather};
+use m51_emit::{Content, ModuleContent, SegmentContent, gather};
 use m51_module::Segment;
 use std::alloc::Global;
 

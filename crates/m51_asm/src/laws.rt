@@ -17,7 +17,7 @@ pub fn one_assignment_fits()
     ensures { OneFits }
 {}
 
-/// An assignment fits each text, also one with faults.
+/// An assignment fits each text in which no line has a fault of its own, also one whose lines have other faults.
 ///
 /// Source: own choice ("The assignment of a text").
 pub fn an_assignment_fits()

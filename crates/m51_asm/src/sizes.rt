@@ -3,15 +3,15 @@ ghost use Rattle.std.specs.Prelude.{◌≡◌, ◌≤◌, ◌*◌, length, map, 
 ghost use Rattle.m51_expr.specs.Tree.{tree_of};
 ghost use Rattle.m51_expr.specs.Operand.{item_tree, operand_tree};
 ghost use Rattle.m51_stmt.specs.Statement.{body_tree};
-ghost use Rattle.m51_coding.specs.Coding.{length_of};
+ghost use Rattle.m51_encode.specs.Coding.{length_of};
 ghost use Rattle.m51_asm.specs.Assignment.{number_of, value_or_none};
-ghost use Rattle.m51_content.specs.Sizes.{item_size, items_size};
+ghost use Rattle.m51_emit.specs.Sizes.{item_size, items_size};
 ghost use Rattle.m51_asm.specs.Fitting.{size_by};
 
 use crate::counting::numbered;
 use crate::values::Places;
 use m51_cells::NoMemory;
-use m51_coding::length_of;
+use m51_encode::length_of;
 use m51_expr::{Expr, ExprError, Item};
 use m51_isa::Jump;
 use m51_stmt::Body;

@@ -7,11 +7,11 @@ ghost use Rattle.m51_asm.specs.ObjectSegments.{place_in, local_number};
 ghost use Rattle.m51_asm.specs.Located.{id_at, ids_in, base_ids, value_ids, if_there, has_base};
 ghost use Rattle.m51_asm.specs.Located.{origin_base, located_value, located, local, global, global_value, IsTable};
 ghost use Rattle.m51_asm.specs.ObjectMeanings.{object_base, object_value};
-ghost use Rattle.m51_coding.specs.JumpForm.{jump_form_of};
+ghost use Rattle.m51_encode.specs.JumpForm.{jump_form_of};
 
 use crate::values::{Located, Origin, Places};
 use m51_cells::{Base, ListOf, Name, NoMemory};
-use m51_coding::jump_form;
+use m51_encode::jump_form;
 use m51_expr::{Expr, ExprError, Lookup, Value, value_of};
 use m51_isa::{Jump, Verb};
 use std::alloc::Global;

@@ -146,8 +146,8 @@ fn ascend(extents: &[Extent]) -> bool {
     true
 }
 
-/// Puts the extents into ascending order, so that going over them once raises the base as far as it goes. Error: out of
-/// memory.
+/// Puts the same extents into another order, in which going over them is faster. Contracts see only that they are the
+/// same, also where memory runs out. Error: out of memory.
 ///
 /// Source: own choice ("Bases that fit").
 pub fn arrange(extents: &mut Vec<Extent>) -> Result<(), NoMemory>
@@ -159,8 +159,8 @@ pub fn arrange(extents: &mut Vec<Extent>) -> Result<(), NoMemory>
     Ok(())
 }
 
-/// The least base at which the segment fits and shares no cell with these extents; `None` where there is none. Its size
-/// is at most 65,535.
+/// The least base at which the segment fits and shares no cell with these extents; `None` where there is none. Its kind
+/// is not NUMBER and allows its type, its size is at most 65,535, and each extent ends at 1,048,576 at most.
 ///
 /// Source: own choice ("Bases that fit").
 pub fn first_clear(extents: &[Extent], kind: Kind, reloc: Reloc, size: u32) -> Option<u32>

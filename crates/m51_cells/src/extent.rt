@@ -17,7 +17,8 @@ pub struct Extent {
     pub len: u32,
 }
 
-/// The cells that a segment covers: base and size are counted in bytes, for BIT in bits from bit address 0.
+/// The cells that a segment covers: base and size are counted in bytes, for BIT in bits from bit address 0. Its kind is
+/// not NUMBER, and both are at most 65,536.
 ///
 /// Source: own choice ("A cell of RAM is a bit").
 pub fn cells_of(kind: Kind, base: u32, size: u32) -> Extent
@@ -106,7 +107,7 @@ fn fits_memory(reloc: Reloc, base: u32, size: u32) -> bool
 }
 
 /// Whether a segment of this kind, type and size may begin at this base: base and size are counted in bytes, for BIT in
-/// bits from bit address 0. An absolute segment fits as UNIT of its kind.
+/// bits from bit address 0. An absolute segment fits as UNIT of its kind. The kind is not NUMBER, and allows the type.
 ///
 /// Source: RL51 guide.
 pub fn fits(kind: Kind, reloc: Reloc, base: u32, size: u32) -> bool

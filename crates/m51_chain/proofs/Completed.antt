@@ -5,7 +5,7 @@ use Rattle.m51_jobs.specs.declared.job.Job.{Job}
 use Rattle.m51_jobs.specs.Files.{file_count, name_kept, names_read}
 use Rattle.m51_verbs.specs.declared.status.Status.{Status}
 use Rattle.m51_verbs.specs.declared.status.Status.TheVariants as status
-use Rattle.m51_words.specs.Jobs.{job_of}
+use Rattle.m51_args.specs.Jobs.{job_of}
 use Rattle.m51_verbs.specs.Carried as carried
 use Rattle.m51_chain.specs.Complete.{Completed, IsComplete, IsUnfailed}
 use Rattle.m51_chain.specs.Expected as answers

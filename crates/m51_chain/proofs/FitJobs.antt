@@ -10,8 +10,8 @@ use Rattle.m51_jobs.specs.declared.job.Job.{Job}
 use Rattle.m51_jobs.specs.declared.job.Job.TheVariants.{Build, Asm, Library, Flat, Gen, Dis, Stack, Party}
 use Rattle.m51_jobs.specs.Numbers.{number_of, start_of, units_of}
 use Rattle.m51_jobs.specs.Endings.{are_assembled, are_boards, is_source}
-use Rattle.m51_words.specs.Commands.{build_app, asm_app, lib_app, flat_app, gen_app, dis_app, stack_app, party_app, rows_in, value_of, words_of}
-use Rattle.m51_words.specs.Jobs.{asked, asm_files, asm_of, asm_with, gen_with, steps_in, build_of, lib_of, flat_of, gen_of, link_of, party_files, party_of, party_with, job_by, job_of}
+use Rattle.m51_args.specs.Commands.{build_app, asm_app, lib_app, flat_app, gen_app, dis_app, stack_app, party_app, rows_in, value_of, words_of}
+use Rattle.m51_args.specs.Jobs.{asked, asm_files, asm_of, asm_with, gen_with, steps_in, build_of, lib_of, flat_of, gen_of, link_of, party_files, party_of, party_with, job_by, job_of}
 use Rattle.m51_chain.specs.Asked.{IsFit}
 
 -- what is known of a job, if there is one

@@ -9,7 +9,7 @@ use Rattle.m51_chain.specs.declared.work.Work.{Work}
 use Rattle.m51_chain.specs.Work.{answer_of, outcome_of}
 use Rattle.m51_verbs.specs.declared.work.Stop.{Stop}
 use Rattle.m51_verbs.specs.declared.work.Stop.TheVariants as stop
-use Rattle.m51_words.specs.Jobs.{job_of}
+use Rattle.m51_args.specs.Jobs.{job_of}
 use Rattle.m51_shelf.specs.Shelf.{Files}
 use Rattle.m51_shelf.specs.States.{ReadAt, HasFailed}
 use Rattle.m51_verbs.specs.Outcome.{Answer, refused, named_answer}

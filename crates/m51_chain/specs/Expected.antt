@@ -5,7 +5,7 @@ use Rattle.m51_jobs.specs.declared.job.Job.{Job}
 use Rattle.m51_jobs.specs.Files.{file_count, names_read, name_kept}
 use Rattle.m51_verbs.specs.declared.status.Status.{Status}
 use Rattle.m51_verbs.specs.declared.status.Status.TheVariants as status
-use Rattle.m51_words.specs.Jobs.{job_of}
+use Rattle.m51_args.specs.Jobs.{job_of}
 use Rattle.m51_shelf.specs.Shelf.{Files}
 use Rattle.m51_verbs.specs.Outcome.{Answer, Outcome, named_answer}
 use Rattle.m51_verbs.specs.Outcome.{usage_answer, many_answer, long_answer, unread_answer}

@@ -7,7 +7,7 @@ use Rattle.m51_jobs.specs.declared.job.Job.{Job}
 use Rattle.m51_jobs.specs.Files.{file_count, name_kept}
 use Rattle.m51_verbs.specs.declared.status.Status.{Status}
 use Rattle.m51_verbs.specs.declared.status.Status.TheVariants as status
-use Rattle.m51_words.specs.Jobs.{job_of}
+use Rattle.m51_args.specs.Jobs.{job_of}
 use Rattle.m51_shelf.specs.Shelf.{Files, HoldsOthers}
 use Rattle.m51_shelf.specs.States.{HasFailed}
 use Rattle.m51_chain.specs.Outside.{Change}

@@ -5,9 +5,9 @@ ghost use Rattle.m51_verbs.specs.Contents.{AreContentsOf};
 ghost use Rattle.m51_verbs.specs.Outcome.{Comes};
 
 use crate::linking::link_files;
+use m51_args::LinkJob;
 use m51_cells::Bytes;
 use m51_verbs::{Finished, Stop, disassembly, stack_bound};
-use m51_words::LinkJob;
 use std::alloc::Global;
 
 // Links a program, and writes it as a source.

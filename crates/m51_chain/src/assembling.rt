@@ -8,6 +8,7 @@ ghost use Rattle.m51_print.specs.Listing.{AreOf};
 ghost use Rattle.m51_verbs.specs.Contents.{AreContentsOf};
 ghost use Rattle.m51_verbs.specs.Outcome.{Comes, outcome_of};
 
+use m51_args::{AsmJob, FileName};
 use m51_asm::Assembled;
 use m51_cells::{Bytes, NoMemory};
 use m51_inputs::{AssembledSource, assemble_source};
@@ -15,7 +16,6 @@ use m51_module::{Module, Rows, SourceFile};
 use m51_print::listing;
 use m51_records::write_module;
 use m51_verbs::{Ending, Finished, Stop, refuse_source};
-use m51_words::{AsmJob, FileName};
 use std::alloc::Global;
 
 // The object of a module, which is kept, and the listing of its source.

@@ -6,9 +6,9 @@ ghost use Rattle.m51_verbs.specs.Outcome.{Comes};
 
 use crate::linking::link_files;
 use crate::reporting::report;
+use m51_args::BuildJob;
 use m51_cells::Bytes;
 use m51_verbs::{Finished, Stop};
-use m51_words::BuildJob;
 use std::alloc::Global;
 
 // Builds a program and runs it.

@@ -6,11 +6,11 @@ ghost use Rattle.m51_chain.specs.Linking.{IsProgramOutcome, alone};
 ghost use Rattle.m51_verbs.specs.Outcome.{Comes};
 
 use crate::linking::link_alone;
+use m51_args::{GenJob, Steps};
 use m51_asm::{Assembled, assemble};
 use m51_generator::generate;
 use m51_module::Module;
 use m51_verbs::{Finished, Stop, refuse_source, summary};
-use m51_words::{GenJob, Steps};
 use std::alloc::Global;
 
 // Links a module, runs it, and counts.

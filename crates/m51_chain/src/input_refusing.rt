@@ -3,13 +3,13 @@ ghost use Rattle.std.specs.Prelude.{◌≡◌, ◌≢◌, ◌++◌, IfOk, Some};
 ghost use Rattle.m51_chain.specs.InputRefusals.{faults_text, faulty_lines, input_outcome};
 ghost use Rattle.m51_verbs.specs.Outcome.{stopped};
 
+use m51_args::FileName;
 use m51_cells::{Bytes, NoMemory};
 use m51_inputs::{InputError, SourceFaults};
 use m51_verbs::{
     Reason, Stop, library_refused, object_refused, push_faults, refuse_control, refuse_script,
     word_at,
 };
-use m51_words::FileName;
 use std::alloc::Global;
 
 // The lines of the faults of the sources of these words.

@@ -15,13 +15,13 @@ ghost use Rattle.m51_verbs.specs.FlatRuns.{script_in};
 use crate::linking::{board_of, inputs_in, link_alone};
 use crate::unrun::UnrunParty;
 use crate::work::Work;
+use m51_args::{PartyJob, Steps};
 use m51_cells::{Bytes, ListOf, NoMemory};
 use m51_inputs::Inputs;
 use m51_module::Module;
 use m51_script::{Script, ScriptError};
 use m51_sim::Board;
 use m51_verbs::{Stop, content_if, script_in};
-use m51_words::{PartyJob, Steps};
 use std::alloc::Global;
 use std::collections::VecDeque;
 

@@ -6,6 +6,7 @@ ghost use Rattle.m51_chain.specs.Linking.{AreLinkedOr, IsLinkedOr, alone};
 ghost use Rattle.m51_chain.specs.ProgramFiles.{AreAnsweredOr, HasParts, named};
 
 use crate::input_refusing::refuse_inputs;
+use m51_args::FileName;
 use m51_cells::{Bytes, ListOf, NoMemory};
 use m51_control::Controls;
 use m51_inputs::{InputError, Inputs, read_inputs};
@@ -14,7 +15,6 @@ use m51_module::{Library, Module};
 use m51_script::Script;
 use m51_sim::Board;
 use m51_verbs::{Stop, content_if, refuse_link};
-use m51_words::FileName;
 use std::alloc::Global;
 
 // A linked program, and the script of its files.

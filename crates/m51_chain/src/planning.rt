@@ -3,7 +3,7 @@ ghost use Rattle.std.specs.Prelude.{◌≡◌, ◌⊎◌, ◌≤◌, IfOk, None}
 ghost use Rattle.m51_cells.specs.declared.limits.TheConstants.{MOST_FILES};
 ghost use Rattle.m51_shelf.specs.States.{OnlyReads};
 ghost use Rattle.m51_jobs.specs.Files.{file_count, name_kept, names_read};
-ghost use Rattle.m51_words.specs.Jobs.{job_of};
+ghost use Rattle.m51_args.specs.Jobs.{job_of};
 ghost use Rattle.m51_jobs.specs.Texts.{texts};
 ghost use Rattle.m51_chain.specs.Asked.{IsFit};
 ghost use Rattle.m51_chain.specs.Due.{IsDue, IsDueFor, IsPlanned, ReadsOnly};
@@ -19,13 +19,13 @@ use crate::building::build;
 use crate::generating::count;
 use crate::joining::join_files;
 use crate::work::{Task, Work};
+use m51_args::{Job, WordsError, file_count, job_of, name_kept, names_read};
 use m51_cells::{Bytes, MOST_FILES, NoMemory};
 use m51_shelf::{ReadError, Shelf};
 use m51_verbs::{
     Contents, Stop, Target, accepted, operate, read_all, refuse_long_file, refuse_many_files,
     refuse_unread_file, refuse_words, refused, run_flat,
 };
-use m51_words::{Job, WordsError, file_count, job_of, name_kept, names_read};
 use std::alloc::Global;
 
 // What the verb makes of the contents of its files.

@@ -5,6 +5,7 @@ ghost use Rattle.m51_chain.specs.Programs.{IsMap, IsReport, filled_by, hex_kept}
 ghost use Rattle.m51_verbs.specs.Outcome.{outcome_of};
 
 use crate::linking::{LinkedFiles, board_of};
+use m51_args::BuildJob;
 use m51_cells::{Bytes, NoMemory};
 use m51_hex::write_hex;
 use m51_linker::Linked;
@@ -12,7 +13,6 @@ use m51_module::Run;
 use m51_place::heaviest;
 use m51_print::map_text;
 use m51_verbs::{Ending, Finished};
-use m51_words::BuildJob;
 use std::alloc::Global;
 
 // How many bytes the runs have.

@@ -6,10 +6,10 @@ ghost use Rattle.m51_verbs.specs.Carried.{HoldsBut, IsEnded, IsWritten};
 
 use crate::unrun::UnrunParty;
 use crate::work::Task;
+use m51_args::Steps;
 use m51_party::PartyEnd;
 use m51_shelf::{Failed, Shelf, Sink};
 use m51_verbs::{Status, carry_out, status_told};
-use m51_words::Steps;
 
 // The status of a party that came to its end.
 fn party_status(end: PartyEnd) -> Result<Status, Failed>

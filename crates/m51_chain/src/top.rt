@@ -1,6 +1,6 @@
 //! The top call.
 ghost use Rattle.std.specs.Prelude.{◌≡◌, ◌⊎◌, ◌≤◌, None, Some};
-ghost use Rattle.m51_words.specs.Jobs.{job_of};
+ghost use Rattle.m51_args.specs.Jobs.{job_of};
 ghost use Rattle.m51_jobs.specs.Texts.{texts};
 ghost use Rattle.m51_chain.specs.Complete.{IsComplete};
 ghost use Rattle.m51_chain.specs.Due.{ReadsOnly};
@@ -46,7 +46,8 @@ pub fn chain<F: Shelf, S: Sink>(
     ensures usage { job_of (texts words.now) ≡ None → files.new ≡ files.old }
 
     // No other files than those of the words are started, in their order, and of each at most one byte past the limit
-    // is taken; with too many file words none is started.
+    // is taken, where the shelf tells what it hands out, and of the last one in any case; with too many file words none
+    // is started.
     ensures reads { ((F.state files.new).reads ≡ (F.state files.old).reads)
         ⊎ ReadsOnly (texts words.now) (F.state files.old).reads (F.state files.new).reads }
 

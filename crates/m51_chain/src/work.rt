@@ -1,7 +1,7 @@
 //! What the work of a verb comes to, and what is to be done for it.
 use crate::unrun::UnrunParty;
+use m51_args::Steps;
 use m51_verbs::{Finished, Plan};
-use m51_words::Steps;
 
 // What the work of a verb comes to, where it is accepted.
 #[derive(Drop)]

@@ -13,7 +13,7 @@ pub enum Class {
     Bitaddressable,
     /// BIT.
     Bits,
-    /// DATA.
+    /// DATA that is not BITADDRESSABLE.
     Direct,
     /// IDATA.
     Idata,

@@ -41,7 +41,7 @@ impl Controls {
         }
     }
 
-    /// The controls of these lines. It allocates nothing.
+    /// The controls of these lines, which must be as a `Controls` keeps them. It allocates nothing.
     ///
     /// Source: own choice ("Control lines").
     pub fn of(items: Vec<(u32, Control)>) -> Controls

@@ -133,7 +133,7 @@ fn read_from(alloc: Global, symbols: &[Symbol], from: usize) -> Result<(Expr, us
 }
 
 /// The longest expression that begins at a token of the line, and the index of the token after it. Both indices count
-/// from the first token of the line, which is 0.
+/// from the first token of the line, which is 0. The tokens lie in the line, and the index is at most their number.
 ///
 /// Errors: E6 where no expression begins there; or out of memory.
 ///

@@ -205,7 +205,7 @@ fn symbol_of(alloc: Global, line: &[u8], token: &Token) -> Result<Symbol, NoMemo
     }
 }
 
-/// What the tokens of the line are, in order.
+/// What the tokens of the line are, in order. They lie in the line.
 ///
 /// Errors: out of memory.
 ///

@@ -133,7 +133,8 @@ pub fn checksum_place(total: u32, after: &[u8]) -> u32
     place(total, after).saturating_sub(1)
 }
 
-/// Appends a record of the type with these contents.
+/// Appends a record of the type with these contents, which must be less than 65,535 bytes. Error: out of memory;
+/// nothing is said of the bytes then.
 ///
 /// Source: OMF-51.
 pub fn put_record(out: &mut Vec<u8>, record_type: u8, contents: &[u8]) -> Result<(), NoMemory>

@@ -73,9 +73,9 @@ fn inputs_with(
     })
 }
 
-/// Reads the files of a program: those of its file arguments, in the order given, of which each has one of the four
-/// endings and at most 1,048,576 bytes; the control file and the script, if there are any. There are at most 65,535
-/// file arguments, and as many contents.
+/// Reads the files of a program: those of its file arguments, in the order given, of which each has at most 1,048,576
+/// bytes; the control file and the script, if there are any. There are at most 65,535 file arguments, and as many
+/// contents. A file argument without one of the four endings gives nothing.
 ///
 /// Every source is assembled with all includes, each under its argument. Sources and objects are the given modules, in
 /// word order.

@@ -83,8 +83,8 @@ fn vector_effect(effect: &mut Effect, cpu: &Cpu, source: Source)
     effect.transfer = Transfer::Vector(source);
 }
 
-/// What taking an interrupt comes to over a store. It changes the effect alone: the caller puts `first` and then
-/// `second`.
+/// What taking an interrupt does over a store. It changes the effect alone: the caller puts `first` and then `second`.
+/// After an error the effect has no meaning.
 ///
 /// - `Outside`: the lowest cell of the first put, then of the second, that may not be written.
 /// - No error, else: the interrupt is acknowledged, and its vector called, in two cycles.

@@ -39,7 +39,7 @@ fn erased(alloc: Global, count: usize) -> Result<Vec<u8>, AllocError>
 }
 
 impl Image {
-    /// The image of a memory that is erased: all bytes are FFH.
+    /// The image of a memory that is erased: all bytes are FFH. Error: out of memory.
     ///
     /// Source: own choice ("Images").
     pub fn blank(alloc: Global) -> Result<Image, NoMemory>

@@ -49,7 +49,7 @@ fn is_vector(address: u16) -> bool
 }
 
 impl Layout {
-    /// The layout of these parts. Out of memory is the only error.
+    /// The layout of these parts, which must be sound. Out of memory is the only error.
     ///
     /// Source: own choice ("Layouts").
     pub fn make(alloc: Global, parts: LayoutParts) -> Result<Layout, NoMemory>

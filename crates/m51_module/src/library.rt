@@ -158,7 +158,8 @@ impl Library {
         Ok(())
     }
 
-    /// A module that is equal to the one of that name. It is refused by `B2` where there is none.
+    /// A module that is equal to the one of that name. It is refused by `B2` where there is none; `Memory` is the only
+    /// other error.
     ///
     /// Source: own choice ("Libraries").
     pub fn extract(&self, alloc: Global, name: &Name) -> Result<Module, LibError>

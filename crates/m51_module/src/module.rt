@@ -30,7 +30,7 @@ impl Model for Module {
 }
 
 impl Module {
-    /// The module of these parts. It allocates nothing.
+    /// The module of these parts, which must be valid. It allocates nothing.
     ///
     /// Source: own choice ("Valid modules").
     pub fn make(parts: ModuleParts) -> Module

@@ -39,7 +39,7 @@ pub struct Placed {
 }
 
 impl Placed {
-    /// The cells that it covers.
+    /// The cells that it covers. Its kind is not NUMBER.
     ///
     /// Source: own choice ("A cell of RAM is a bit").
     pub fn cells(&self) -> Extent
@@ -49,7 +49,7 @@ impl Placed {
         cells_of(self.kind, u32::from(self.base), u32::from(self.size))
     }
 
-    /// Whether a segment of program memory covers the address.
+    /// Whether a segment of program memory, which it must be, covers the address.
     ///
     /// Source: own choice ("Units").
     pub fn covers(&self, address: u16) -> bool

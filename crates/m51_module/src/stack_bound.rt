@@ -27,7 +27,8 @@ pub type Procs = ListOf<Proc>;
 pub struct RootDepth {
     /// The unit that the root is.
     pub root: u16,
-    /// For the reset the greatest SP, for an interrupt the bytes above its return address.
+    /// The most that all ways through the program give, also those that no run takes: for the reset of SP, for an
+    /// interrupt of the bytes above its return address.
     pub depth: u16,
     /// The starts from the root's own on, each of which calls the next.
     pub path: Starts,
@@ -46,7 +47,7 @@ pub struct StackBound {
     /// The starts other than the reset.
     pub procs: Procs,
     pub roots: RootDepths,
-    /// The greatest value of SP.
+    /// A value that SP does not pass before an event: the greatest that the reset and two handlers come to together.
     pub total: u8,
 }
 

@@ -138,7 +138,8 @@ pub fn place_all(
     })
 }
 
-/// The layout of chosen modules over the graph that they and these control lines have, as `place_all` gives it.
+/// The layout of chosen modules over the graph that they and these control lines have, or the refusal, as `place_all`
+/// gives it. Out of memory may come in place of any answer.
 ///
 /// Source: RL51 guide.
 pub fn place(

@@ -35,11 +35,11 @@ root_line root depth path =
 abbrev pub line_of_root : LayoutParts → RootDepth → List ℕ
 line_of_root l root = root_line (unit_title l root.root) root.depth root.path
 
--- the line of the greatest SP
+-- the line of the bound on SP
 abbrev pub bound_line : ℕ → List ℕ
 bound_line total = codes "BOUND " ++ hex2 total ++ codes "\n"
 
--- a stack bound: each procedure, each root, and the greatest SP
+-- a stack bound: each procedure, each root, and the bound on SP
 unfoldable pub stack_of : LayoutParts → StackBound → List ℕ
 stack_of l bound =
     flat_map (line_of_proc l) bound.procs ++ flat_map (line_of_root l) bound.roots ++ bound_line bound.total

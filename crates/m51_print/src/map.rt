@@ -195,7 +195,7 @@ fn push_image(text: &mut Vec<u8>, bytes: u32) -> Result<(), NoMemory>
 
 /// The map of a layout, from the line `SEGMENTS` to the line of the image's bytes. There is a byte of roots for each
 /// unit: bit 0 is set where it lies under the root at 0000H, and bits 1 to 6 are for the interrupts in order. The
-/// chains name units of the layout. `bytes` is how many bytes content fills.
+/// chains name units of the layout. `bytes` is how many bytes content fills. Error: out of memory.
 ///
 /// Source: own choice ("Texts").
 #[tactic(auto, unfolding(crate::specs::Map::map_of))]

@@ -157,7 +157,7 @@ fn push_refusal(text: &mut Vec<u8>, refusal: &Refusal) -> Result<(), NoMemory>
 }
 
 /// The line of a refusal, line feed included: for a rule of linking its number and the names, and for a limit what it
-/// is of and its number. Out of memory is no such refusal.
+/// is of and its number. Out of memory is no such refusal. Error: out of memory.
 ///
 /// Source: own choice ("Texts").
 pub fn refusal_text(alloc: Global, refusal: &Refusal) -> Result<Vec<u8>, NoMemory>

@@ -114,7 +114,7 @@ fn push_roots(text: &mut Vec<u8>, layout: &Layout, roots: &[RootDepth]) -> Resul
     Ok(())
 }
 
-// Appends the line of the greatest SP.
+// Appends the line of the bound.
 fn push_bound(text: &mut Vec<u8>, total: u8) -> Result<(), NoMemory>
     ensures { OnOk result (text.new.items ≡ text.old.items ++ bound_line total) }
 {
@@ -124,7 +124,8 @@ fn push_bound(text: &mut Vec<u8>, total: u8) -> Result<(), NoMemory>
 }
 
 /// The stack bound of a program: a line for each start other than the reset, a line for each root, both in the order of
-/// the bound, and the greatest SP. The units and roots of the bound are units of the layout. Error: out of memory.
+/// the bound, and the line of its total. The units and roots of the bound are units of the layout. Error: out of
+/// memory.
 ///
 /// Source: own choice ("Texts").
 #[tactic(auto, unfolding(crate::specs::Stack::stack_of))]

@@ -171,7 +171,7 @@ impl BitRows {
         has_pair(&self.rows, usize::from(from), usize::from(to))
     }
 
-    /// Puts the pair into the set.
+    /// Puts the pair of units of the set into it.
     ///
     /// Source: own choice ("Closed rows").
     pub fn put(&mut self, from: u16, to: u16)
@@ -183,7 +183,7 @@ impl BitRows {
         self.rows[usize::from(from)].put(usize::from(to));
     }
 
-    /// The row of the first unit of pairs, lent.
+    /// The row of the first unit of pairs, which is one of the set, lent.
     ///
     /// Source: own choice ("Closed rows").
     pub fn row(&self, from: u16) -> &[u64]
@@ -204,7 +204,7 @@ impl BitRows {
         close_rows(alloc, &mut self.rows)
     }
 
-    /// Puts the pair into the set, if that is so.
+    /// Puts the pair of units of the set into it, if that is so.
     ///
     /// Source: own choice ("Closed rows").
     pub fn put_if(&mut self, from: u16, to: u16, holds: bool)
@@ -219,7 +219,8 @@ impl BitRows {
         }
     }
 
-    /// The pairs of this set, and those joined by a pair of the tests and then one of the other set.
+    /// The pairs of this set, and those joined by a pair of the tests and then one of the other set, which is of as
+    /// many units.
     /// Error: out of memory.
     ///
     /// Source: own choice ("Closed rows").

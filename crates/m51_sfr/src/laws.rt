@@ -8,7 +8,7 @@ pub fn table_is_the_manuals()
     ensures { TableIsTheManuals }
 {}
 
-/// No two names, of registers or of bits, are the same.
+/// No two names, of registers or of bits with addresses, are the same.
 ///
 /// Source: family manual.
 pub fn names_differ()

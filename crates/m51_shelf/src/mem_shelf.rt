@@ -29,9 +29,9 @@ pub enum Call {
     Keep,
 }
 
-/// Files in memory. Contracts see what they hold and what was kept; of two files of one name the first counts, what is
-/// kept does not show among those that are read. A call fails exactly where its number, counted from 1 in its kind, is
-/// listed, a start also where the file is not there, and a keep also where there is no place or no room for it.
+/// Files in memory. Contracts see what they hold and what was kept; of two files of one name the first counts, and what
+/// is kept does not show among those that are read. A call fails exactly where its number, counted from 1 in its kind,
+/// is listed, a start also where the file is not there, and a keep also where there is no place or no room for it.
 ///
 /// Source: own choice ("The outside").
 #[derive(Drop)]

@@ -7,7 +7,7 @@ use crate::sink::{Failed, Sink};
 use std::io::ErrorKind;
 use std::marker::Model;
 
-/// How often a call on the outside is made again, after signals have interrupted it.
+/// How often a call on the outside is made again at most, after signals have interrupted it.
 ///
 /// Source: own choice ("Calls on the outside").
 pub const MOST_TRIES: u32 = 1_000_000;

@@ -36,8 +36,8 @@ fn with_bytes(old: Greatest, bytes: u16) -> Greatest
     old
 }
 
-/// The greatest value of SP: the depth of the reset, and the two greatest depths of interrupts, each with two bytes for
-/// its return address.
+/// The total, which SP does not pass before an event: the depth of the reset, and the two greatest depths of
+/// interrupts, each with two bytes for its return address.
 pub(crate) fn total_of(depths: &[u16], vectors: &[u16]) -> u16
     requires len { length depths.now ≡ 65537 }
     requires most { (i : ℕ) → i < length depths.now → slice_index depths.now i ≤ 256 }

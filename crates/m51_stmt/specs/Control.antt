@@ -19,7 +19,6 @@ opening = 40
 abbrev pub closing : ℕ
 closing = 41
 
--- a blank or a tab
 -- a byte that may stand between the parentheses of a control: none of ) and ;
 abbrev pub is_inside : ℕ → Bool
 is_inside b = not (b == closing) && not (b == semicolon)

@@ -9,8 +9,9 @@ use std::alloc::{AllocError, AllocFailed};
 /// Source: own choice ("Faults of a line").
 #[derive(Clone, Copy, Debug, PartialEq, Eq)]
 pub enum StmtError {
-    /// The fault E`number`: 1 to 5 as of tokens, 6 if an expression is missing, 11 for no instruction or a form that it
-    /// has not, 12 for a directive, definition or control line with a syntax error, or a reserved word.
+    /// The fault E`number`: 1 to 5 as of tokens, 6 if an expression or an operand is missing, 11 for no instruction or
+    /// a form that it has not, 12 for a first `%`, for a directive, definition or control line with a syntax error, or
+    /// for a reserved word that is defined.
     Fault { number: u8 },
     /// Out of memory.
     Memory,

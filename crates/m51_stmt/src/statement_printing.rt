@@ -198,7 +198,8 @@ fn put_label(out: &mut Vec<u8>, label: &Option<Name>) -> Result<(), NoMemory>
 }
 
 /// The line of a statement: each token with a blank after it, numbers in hexadecimal, and each operator with its
-/// operands in parentheses. By `printed_reads_back` each statement that a line writes is what `read_line` gives of it.
+/// operands in parentheses. By `printed_reads_back` each statement that a line writes is what `read_line` gives of its
+/// printed line where that has at most 255 bytes; of a longer one it gives E5.
 ///
 /// Errors: out of memory.
 ///

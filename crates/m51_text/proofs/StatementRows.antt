@@ -5,7 +5,7 @@ use Rattle.m51_stmt.specs.Statement.{BodyTree, StmtTree}
 use Rattle.m51_stmt.proofs.PrintedBodies.{IsBody}
 use Rattle.m51_stmt.proofs.PrintedStatements.{IsControl, IsLine}
 use Rattle.m51_stmt.proofs.ReadStatements.{written_is_good}
-use Rattle.m51_coding.proofs.FormRows.{forms_have_rows}
+use Rattle.m51_encode.proofs.FormRows.{forms_have_rows}
 use Rattle.m51_text.specs.Rows.{HasRows, StatementsHaveRows}
 
 body_has_rows : (at : ℕ) (b : BodyTree) → IsBody at b → HasRows b

@@ -3,7 +3,7 @@ use Rattle.std.specs.Prelude.{ℕ, List}
 use Rattle.m51_isa.specs.declared.generics.Jump.{Jump}
 use Rattle.m51_stmt.specs.Statement.{BodyTree, StmtTree, Code}
 use Rattle.m51_stmt.specs.Laws.{WritesStatement}
-use Rattle.m51_coding.specs.Lengths.{HasRow}
+use Rattle.m51_encode.specs.Lengths.{HasRow}
 
 -- an instruction has a row in each form
 abbrev pub HasRows : BodyTree → Type 0

@@ -102,7 +102,7 @@ fn told(alloc: Global, entries: Vec<Entry>) -> Result<Text, NoMemory>
 /// - E17: an include that is not given, or is too deep;
 /// - E19: line 65,536.
 ///
-/// Error: out of memory.
+/// Condition: at most 65,535 includes. Error: out of memory.
 ///
 /// Source: own choice ("The text of a source").
 pub fn read_text(

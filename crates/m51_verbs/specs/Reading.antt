@@ -61,12 +61,12 @@ abbrev pub files_with : List (List ℕ) → List (List ℕ) → List File
 files_with (name ∷ names) (bytes ∷ contents) = (name, bytes) ∷ files_with names contents
 files_with names contents = []
 
--- the shelf handed out these files with all their bytes, and nothing else
+-- the shelf handed out these files with all their bytes, and nothing else, where it tells what it hands out
 abbrev pub AreGiven : List (List ℕ) → ReadAt → ReadAt → List (List ℕ) → Type 0
 AreGiven names before after contents = Grows before.given after.given (files_with names contents)
 
 -- The first of these names were started, in order, and no other file, and of each at most one byte past the limit was
--- taken.
+-- taken, where the shelf tells what it hands out.
 pub record AreStarted (names : List (List ℕ)) (before after : ReadAt) : Type 0 where
   pub files : List File
   pub rest : List (List ℕ)

@@ -5,12 +5,12 @@ ghost use Rattle.m51_verbs.specs.Counts.{overlaid_size, overlaid_sizes, summary_
 ghost use Rattle.m51_verbs.specs.Outcome.{outcome_of, status_at, status_by, text_at};
 
 use crate::work::{Ending, Finished};
+use m51_args::Steps;
 use m51_cells::{Bytes, NoMemory};
 use m51_module::{Image, Layout, Mark, Placed, Tally};
 use m51_print::{overlaid_below, summary_text};
 use m51_script::Script;
 use m51_sim::Board;
-use m51_words::Steps;
 use std::alloc::Global;
 
 // The size of an overlaid segment, and 0 of another.

@@ -10,10 +10,10 @@ ghost use Rattle.m51_verbs.specs.Outcome.{stopped};
 
 use crate::object_refusing::refuse_object;
 use crate::work::Stop;
+use m51_args::{FileName, Operation};
 use m51_cells::{Bytes, ListOf, Name, NoMemory};
 use m51_library::read_object;
 use m51_module::{LibError, Library, Module};
-use m51_words::{FileName, Operation};
 use std::alloc::Global;
 use std::collections::VecDeque;
 

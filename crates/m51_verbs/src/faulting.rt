@@ -7,9 +7,9 @@ ghost use Rattle.m51_verbs.specs.FaultLines.{fault_line, fault_lines, file_of_te
 ghost use Rattle.m51_verbs.specs.Outcome.{refused, stopped};
 
 use crate::work::{Reason, Stop};
+use m51_args::{FileName, is_include};
 use m51_cells::{Bytes, NoMemory};
 use m51_module::{Fault, SourceFile};
-use m51_words::{FileName, is_include};
 use std::alloc::Global;
 
 // The include of that number among the file words, counted from 0.

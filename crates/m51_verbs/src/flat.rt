@@ -17,12 +17,12 @@ use crate::optional::content_if;
 use crate::refusing::bytes_of;
 use crate::script_refusing::refuse_script;
 use crate::work::{Ending, Finished, Stop};
+use m51_args::FlatJob;
 use m51_cells::{Bytes, NoMemory};
 use m51_hex::{HexError, read_hex};
 use m51_module::Image;
 use m51_script::{Script, ScriptError, read_script};
 use m51_sim::FlatBoard;
-use m51_words::FlatJob;
 use std::alloc::Global;
 
 // What is wrong with a HEX file, and in which line.

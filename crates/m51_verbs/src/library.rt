@@ -18,11 +18,11 @@ ghost use Rattle.m51_verbs.specs.Outcome.{Comes, outcome_of, stopped};
 use crate::editing::{edits_of, make_edits};
 use crate::object_refusing::{refuse_edit, refuse_library};
 use crate::work::{Ending, Finished, Stop, text_alone};
+use m51_args::{FileName, LibraryJob, Operation};
 use m51_cells::{Bytes, Name, NoMemory};
 use m51_library::{read_library, write_library};
 use m51_module::{LibError, Library, Module};
 use m51_records::write_module;
-use m51_words::{FileName, LibraryJob, Operation};
 use std::alloc::Global;
 
 // The library of this name.

@@ -3,8 +3,8 @@ ghost use Rattle.std.specs.Prelude.{◌≡◌};
 ghost use Rattle.std.specs.Option.{option_copied};
 ghost use Rattle.m51_verbs.specs.Optional.{content_if};
 
+use m51_args::FileName;
 use m51_cells::Bytes;
-use m51_words::FileName;
 
 /// The first of these contents, where the option names a file.
 ///

@@ -3,9 +3,9 @@ ghost use Rattle.std.specs.Prelude.{◌≡◌, ◌⊎◌, [], OnOk};
 ghost use Rattle.m51_shelf.specs.States.{OnlyReads};
 ghost use Rattle.m51_verbs.specs.Reading.{AreGiven, AreReadOr, ReadsSome};
 
+use m51_args::FileName;
 use m51_cells::{Bytes, ListOf};
 use m51_shelf::{ReadError, Shelf, read_file};
-use m51_words::FileName;
 use std::alloc::Global;
 
 /// The contents of files, in order, which contracts see as a list.

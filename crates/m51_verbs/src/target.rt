@@ -2,8 +2,8 @@
 ghost use Rattle.std.specs.Prelude.{◌≡◌, IfOk, string_bytes};
 ghost use Rattle.m51_verbs.specs.Targets.{unkept_text};
 
+use m51_args::FileName;
 use m51_cells::{Bytes, NoMemory};
-use m51_words::FileName;
 use std::alloc::Global;
 use std::marker::Model;
 

@@ -3,9 +3,9 @@ ghost use Rattle.std.specs.Prelude.{◌≡◌};
 ghost use Rattle.m51_verbs.specs.Outcome.{outcome_of, status_of, written};
 
 use crate::status::Status;
+use m51_args::Steps;
 use m51_cells::{Bytes, NoMemory};
 use m51_sim::{Board, FlatBoard};
-use m51_words::Steps;
 
 /// Why the work of a verb is refused.
 ///

@@ -1,7 +1,7 @@
 use Rattle.std.proofs.Common.{◌++◌, [], ap, ◌∙◌}
 use Rattle.m51_stmt.specs.Statement.{body_tree}
 use Rattle.m51_text.specs.Answer.{line_tree}
-use Rattle.m51_content.specs.Outcomes.{or_next}
+use Rattle.m51_emit.specs.Outcomes.{or_next}
 use Rattle.m51_asm.specs.ContentFaults.{if_fault}
 use Rattle.m51_asm.specs.ObjectNames.{object_names, AreNamesAt}
 use Rattle.m51_asm.specs.Publishing.{published_by, publics_among, fault_among}

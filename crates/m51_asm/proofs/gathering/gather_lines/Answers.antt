@@ -2,8 +2,8 @@ use Rattle.std.proofs.Common.{◌≡◌, ◌<◌, map, length, refl, ap, sym, su
 use Rattle.std.proofs.lemmas.List.{length-map}
 use Rattle.std.proofs.lemmas.Option.{slice_get_read}
 use Rattle.m51_text.specs.Answer.{line_tree}
-use Rattle.m51_content.specs.Within.{LieInside}
-use Rattle.m51_content.specs.declared.content.Content.{Content}
+use Rattle.m51_emit.specs.Within.{LieInside}
+use Rattle.m51_emit.specs.declared.content.Content.{Content}
 use Rattle.m51_asm.specs.Assignment.{TextSegment}
 use Rattle.m51_asm.specs.Gathering.{gathered_before}
 use Rattle.m51_asm.specs.Numbering.{number_at}

@@ -1,0 +1,23 @@
+use Rattle.std.proofs.Common.{◌≡◌, rules}
+use Rattle.clap.specs.Words.{app_of, found_of, rows_of}
+use Rattle.clap.specs.declared.parser.matches.ArgMatches.{ArgMatches}
+use Rattle.m51_jobs.specs.declared.job.Job.TheVariants.{Stack}
+use Rattle.m51_args.specs.Commands.{stack_app}
+use Rattle.m51_args.specs.Jobs.{link_of}
+use Rattle.m51_args.proofs.Asking.{asked_err, asked_some, unmatched_err}
+use Rattle.m51_args.proofs.analysis_verbs.stack_job.Goals as goal
+
+pub returns : goal.returns
+returns c =
+    let command : app_of c.in_ok-command.command ≡ stack_app = search rules in
+    asked_some stack_app _ link_of Stack _ _ _ command c.in_ok-matches.ensures c.in_ok-link_of.ensures
+
+pub returns-in_err-link_of : goal.returns-in_err-link_of
+returns-in_err-link_of c =
+    let command : app_of c.in_ok-command.command ≡ stack_app = search rules in
+    asked_err stack_app _ link_of Stack _ _ _ c.from_residual-in_err-link_of.result command c.in_ok-matches.ensures c.in_err-link_of.ensures c.from_residual-in_err-link_of.ensures.1
+
+pub returns-in_err-matches : goal.returns-in_err-matches
+returns-in_err-matches c =
+    let command : app_of c.in_ok-command.command ≡ stack_app = search rules in
+    unmatched_err {T = ArgMatches} (λ matches. rows_of (found_of matches)) stack_app _ link_of Stack _ _ c.from_residual-in_err-matches.result command c.in_err-matches.ensures c.from_residual-in_err-matches.ensures.1

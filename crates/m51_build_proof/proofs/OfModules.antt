@@ -1,0 +1,271 @@
+-- What holds of the module of each source and of each object holds of all modules that are linked.
+use Rattle.std.proofs.Common.{◌≡◌, ℕ, zero, suc, ◌+◌, ◌<◌, Bool, true, false, cond, List, [], ◌∷◌, ◌++◌, length, Option, Some, None, Result, Ok, Err, refl, sym, ap, subst}
+use Rattle.std.specs.Prelude.{option_map}
+use Rattle.std.specs.Option.{option_map_or}
+use Rattle.std.specs.List.{All}
+use Rattle.std.proofs.lemmas.List.Elements.{All-nil, All-cons, All-head, All-tail, All-take, All-append}
+use Rattle.std.proofs.lemmas.Option.{same_Some}
+use Rattle.m51_cells.specs.Outcome.{and_then}
+use Rattle.m51_cells.proofs.Small.{all_one}
+use Rattle.m51_control.specs.declared.control.Control.{Control}
+use Rattle.m51_control.specs.declared.error.ControlError.{ControlError}
+use Rattle.m51_control.specs.Controls.{AreKept, controls_of}
+use Rattle.m51_module.specs.declared.library_error.LibError.{LibError}
+use Rattle.m51_module.specs.declared.linked.Refusal.{Refusal}
+use Rattle.m51_module.specs.declared.object_error.ObjError.{ObjError}
+use Rattle.m51_module.specs.declared.parts.ModuleParts.{ModuleParts}
+use Rattle.m51_module.specs.declared.source.Row.{Row}
+use Rattle.m51_module.specs.declared.source.SourceFile.{SourceFile}
+use Rattle.m51_module.specs.Library.{built}
+use Rattle.m51_asm.specs.Answer.{AnswerTree, Faults, Gives, IsAnswer}
+use Rattle.m51_records.specs.declared.types.TheConstants.{LIBRARY_HEADER}
+use Rattle.m51_records.specs.Reading.{module_at, one_at}
+use Rattle.m51_records.specs.Spelling.{bytes_of, records_in}
+use Rattle.m51_records.proofs.FieldLaws.{IsBytes, fit_back}
+use Rattle.m51_records.proofs.ModuleLaws.{IsRead, module_takes}
+use Rattle.m51_records.proofs.Tools.{on_ok, ok_is}
+use Rattle.m51_library.specs.Reading.{at_end, count_in, library_of, module_in, modules_at, modules_of, nothing_after, or_object}
+use Rattle.m51_library.specs.Spelling.{count_record}
+use Rattle.m51_library.proofs.Accepting.{makes_all}
+use Rattle.m51_library.proofs.LibraryLaws.{first_takes}
+use Rattle.m51_jobs.specs.declared.endings.Ending.{Ending}
+use Rattle.m51_jobs.specs.declared.endings.Ending.TheVariants as ending
+use Rattle.m51_jobs.specs.Endings.{ending_of}
+use Rattle.m51_inputs.specs.declared.error.InputError.{InputError}
+use Rattle.m51_inputs.specs.declared.error.SourceFaults.{SourceFaults}
+use Rattle.m51_inputs.specs.Files.{includes_of, source_words, sources_of}
+use Rattle.m51_inputs.specs.Inputs.{InputsTree, controls_in, inputs_of, or_control, script_in}
+use Rattle.m51_inputs.specs.Objects as objects
+use Rattle.m51_inputs.specs.Objects.{linked_by, linked_from, or_library, with_library, with_module, with_source}
+use Rattle.m51_inputs.specs.Sources.{AreAnswers, faults_in, modules_in, unless_faults}
+use Rattle.m51_resolve.specs.Choice.{choice, chosen_of, first_needed, is_needed, members_of}
+use Rattle.m51_resolve.specs.Rules.{first_refusal, resolved_of, unless_refused}
+use Rattle.m51_chain.specs.ProgramFiles.{AreAnswered, ProgramFiles, word_contents}
+use Rattle.m51_chain.proofs.Accepted.{on_value}
+use Rattle.m51_build_proof.specs.Builds.{AreOfBytes}
+use Rattle.m51_build_proof.proofs.ControlsKept.{controls_kept, none_kept}
+
+-- control lines
+accepted : (found : Result (List (ℕ × Control)) ControlError) (controls : List (ℕ × Control)) → or_control found ≡ Ok controls → found ≡ Ok controls
+accepted (Ok all) controls h = let same : all ≡ controls = cc h in ap (λ (c : List (ℕ × Control)). Ok c) same
+accepted (Err error) controls h = absurd (cc h)
+
+lines_kept : (control : Option (List ℕ)) (controls : List (ℕ × Control)) → controls_in control ≡ Ok controls → AreKept controls
+lines_kept None controls h = let same : [] ≡ controls = cc h in subst AreKept same none_kept
+lines_kept (Some file) controls h = controls_kept file controls (accepted (controls_of file) controls h)
+
+module _ (P : ModuleParts → Type 0)
+    (of_source : (source : SourceFile) (includes : List SourceFile) (m : ModuleParts) (rows : List Row) → IsAnswer source includes (Gives m rows) → P m)
+    (of_object : (bytes : List ℕ) (m : ModuleParts) (rest : List ℕ) → IsBytes bytes → IsRead bytes m rest → P m) where
+  abbrev IsByte : ℕ → Type 0
+  IsByte byte = byte < 256
+
+  -- bytes, as readers of objects have them
+  bytes_are : (file : List ℕ) → All IsByte file → IsBytes file
+  bytes_are [] h = tt
+  bytes_are (byte ∷ more) h = (All-head IsByte byte more h, bytes_are more (All-tail IsByte byte more h))
+
+  -- the sources
+  sources_valid : (includes sources : List SourceFile) (answers : List AnswerTree) → AreAnswers includes sources answers → All P (modules_in answers)
+  sources_valid includes [] [] h = All-nil P
+  sources_valid includes [] (answer ∷ answers) h = absurd h
+  sources_valid includes (source ∷ sources) [] h = absurd h
+  sources_valid includes (source ∷ sources) (Gives parts rows ∷ answers) h =
+      All-cons P parts (modules_in answers) (of_source source includes parts rows h.0) (sources_valid includes sources answers h.1)
+  sources_valid includes (source ∷ sources) (Faults faults ∷ answers) h = sources_valid includes sources answers h.1
+
+  -- an object
+  alone : (total : ℕ) (found : ModuleParts × List ℕ) (rest : List ℕ) (m : ModuleParts) → found.1 ≡ rest → at_end total rest found.0 ≡ Ok m → found.0 ≡ m
+  alone total found [] m is h = ok_is found.0 m h
+  alone total found (byte ∷ rest) m is h = absurd (cc h)
+
+  object_valid : (file : List ℕ) (m : ModuleParts) → IsBytes file → module_in file ≡ Ok m → P m
+  unfolding module_in
+  object_valid file m bytes h =
+      on_ok (module_at (length file) 0 file) (nothing_after (length file)) m (P m)
+      (λ found read ended. subst P (alone (length file) found found.1 m refl ended) (of_object file found.0 found.1 bytes (module_takes (length file) 0 file found bytes read))) h
+
+  -- a library
+  abbrev Modules : List ModuleParts × List ℕ → Type 0
+  Modules found = All P found.0
+
+  modules_valid : (count total number : ℕ) (bytes : List ℕ) (found : List ModuleParts × List ℕ) → IsBytes bytes → modules_at count total number bytes ≡ Ok found → Modules found
+  unfolding modules_at
+  modules_valid zero total number bytes found fits h = subst Modules (ok_is ([], bytes) found h) (All-nil P)
+  modules_valid (suc count) total number bytes found fits h =
+      on_ok (module_at total number bytes) _ found (Modules found) (λ one read later.
+      let is : IsRead bytes one.0 one.1 = module_takes total number bytes one fits read in
+      let rest : IsBytes one.1 = fit_back (bytes_of one.0) one.1 (subst IsBytes is.bytes_are fits) in
+      on_ok (modules_at count total (number + records_in one.0) one.1) _ found (Modules found) (λ others next done.
+      subst Modules (ok_is (one.0 ∷ others.0, others.1) found done)
+      (All-cons P one.0 others.0 (of_object bytes one.0 one.1 fits is) (modules_valid count total (number + records_in one.0) one.1 others rest next))) later) h
+
+  all_alone : (total : ℕ) (found : List ModuleParts × List ℕ) (rest : List ℕ) (ms : List ModuleParts) → found.1 ≡ rest → at_end total rest found.0 ≡ Ok ms → found.0 ≡ ms
+  all_alone total found [] ms is h = ok_is found.0 ms h
+  all_alone total found (byte ∷ rest) ms is h = absurd (cc h)
+
+  file_valid : (file : List ℕ) (ms : List ModuleParts) → IsBytes file → modules_of file ≡ Ok ms → All P ms
+  unfolding modules_of
+  file_valid file ms bytes h =
+      on_ok (one_at LIBRARY_HEADER count_in (length file) 0 file) _ ms (All P ms) (λ count read later.
+      let is : file ≡ count_record count.0 ++ count.1 = first_takes (length file) file count.0 count.1 bytes read in
+      let rest : IsBytes count.1 = fit_back (count_record count.0) count.1 (subst IsBytes is bytes) in
+      on_ok (modules_at count.0 (length file) 1 count.1) _ ms (All P ms) (λ found next ended.
+      subst (λ (xs : List ModuleParts). All P xs) (all_alone (length file) found found.1 ms refl ended)
+      (modules_valid count.0 (length file) 1 count.1 found rest next)) later) h
+
+  library_by : (file : List ℕ) (ms : List ModuleParts) (read : Result (List ModuleParts) ObjError) → IsBytes file → modules_of file ≡ read → and_then (or_object read) built ≡ Ok ms → All P ms
+  library_by file ms (Ok all) bytes is h = subst (λ (xs : List ModuleParts). All P xs) (sym (makes_all [] all ms h)) (file_valid file all bytes is)
+  library_by file ms (Err error) bytes is h = absurd (cc h)
+
+  library_valid : (file : List ℕ) (ms : List ModuleParts) → IsBytes file → library_of file ≡ Ok ms → All P ms
+  library_valid file ms bytes h = library_by file ms (modules_of file) bytes refl h
+
+  -- what the words of a program give
+  record AreLinked (l : objects.Linked) : Type 0 where
+    modules : All P l.modules
+    libraries : All (All P) l.libraries
+
+  linked_same : (x y : objects.Linked) (h : ◌≡◌ {A = Result objects.Linked InputError} (Ok x) (Ok y)) → x ≡ y
+  linked_same x y h = cc h
+
+  -- what the words after give
+  abbrev AreFollowed : (List ModuleParts → Result objects.Linked InputError) → Type 0
+  AreFollowed after = (sources : List ModuleParts) (l : objects.Linked) → All P sources → after sources ≡ Ok l → AreLinked l
+
+  module_first : (r : Result objects.Linked InputError) (m : ModuleParts) (l : objects.Linked) → P m → ((k : objects.Linked) → r ≡ Ok k → AreLinked k) → with_module r m ≡ Ok l → AreLinked l
+  module_first (Ok k) m l valid rest h =
+      let more = rest k refl in
+      subst AreLinked (linked_same (record { modules = m ∷ k.modules; libraries = k.libraries }) l h)
+      (record { modules = All-cons P m k.modules valid more.modules; libraries = more.libraries })
+  module_first (Err error) m l valid rest h = absurd (cc h)
+
+  library_first : (r : Result objects.Linked InputError) (ms : List ModuleParts) (l : objects.Linked) → All P ms → ((k : objects.Linked) → r ≡ Ok k → AreLinked k) → with_library r ms ≡ Ok l → AreLinked l
+  library_first (Ok k) ms l valid rest h =
+      let more = rest k refl in
+      subst AreLinked (linked_same (record { modules = k.modules; libraries = ms ∷ k.libraries }) l h)
+      (record { modules = more.modules; libraries = All-cons (All P) ms k.libraries valid more.libraries })
+  library_first (Err error) ms l valid rest h = absurd (cc h)
+
+  source_first : (sources : List ModuleParts) (after : List ModuleParts → Result objects.Linked InputError) (l : objects.Linked) → All P sources → AreFollowed after → with_source sources after ≡ Ok l → AreLinked l
+  source_first [] after l valid rest h = rest [] l valid h
+  source_first (m ∷ sources) after l valid rest h =
+      module_first (after sources) m l (All-head P m sources valid) (λ k is. rest sources k (All-tail P m sources valid) is) h
+
+  object_first : (word : ℕ) (file : List ℕ) (found : Result ModuleParts ObjError) (r : Result objects.Linked InputError) (l : objects.Linked) → IsBytes file → module_in file ≡ found
+      → ((k : objects.Linked) → r ≡ Ok k → AreLinked k) → and_then (objects.or_object word found) (with_module r) ≡ Ok l → AreLinked l
+  object_first word file (Ok m) r l bytes is rest h = module_first r m l (object_valid file m bytes is) rest h
+  object_first word file (Err error) r l bytes is rest h = absurd (cc h)
+
+  archive_first : (word : ℕ) (file : List ℕ) (found : Result (List ModuleParts) LibError) (r : Result objects.Linked InputError) (l : objects.Linked) → IsBytes file → library_of file ≡ found
+      → ((k : objects.Linked) → r ≡ Ok k → AreLinked k) → and_then (or_library word found) (with_library r) ≡ Ok l → AreLinked l
+  archive_first word file (Ok ms) r l bytes is rest h = library_first r ms l (library_valid file ms bytes is) rest h
+  archive_first word file (Err error) r l bytes is rest h = absurd (cc h)
+
+  word_first : (o : Option Ending) (word : ℕ) (file : List ℕ) (sources : List ModuleParts) (after : List ModuleParts → Result objects.Linked InputError) (l : objects.Linked)
+      → IsBytes file → All P sources → AreFollowed after → linked_by o word file sources after ≡ Ok l → AreLinked l
+  word_first (Some ending.Source) word file sources after l bytes valid rest h = source_first sources after l valid rest h
+  word_first (Some ending.Include) word file sources after l bytes valid rest h = rest sources l valid h
+  word_first (Some ending.Object) word file sources after l bytes valid rest h =
+      object_first word file (module_in file) (after sources) l bytes refl (λ k is. rest sources k valid is) h
+  word_first (Some ending.Library) word file sources after l bytes valid rest h =
+      archive_first word file (library_of file) (after sources) l bytes refl (λ k is. rest sources k valid is) h
+  word_first None word file sources after l bytes valid rest h = rest sources l valid h
+
+  abbrev IsOfBytes : List ℕ → Type 0
+  IsOfBytes file = All IsByte file
+
+  none_linked : AreLinked (record { modules = []; libraries = [] })
+  none_linked = record { modules = All-nil P; libraries = All-nil (All P) }
+
+  words_linked : (word : ℕ) (names contents : List (List ℕ)) (sources : List ModuleParts) (l : objects.Linked) → All IsOfBytes contents → All P sources
+      → linked_from word names contents sources ≡ Ok l → AreLinked l
+  words_linked word [] contents sources l bytes valid h = subst AreLinked (linked_same (record { modules = []; libraries = [] }) l h) none_linked
+  words_linked word (name ∷ names) [] sources l bytes valid h = subst AreLinked (linked_same (record { modules = []; libraries = [] }) l h) none_linked
+  words_linked word (name ∷ names) (file ∷ contents) sources l bytes valid h =
+      word_first (ending_of name) word file sources (linked_from (word + 1) names contents) l (bytes_are file (All-head IsOfBytes file contents bytes)) valid
+      (λ others k all is. words_linked (word + 1) names contents others k (All-tail IsOfBytes file contents bytes) all is) h
+
+  no_faults : (faults : List SourceFaults) (modules ms : List ModuleParts) → unless_faults faults modules ≡ Ok ms → modules ≡ ms
+  no_faults [] modules ms h = cc h
+  no_faults (first ∷ more) modules ms h = absurd (cc h)
+
+  -- what is known of inputs
+  pub record AreInputs (inputs : InputsTree) : Type 0 where
+    pub modules : All P inputs.modules
+    pub libraries : All (All P) inputs.libraries
+    pub controls : AreKept inputs.controls
+
+  inputs_same : (x y : InputsTree) (h : ◌≡◌ {A = Result InputsTree InputError} (Ok x) (Ok y)) → x ≡ y
+  inputs_same x y h = cc h
+
+  from_answers : (files contents : List (List ℕ)) (control script : Option (List ℕ)) (answers : List AnswerTree) (inputs : InputsTree) → All IsOfBytes contents → All P (modules_in answers)
+      → inputs_of files contents control script answers ≡ Ok inputs → AreInputs inputs
+  unfolding inputs_of
+  from_answers files contents control script answers inputs bytes valid h =
+      on_value (unless_faults (faults_in (source_words 0 files) answers) (modules_in answers)) _ inputs (AreInputs inputs) (λ sources one h1.
+      on_value (linked_from 0 files contents sources) _ inputs (AreInputs inputs) (λ linked two h2.
+      on_value (controls_in control) _ inputs (AreInputs inputs) (λ lines three h3.
+      on_value (script_in script) _ inputs (AreInputs inputs) (λ board four h4.
+      let all : All P sources = subst (λ (ms : List ModuleParts). All P ms) (no_faults (faults_in (source_words 0 files) answers) (modules_in answers) sources one) valid in
+      let known = words_linked 0 files contents sources linked bytes all two in
+      let made : InputsTree = record { modules = linked.modules; libraries = linked.libraries; controls = lines; script = board } in
+      subst AreInputs (inputs_same made inputs h4) (record { modules = known.modules; libraries = known.libraries; controls = lines_kept control lines three })) h3) h2) h1) h
+
+  pub inputs_known : (files : ProgramFiles) (contents : List (List ℕ)) (inputs : InputsTree) → AreOfBytes contents → AreAnswered files contents (Ok inputs) → AreInputs inputs
+  inputs_known files contents inputs bytes h =
+      let words : List (List ℕ) = word_contents files contents in
+      from_answers files.words words _ _ h.answers inputs (All-take IsOfBytes (length files.words) contents bytes)
+      (sources_valid (includes_of files.words words) (sources_of files.words words) h.answers h.are) (sym h.is)
+
+  -- the one that is needed first, and those that are left
+  record AreLeft (found : ModuleParts × List ModuleParts) : Type 0 where
+    needed : P found.0
+    others : All P found.1
+
+  behind : (m : ModuleParts) (o : Option (ModuleParts × List ModuleParts)) (found : ModuleParts × List ModuleParts) → P m
+      → ((other : ModuleParts × List ModuleParts) → o ≡ Some other → AreLeft other) → option_map (λ (x : ModuleParts × List ModuleParts). (x.0, m ∷ x.1)) o ≡ Some found → AreLeft found
+  behind m None found valid more h = absurd (cc h)
+  behind m (Some other) found valid more h =
+      let rest = more other refl in
+      subst AreLeft (same_Some (other.0, m ∷ other.1) found h) (record { needed = rest.needed; others = All-cons P m other.1 valid rest.others })
+
+  first_by : (b : Bool) (chosen : List ModuleParts) (m : ModuleParts) (more : List ModuleParts) (found : ModuleParts × List ModuleParts) → P m → All P more
+      → ((other : ModuleParts × List ModuleParts) → first_needed chosen more ≡ Some other → AreLeft other)
+      → cond b (Some (m, more)) (option_map (λ (x : ModuleParts × List ModuleParts). (x.0, m ∷ x.1)) (first_needed chosen more)) ≡ Some found → AreLeft found
+  first_by true chosen m more found valid all rest h = subst AreLeft (same_Some (m, more) found h) (record { needed = valid; others = all })
+  first_by false chosen m more found valid all rest h = behind m (first_needed chosen more) found valid rest h
+
+  are_left : (chosen left : List ModuleParts) (found : ModuleParts × List ModuleParts) → All P left → first_needed chosen left ≡ Some found → AreLeft found
+  are_left chosen [] found valid h = absurd (cc h)
+  are_left chosen (m ∷ more) found valid h =
+      first_by (is_needed chosen m) chosen m more found (All-head P m more valid) (All-tail P m more valid)
+      (λ other k. are_left chosen more other (All-tail P m more valid) k) h
+
+  choice_step : (turns : ℕ) (left chosen : List ModuleParts) (o : Option (ModuleParts × List ModuleParts)) → first_needed chosen left ≡ o → All P left → All P chosen
+      → ((more now : List ModuleParts) → All P more → All P now → All P (choice turns more now))
+      → All P (option_map_or (λ (found : ModuleParts × List ModuleParts). choice turns found.1 (chosen ++ found.0 ∷ [])) o chosen)
+  choice_step turns left chosen None is valid all next = all
+  choice_step turns left chosen (Some found) is valid all next =
+      let rest = are_left chosen left found valid is in
+      next found.1 (chosen ++ found.0 ∷ []) rest.others (All-append P chosen (found.0 ∷ []) all (all_one P found.0 rest.needed))
+
+  choice_valid : (turns : ℕ) (left chosen : List ModuleParts) → All P left → All P chosen → All P (choice turns left chosen)
+  choice_valid zero left chosen valid all = all
+  choice_valid (suc turns) left chosen valid all = choice_step turns left chosen (first_needed chosen left) refl valid all (λ more now. choice_valid turns more now)
+
+  members_valid : (libraries : List (List ModuleParts)) → All (All P) libraries → All P (members_of libraries)
+  members_valid [] h = All-nil P
+  members_valid (library ∷ more) h =
+      All-append P library (members_of more) (All-head (All P) library more h) (members_valid more (All-tail (All P) library more h))
+
+  chosen_same : (o : Option Refusal) (chosen modules : List ModuleParts) → unless_refused chosen o ≡ Ok modules → chosen ≡ modules
+  chosen_same None chosen modules h = cc h
+  chosen_same (Some refusal) chosen modules h = absurd (cc h)
+
+  pub chosen_all : (given : List ModuleParts) (libraries : List (List ModuleParts)) (modules : List ModuleParts) → All P given → All (All P) libraries
+      → resolved_of given libraries ≡ Ok modules → All P modules
+  chosen_all given libraries modules valid all h =
+      let chosen = chosen_of given (members_of libraries) in
+      subst (λ (ms : List ModuleParts). All P ms) (chosen_same (first_refusal chosen) chosen modules h)
+      (choice_valid (length (members_of libraries)) (members_of libraries) given (members_valid libraries all) valid)

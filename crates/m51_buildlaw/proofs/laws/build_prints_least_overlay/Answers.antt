@@ -1,5 +1,0 @@
-use Rattle.m51_buildlaw.proofs.Reported.{build_prints_least}
-use Rattle.m51_buildlaw.proofs.laws.build_prints_least_overlay.Goals as goal
-
-pub returns : goal.returns
-returns c = build_prints_least

@@ -1,5 +1,0 @@
-use Rattle.m51_buildlaw.proofs.Chained.{chain_keeps_promise}
-use Rattle.m51_buildlaw.proofs.laws.chain_keeps_the_promise.Goals as goal
-
-pub returns : goal.returns
-returns c = chain_keeps_promise

@@ -1,7 +1,0 @@
-use Rattle.std.proofs.Common.{◌≡◌, ◌++◌, map, take}
-use Rattle.m51_content.specs.Pieces.{fixup_of}
-use Rattle.m51_content.proofs.fixups.push_fixups.Given as goal
-
-abbrev pub invariant-loop-byte : goal.invariant-loop-byte
-invariant-loop-byte l =
-    l.fixups.items ≡ l.initial.fixups.items ++ map (fixup_of l.segments l.segment l.at) (take l.byte-index l.references)

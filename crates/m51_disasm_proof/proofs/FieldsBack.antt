@@ -1,0 +1,173 @@
+-- The fields of a disassembled instruction take the numbers that they were decoded with.
+use Rattle.std.proofs.Common.{◌≡◌, ℕ, ◌+◌, ◌/◌, ◌%◌, ◌<◌, ◌≤◌, nat_lt, nat_le, Bool, true, false, not, ◌&&◌, ◌||◌, cond, Some, None, refl, sym, ap, ◌∙◌, arith, eq-eqb}
+use Rattle.std.proofs.Math.Bool.{and-false, or-true}
+use Rattle.std.proofs.lemmas.Option.{same_Some}
+use Rattle.std.proofs.lemmas.Bool.{ltb-true, ltb-false, le-leb, leb-true, and_parts}
+use Rattle.m51_cells.specs.declared.kind.Base.TheVariants as base
+use Rattle.m51_cells.specs.declared.kind.Kind.TheVariants as kind
+use Rattle.m51_isa.specs.declared.slot.Field.{Field}
+use Rattle.m51_isa.specs.declared.slot.Field.TheVariants as field
+use Rattle.m51_isa.specs.Targets.{relative, near}
+use Rattle.m51_isa.specs.TextLaws.{kept}
+use Rattle.m51_expr.specs.declared.value.Value.{Value}
+use Rattle.m51_expr.specs.Value.{plain}
+use Rattle.m51_expr.specs.Meanings.{Meanings, is_absolute}
+use Rattle.m51_encode.specs.declared.reference.FieldValue.{FieldValue}
+use Rattle.m51_encode.specs.declared.reference.FieldValue.TheVariants.{Number, Linked}
+use Rattle.m51_encode.specs.Bases.{is_current, is_linked, is_numbered, stands_absolute, same_segment}
+use Rattle.m51_encode.specs.FieldValues.{distance, is_near, rel_of, addr11_of, field_of}
+use Rattle.m51_encode.specs.Reference.{reference_of}
+use Rattle.m51_disasm.specs.Statements.{ends_inside, leads_inside, address_by}
+use Rattle.m51_disasm_proof.specs.Standing.{StandsAt, code_value}
+
+-- ---- numbers
+
+-- distances of a signed byte
+near_low : (d : ℕ) → d ≤ 127 → is_near d ≡ true
+near_low d h = ap (λ b. b || nat_le 65408 d) (le-leb d 127 h)
+
+near_high : (d : ℕ) → 65408 ≤ d → is_near d ≡ true
+near_high d h = ap (λ b. nat_le d 127 || b) (le-leb 65408 d h) ∙ or-true (nat_le d 127)
+
+taken_if : (d rel : ℕ) → is_near d ≡ true → d % 256 ≡ rel → cond (is_near d) (Some (Number (d % 256))) None ≡ Some (Number rel)
+taken_if d rel h e = (λ i. cond (h i) (Some (Number (e i))) None)
+
+-- the byte to the address that a byte leads to
+rel_by : (next rel : ℕ) (b : Bool) → nat_lt rel 128 ≡ b → next < 65536 → rel < 256 → cond b (nat_lt (next + rel) 0x10000) (nat_le 256 (next + rel)) ≡ true
+    → rel_of next (cond b ((next + rel) % 65536) ((next + 65280 + rel) % 65536)) ≡ Some (Number rel)
+rel_by next rel true test low small h =
+    let less : rel < 128 = ltb-true rel 128 test in
+    let ends : next + rel < 65536 = ltb-true (next + rel) 65536 h in
+    let d : distance next ((next + rel) % 65536) ≡ rel = omega (arith, low, less, ends) in
+    ap (λ n. cond (is_near n) (Some (Number (n % 256))) None) d ∙ taken_if rel rel (near_low rel (omega (arith, less))) (omega (arith, small))
+rel_by next rel false test low small h =
+    let more : 128 ≤ rel = ltb-false rel 128 test in
+    let ends : 256 ≤ next + rel = leb-true 256 (next + rel) h in
+    let d : distance next ((next + 65280 + rel) % 65536) ≡ 65280 + rel = omega (arith, low, small, more, ends) in
+    ap (λ n. cond (is_near n) (Some (Number (n % 256))) None) d
+    ∙ taken_if (65280 + rel) rel (near_high (65280 + rel) (omega (arith, more))) (omega (arith, small))
+
+rel_back : (next rel : ℕ) → next < 65536 → rel < 256 → ends_inside next rel ≡ true → rel_of next (relative next rel) ≡ Some (Number rel)
+rel_back next rel low small h = rel_by next rel (nat_lt rel 128) refl low small h
+
+-- the place in the block of the address that it leads to
+block_back : (next address : ℕ) → next < 65536 → address < 2048 → addr11_of next (near next address % 65536) ≡ Some (Number address)
+block_back next address low small =
+    let to = near next address % 65536 in
+    let same : to / 2048 ≡ next / 2048 = omega (arith, low, small) in
+    let part : to % 2048 ≡ address = omega (arith, low, small) in
+    (λ i. cond (eq-eqb (to / 2048) (next / 2048) same i) (Some (Number (part i))) None)
+
+-- ---- what stands for an address
+
+-- a value that counts as an address of the segment of the statement: in that segment, or as a number
+pub data IsAddressOf (segment address : ℕ) (v : Value) : Type 0 where
+  Own : v ≡ code_value segment address → IsAddressOf segment address v
+  Bare : v ≡ plain address kind.Number → IsAddressOf segment address v
+
+module _ (names : Meanings) (segment at : ℕ) (s : StandsAt names segment at) where
+  current : is_current names (base.Segment segment) ≡ true
+  current = ap (λ (v : Value). same_segment (base.Segment segment) v.base) s.here ∙ eq-eqb segment segment refl
+
+  absolute : stands_absolute names ≡ true
+  absolute = ap (λ (v : Value). is_absolute names v.base) s.here ∙ s.absolute
+
+  own_is_bare : is_linked names (base.Segment segment) ≡ false
+  own_is_bare =
+      (λ i. not (s.absolute i) || (is_numbered (base.Segment segment) && not (current i)))
+      ∙ and-false (is_numbered (base.Segment segment))
+
+  -- what an address in the segment gives in a field
+  own_rel : (next address : ℕ) → field_of names field.Rel next (code_value segment address) ≡ rel_of next address
+  unfolding field_of
+  own_rel next address =
+      let v : Value = code_value segment address in
+      let linked : FieldValue = Linked (reference_of field.Rel v) in
+      (λ i. cond (not (s.absolute i) || true) (cond (current i) (rel_of next address) (cond (is_linked names v.base) (Some linked) (cond (stands_absolute names) (rel_of next address) None))) None)
+
+  own_block : (next address : ℕ) → field_of names field.Addr11 next (code_value segment address) ≡ addr11_of next address
+  unfolding field_of
+  own_block next address =
+      let v : Value = code_value segment address in
+      let linked : FieldValue = Linked (reference_of field.Addr11 v) in
+      (λ i. cond (not (s.absolute i) || true) (cond (own_is_bare i) (Some linked) (cond (absolute i) (addr11_of next address) None)) None)
+
+  own_word : (next address : ℕ) → field_of names field.Addr16 next (code_value segment address) ≡ Some (Number address)
+  unfolding field_of
+  own_word next address =
+      let v : Value = code_value segment address in
+      let linked : FieldValue = Linked (reference_of field.Addr16 v) in
+      (λ i. cond (not (s.absolute i) || true) (Some (cond (own_is_bare i) linked (Number address))) None)
+
+  -- what a number gives
+  bare_rel : (next address : ℕ) → field_of names field.Rel next (plain address kind.Number) ≡ rel_of next address
+  unfolding field_of
+  bare_rel next address = ap (λ (b : Bool). cond b (rel_of next address) None) absolute
+
+  bare_block : (next address : ℕ) → field_of names field.Addr11 next (plain address kind.Number) ≡ addr11_of next address
+  unfolding field_of
+  bare_block next address = ap (λ (b : Bool). cond b (addr11_of next address) None) absolute
+
+  bare_word : (next address : ℕ) → field_of names field.Addr16 next (plain address kind.Number) ≡ Some (Number address)
+  unfolding field_of
+  bare_word next address = refl
+
+  rel_given : (next address : ℕ) (v : Value) → IsAddressOf segment address v → field_of names field.Rel next v ≡ rel_of next address
+  rel_given next address v (Own e) = ap (field_of names field.Rel next) e ∙ own_rel next address
+  rel_given next address v (Bare e) = ap (field_of names field.Rel next) e ∙ bare_rel next address
+
+  block_given : (next address : ℕ) (v : Value) → IsAddressOf segment address v → field_of names field.Addr11 next v ≡ addr11_of next address
+  block_given next address v (Own e) = ap (field_of names field.Addr11 next) e ∙ own_block next address
+  block_given next address v (Bare e) = ap (field_of names field.Addr11 next) e ∙ bare_block next address
+
+  word_given : (next address : ℕ) (v : Value) → IsAddressOf segment address v → field_of names field.Addr16 next v ≡ Some (Number address)
+  word_given next address v (Own e) = ap (field_of names field.Addr16 next) e ∙ own_word next address
+  word_given next address v (Bare e) = ap (field_of names field.Addr16 next) e ∙ bare_word next address
+
+  -- a field that leads to an address takes the number that it was decoded with
+  pub address_back : (at : Field) (next number address : ℕ) (v : Value) → kept at number ≡ number → leads_inside next at number ≡ true
+      → address_by next at number ≡ Some address → IsAddressOf segment address v → field_of names at (next % 65536) v ≡ Some (Number number)
+  unfolding leads_inside address_by
+  address_back field.Rel next number address v holds inside leads is =
+      let p = and_parts (nat_lt next 0x10000) (ends_inside next number) inside in
+      let low : next < 65536 = ltb-true next 65536 p.0 in
+      let same : next % 65536 ≡ next = omega (arith, low) in
+      let small : number < 256 = omega (arith, holds) in
+      let to : relative next number ≡ address = same_Some _ address leads in
+      ap (λ n. field_of names field.Rel n v) same
+      ∙ rel_given next address v is
+      ∙ ap (rel_of next) (sym to) ∙ rel_back next number low small p.1
+  address_back field.Addr11 next number address v holds inside leads is =
+      let low : next < 65536 = ltb-true next 65536 inside in
+      let same : next % 65536 ≡ next = omega (arith, low) in
+      let small : number < 2048 = omega (arith, holds) in
+      let to : near next number % 65536 ≡ address = same_Some _ address leads in
+      ap (λ n. field_of names field.Addr11 n v) same
+      ∙ block_given next address v is
+      ∙ ap (addr11_of next) (sym to) ∙ block_back next number low small
+  address_back field.Addr16 next number address v holds inside leads is =
+      word_given (next % 65536) address v is ∙ ap (λ n. Some (Number n)) (sym (same_Some number address leads))
+  address_back at next number address v holds inside leads is = absurd (cc leads)
+
+-- ---- numbers that stand for themselves
+
+byte_taken : (n : ℕ) → n < 256 → nat_le n 0xFF ≡ true
+byte_taken n h = le-leb n 255 (omega (arith, h))
+
+pub data_back : (names : Meanings) (next n : ℕ) → n < 256 → field_of names field.Data next (plain n kind.Number) ≡ Some (Number n)
+unfolding field_of
+data_back names next n h =
+    let same : n % 256 ≡ n = omega (arith, h) in
+    (λ i. cond (byte_taken n h i || nat_le 0xFF00 n) (Some (Number (same i))) None)
+
+pub data16_back : (names : Meanings) (next n : ℕ) → field_of names field.Data16 next (plain n kind.Number) ≡ Some (Number n)
+unfolding field_of
+data16_back names next n = refl
+
+pub direct_back : (names : Meanings) (next n : ℕ) → n < 256 → field_of names field.Direct next (plain n kind.Number) ≡ Some (Number n)
+unfolding field_of
+direct_back names next n h = ap (λ (b : Bool). cond b (Some (Number n)) None) (byte_taken n h)
+
+pub bit_back : (names : Meanings) (next n : ℕ) → n < 256 → field_of names field.Bit next (plain n kind.Number) ≡ Some (Number n)
+unfolding field_of
+bit_back names next n h = ap (λ (b : Bool). cond b (Some (Number n)) None) (byte_taken n h)

@@ -1,0 +1,17 @@
+-- What a line gives (this project's rules of content and of faults).
+use Rattle.std.specs.Prelude.{ℕ, List}
+use Rattle.m51_isa.specs.declared.generics.Jump.{Jump}
+use Rattle.m51_expr.specs.Meanings.{Meanings}
+use Rattle.m51_encode.specs.declared.outcome.Outcome.{Outcome}
+use Rattle.m51_stmt.specs.Statement.{BodyTree}
+use Rattle.m51_emit.specs.declared.content.LineContent.{LineContent}
+use Rattle.m51_emit.specs.Outcomes.{made_with_all, leftmost_fault}
+use Rattle.m51_emit.specs.Content.{Content, outcomes_by, content_by}
+
+-- this content, and the fault of the parts that it comes from, where so many fixups are made before them
+abbrev pub given : Content → ℕ → List Outcome → LineContent
+given c made parts = record { content = c; fault = leftmost_fault made parts; made = made_with_all made parts }
+
+-- what a line gives, where so many fixups are made before it
+abbrev pub line_given : Meanings → Jump → BodyTree → ℕ → LineContent
+line_given names jump body made = given (content_by names jump body) made (outcomes_by names jump body)

@@ -1,0 +1,68 @@
+//! How the outcomes of operands and items are counted: fixups from left to right, and the leftmost fault.
+ghost use Rattle.std.specs.Prelude.{◌≡◌, nat_lt};
+ghost use Rattle.m51_cells.specs.declared.limits.TheConstants.{MOST_FIXUPS};
+ghost use Rattle.m51_emit.specs.Outcomes.{made_with, part_fault, or_next};
+ghost use Rattle.m51_emit.specs.Counting.{none_of, counted, counted_all};
+
+use m51_cells::{MOST_FIXUPS, TOO_MANY};
+use m51_encode::Outcome;
+
+/// How many fixups are made, and the leftmost fault of a line down to an operand or item.
+#[derive(Clone, Copy)]
+pub(crate) struct Count {
+    pub(crate) made: usize,
+    pub(crate) fault: Option<u8>,
+}
+
+/// So many fixups before a line.
+pub(crate) fn none_of(made: usize) -> Count
+    ensures { result ≡ none_of made }
+{
+    Count { made, fault: None }
+}
+
+// Whether a fixup more can be made.
+fn has_room(made: usize) -> bool
+    ensures { result ≡ nat_lt made MOST_FIXUPS }
+{
+    made < MOST_FIXUPS
+}
+
+// How many fixups are made with the part.
+fn made_with(made: usize, part: Outcome) -> usize
+    ensures { result ≡ made_with made part }
+{
+    match part {
+        Outcome::Fixes => { if has_room(made) { made + 1 } else { made } }
+        Outcome::Faulty(_) | Outcome::Stands => made,
+    }
+}
+
+// The fault of the part.
+fn part_fault(made: usize, part: Outcome) -> Option<u8>
+    ensures { result ≡ part_fault made part }
+{
+    match part {
+        Outcome::Faulty(number) => Some(number),
+        Outcome::Fixes => { if has_room(made) { None } else { Some(TOO_MANY) } }
+        Outcome::Stands => None,
+    }
+}
+
+/// A part more.
+pub(crate) fn counted(count: Count, part: Outcome) -> Count
+    ensures { result ≡ counted count part }
+{
+    Count {
+        made: made_with(count.made, part),
+        fault: count.fault.or(part_fault(count.made, part)),
+    }
+}
+
+/// The three operands of an instruction more.
+pub(crate) fn counted_operands(count: Count, operands: [Outcome; 3]) -> Count
+    ensures { result ≡ counted_all count operands }
+{
+    let [first, second, third] = operands;
+    counted(counted(counted(count, first), second), third)
+}

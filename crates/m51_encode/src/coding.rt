@@ -1,0 +1,210 @@
+//! Codes the instructions of a source.
+ghost use Rattle.std.specs.Prelude.{◌≡◌, map, option_map, Some};
+ghost use Rattle.m51_isa.specs.Table.{length_of as row_length};
+ghost use Rattle.m51_isa.specs.Spelling.{field_in, text_of};
+ghost use Rattle.m51_expr.specs.Operand.{operand_tree};
+ghost use Rattle.m51_encode.specs.Coding.{seen, look_in, line, line_row, coded_as, gathered, coded_in, coded_line};
+ghost use Rattle.m51_encode.specs.Coding.{coded, outcomes_in, outcomes_line, outcomes, length_of};
+
+use crate::choosing::address_after;
+use crate::filling::{CodingError, Held, filled, references_of};
+use crate::outcome::{Outcome, outcome_of};
+use crate::reference::Reference;
+use m51_cells::{NO_INSTRUCTION, Name};
+use m51_expr::{Lookup, Operand, look_of};
+use m51_isa::{
+    Code, FieldSlot, Instr, Jump, Look, encode, length, row_for, spelling_of, with_numbers,
+};
+
+/// The bytes of an instruction of a source, and what the linker fills in.
+///
+/// Source: own choice ("Instructions of a source").
+#[derive(Clone, Copy, Debug, PartialEq, Eq)]
+pub struct Coded {
+    /// The bytes; those of a field that the linker fills in are 0, but for the opcode bits of `addr11`.
+    pub code: Code,
+    /// For each byte of the instruction the reference whose field begins there: at the opcode that of `addr11`.
+    pub references: [Option<Reference>; 3],
+}
+
+/// What an instruction of a source gives.
+///
+/// Source: own choice ("Instructions of a source").
+#[derive(Clone, Copy, Debug, PartialEq, Eq)]
+pub struct Coding {
+    /// What each operand comes to, from left to right; one that is not there comes to nothing.
+    pub outcomes: [Outcome; 3],
+    /// Its bytes and references, or its fault.
+    pub coded: Result<Coded, CodingError>,
+}
+
+// The table has no such row.
+const NO_SUCH_ROW: Coding = Coding {
+    outcomes: [Outcome::Stands, Outcome::Stands, Outcome::Stands],
+    coded: Err(CodingError {
+        number: NO_INSTRUCTION,
+    }),
+};
+
+// What an operand looks like, or that there is none.
+fn look_in(operand: Option<&Operand>) -> Look
+    ensures { result ≡ look_in (seen operand.entry) }
+{
+    match operand {
+        Some(operand) => look_of(operand),
+        None => Look::Nothing,
+    }
+}
+
+// The row of a line, with 0 in each field.
+fn line_row(
+    word: &[u8],
+    jump: Jump,
+    a: Option<&Operand>,
+    b: Option<&Operand>,
+    c: Option<&Operand>,
+) -> Option<Instr>
+    ensures { result ≡ line_row (line word.now jump (seen a.entry) (seen b.entry) (seen c.entry)) }
+{
+    row_for(word, jump, &look_in(a), &look_in(b), &look_in(c))
+}
+
+// The fields of the operands of a row.
+fn first_field(row: &Instr) -> Option<FieldSlot>
+    ensures { result ≡ field_in (text_of row.now).first }
+{
+    spelling_of(row).first.field()
+}
+
+fn second_field(row: &Instr) -> Option<FieldSlot>
+    ensures { result ≡ field_in (text_of row.now).second }
+{
+    spelling_of(row).second.field()
+}
+
+fn third_field(row: &Instr) -> Option<FieldSlot>
+    ensures { result ≡ field_in (text_of row.now).third }
+{
+    spelling_of(row).third.field()
+}
+
+// The bytes of a row with the numbers that the operands gave, and the references in its fields.
+fn coded_as(row: &Instr, a: Held, b: Held, c: Held) -> Coded
+    ensures { result ≡ coded_as row.now a b c }
+{
+    Coded {
+        code: encode(&with_numbers(row, a.number, b.number, c.number)),
+        references: references_of(a, b, c),
+    }
+}
+
+// The code of a row, where each operand gives something in its field.
+fn gathered(
+    row: &Instr,
+    first: Result<Held, CodingError>,
+    second: Result<Held, CodingError>,
+    third: Result<Held, CodingError>,
+) -> Result<Coded, CodingError>
+    ensures { result ≡ gathered row.now first second third }
+{
+    let a = first?;
+    let b = second?;
+    let c = third?;
+    Ok(coded_as(row, a, b, c))
+}
+
+// What the operands give in the fields of the row, from left to right.
+fn coding_in<L: Lookup>(
+    names: &L,
+    row: &Instr,
+    a: Option<&Operand>,
+    b: Option<&Operand>,
+    c: Option<&Operand>,
+) -> Coding
+    ensures coded { let names = L.meanings names.now in
+        result.coded ≡ coded_in names (seen a.entry) (seen b.entry) (seen c.entry) row.now }
+    ensures outcomes { let names = L.meanings names.now in
+        result.outcomes ≡ outcomes_in names (seen a.entry) (seen b.entry) (seen c.entry) row.now }
+{
+    let next = address_after(names, u16::from(length(row)));
+    let first = filled(names, next, first_field(row), a);
+    let second = filled(names, next, second_field(row), b);
+    let third = filled(names, next, third_field(row), c);
+    Coding {
+        outcomes: [outcome_of(&first), outcome_of(&second), outcome_of(&third)],
+        coded: gathered(row, first, second, third),
+    }
+}
+
+// An instruction of at most three operands.
+fn coding_line<L: Lookup>(
+    names: &L,
+    word: &[u8],
+    jump: Jump,
+    a: Option<&Operand>,
+    b: Option<&Operand>,
+    c: Option<&Operand>,
+) -> Coding
+    ensures coded { let l = line word.now jump (seen a.entry) (seen b.entry) (seen c.entry) in
+        result.coded ≡ coded_line (L.meanings names.now) (Some l) }
+    ensures outcomes { let l = line word.now jump (seen a.entry) (seen b.entry) (seen c.entry) in
+        result.outcomes ≡ outcomes_line (L.meanings names.now) (Some l) }
+{
+    match line_row(word, jump, a, b, c) {
+        Some(row) => coding_in(names, &row, a, b, c),
+        None => NO_SUCH_ROW,
+    }
+}
+
+/// The bytes and references of an instruction at the place of the statement, and what each of its operands comes to.
+/// `jump` is looked at for `JMP` and `CALL` with only a code address, which mean the jump and the call of that
+/// form; a short `CALL` means `ACALL`. It allocates nothing.
+///
+/// Errors, in `coded`: E11 where the instruction table has no row of this mnemonic with such operands; else the fault
+/// of the leftmost operand that has one: E7 to E10 where it has no value, E14 where its value is out of range or class.
+///
+/// Source: family manual.
+#[tactic(auto, unfolding(crate::specs::Coding::coded, crate::specs::Coding::outcomes))]
+pub fn code<L: Lookup>(names: &L, mnemonic: &Name, operands: &[Operand], jump: Jump) -> Coding
+    ensures coded { let operands = map operand_tree operands.now in
+        result.coded ≡ coded (L.meanings names.now) mnemonic.now operands jump }
+    ensures outcomes { let operands = map operand_tree operands.now in
+        result.outcomes ≡ outcomes (L.meanings names.now) mnemonic.now operands jump }
+{
+    let word = mnemonic.bytes();
+    match operands {
+        [] => coding_line(names, word, jump, None, None, None),
+        [a] => coding_line(names, word, jump, Some(a), None, None),
+        [a, b] => coding_line(names, word, jump, Some(a), Some(b), None),
+        [a, b, c] => coding_line(names, word, jump, Some(a), Some(b), Some(c)),
+        _ => NO_SUCH_ROW,
+    }
+}
+
+// The length of a row.
+fn length_in(row: Option<Instr>) -> Option<u8>
+    ensures { result ≡ option_map row_length row }
+{
+    match row {
+        Some(row) => Some(length(&row)),
+        None => None,
+    }
+}
+
+/// How many bytes an instruction of a source has, 1 to 3, whatever the values of its operands; none where the
+/// instruction table has no row of this mnemonic with such operands. `jump` as for [`code`].
+///
+/// Source: family manual.
+#[tactic(auto, unfolding(crate::specs::Coding::length_of))]
+pub fn length_of(mnemonic: &Name, operands: &[Operand], jump: Jump) -> Option<u8>
+    ensures { result ≡ length_of mnemonic.now (map operand_tree operands.now) jump }
+{
+    let word = mnemonic.bytes();
+    match operands {
+        [] => length_in(line_row(word, jump, None, None, None)),
+        [a] => length_in(line_row(word, jump, Some(a), None, None)),
+        [a, b] => length_in(line_row(word, jump, Some(a), Some(b), None)),
+        [a, b, c] => length_in(line_row(word, jump, Some(a), Some(b), Some(c))),
+        _ => None,
+    }
+}

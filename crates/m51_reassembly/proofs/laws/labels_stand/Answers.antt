@@ -1,9 +1,0 @@
-use Rattle.m51_disasm.specs.Parts.{parts_of}
-use Rattle.m51_reassembly.proofs.DisassemblyRead.{parts_inside}
-use Rattle.m51_reassembly.proofs.LabelsKnown.{label_of_part}
-use Rattle.m51_reassembly.proofs.PartsInOrder.{parts_in_order}
-use Rattle.m51_reassembly.proofs.laws.labels_stand.Goals as goal
-
-pub returns : goal.returns
-returns c = λ l image text sound bytes answer a f before part after is j s e led k.
-    label_of_part image bytes (parts_of l) (parts_inside l sound) (parts_in_order l sound) a f before part after is j s e led k

@@ -1,5 +1,0 @@
-use Rattle.m51_reassembly.proofs.StatementsRead.{line_read}
-use Rattle.m51_reassembly.proofs.laws.lines_read_back.Goals as goal
-
-pub returns : goal.returns
-returns c = λ l is. (line_read l is).says

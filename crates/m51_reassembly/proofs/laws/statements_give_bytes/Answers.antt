@@ -1,9 +1,0 @@
-use Rattle.m51_disasm.specs.Parts.{parts_of}
-use Rattle.m51_reassembly.proofs.AllLinesGive.{gives_there}
-use Rattle.m51_reassembly.proofs.DisassemblyRead.{parts_inside}
-use Rattle.m51_reassembly.proofs.PartsInOrder.{parts_in_order}
-use Rattle.m51_reassembly.proofs.laws.statements_give_bytes.Goals as goal
-
-pub returns : goal.returns
-returns c = λ l image text sound bytes answer a f before part after is j s e.
-    gives_there image bytes (parts_of l) (parts_inside l sound) (parts_in_order l sound) a f before part after is j s e

@@ -11,9 +11,9 @@ use Rattle.m51_cells.proofs.Small.{first_or_after, none_in_empty}
 use Rattle.m51_hex.specs.Laws.{IsErasedOutside, is_in_run, is_in_runs}
 use Rattle.m51_hex.specs.Writing.{end_of}
 use Rattle.m51_isa.specs.Targets.{bit_address, fits_byte, in_one_block}
-use Rattle.m51_linker.specs.declared.fields.Field.{Field}
-use Rattle.m51_linker.specs.declared.fields.Field.TheVariants.{One}
-use Rattle.m51_linker.specs.Fields.{bytes_of, field_of, one_if}
+use Rattle.m51_fields.specs.declared.fields.FieldBytes.{FieldBytes}
+use Rattle.m51_fields.specs.declared.fields.FieldBytes.TheVariants.{One}
+use Rattle.m51_fields.specs.Fields.{bytes_of, field_of, one_if}
 use Rattle.m51_linker.specs.Image.{IsFilled, IsImage, byte_at, content_of, fields_of, fixup_field, module_content, module_fields, placed_field, placed_piece}
 use Rattle.m51_linker.specs.Runs.{AreRuns, IsInRun}
 use Rattle.m51_linker.specs.Stretches.{Stretch, byte_among, byte_in, stretch_at}
@@ -109,22 +109,22 @@ each_at f g address lead (k ∷ ks) h = elim (split_at (f k) (flat_map f ks) add
 ]
 
 -- a field has as many bytes as its form says
-one_len : (b : Bool) (byte : ℕ) (field : Field) → one_if b byte ≡ Some field → length (bytes_of field) ≡ 1
-one_len true byte field h = sym (ap (λ (f : Field). length (bytes_of f)) (same_Some _ field h))
+one_len : (b : Bool) (byte : ℕ) (field : FieldBytes) → one_if b byte ≡ Some field → length (bytes_of field) ≡ 1
+one_len true byte field h = sym (ap (λ (f : FieldBytes). length (bytes_of f)) (same_Some _ field h))
 one_len false byte field h = absurd (cc h)
 
-some_len : (one field : Field) (len : ℕ) → length (bytes_of one) ≡ len → Some one ≡ Some field → length (bytes_of field) ≡ len
-some_len one field len is h = sym (ap (λ (f : Field). length (bytes_of f)) (same_Some one field h)) ∙ is
+some_len : (one field : FieldBytes) (len : ℕ) → length (bytes_of one) ≡ len → Some one ≡ Some field → length (bytes_of field) ≡ len
+some_len one field len is h = sym (ap (λ (f : FieldBytes). length (bytes_of f)) (same_Some one field h)) ∙ is
 
-block_len : (b : Bool) (one field : Field) (len : ℕ) → length (bytes_of one) ≡ len → cond b (Some one) None ≡ Some field → length (bytes_of field) ≡ len
+block_len : (b : Bool) (one field : FieldBytes) (len : ℕ) → length (bytes_of one) ≡ len → cond b (Some one) None ≡ Some field → length (bytes_of field) ≡ len
 block_len true one field len is h = some_len one field len is h
 block_len false one field len is h = absurd (cc h)
 
-conv_len : (address : Option ℕ) (field : Field) → option_map (λ n. One n) address ≡ Some field → length (bytes_of field) ≡ 1
+conv_len : (address : Option ℕ) (field : FieldBytes) → option_map (λ n. One n) address ≡ Some field → length (bytes_of field) ≡ 1
 conv_len None field h = absurd (cc h)
 conv_len (Some n) field h = some_len (One n) field 1 refl h
 
-field_length : (form : Form) (bit target place first : ℕ) (field : Field) → field_of form bit target place first ≡ Some field → length (bytes_of field) ≡ field_len form
+field_length : (form : Form) (bit target place first : ℕ) (field : FieldBytes) → field_of form bit target place first ≡ Some field → length (bytes_of field) ≡ field_len form
 field_length Low bit target place first field h = some_len _ field 1 refl h
 field_length Byte bit target place first field h = one_len (fits_byte target) _ field h
 field_length Relative bit target place first field h = one_len _ _ field h
@@ -152,7 +152,7 @@ module _ (modules : List ModuleParts) (placing : Placing) (address : ℕ) where
 
   -- a field lies in the pieces of its module
   module _ (m : ℕ) (parts : ModuleParts) (f : Fixup) (valid : IsFixupValid parts.segments parts.externals parts.pieces f) where
-    field_at : (field : Field) → fixup_field modules placing m f ≡ Some field → IsIn (stretch_at (address_of modules placing m f.segment f.offset) field) address
+    field_at : (field : FieldBytes) → fixup_field modules placing m f ≡ Some field → IsIn (stretch_at (address_of modules placing m f.segment f.offset) field) address
         → HasAt (map (placed_piece modules placing m) parts.pieces) address
     field_at field is here =
         let k : ℕ = address - address_of modules placing m f.segment f.offset in
@@ -162,7 +162,7 @@ module _ (modules : List ModuleParts) (placing : Placing) (address : ℕ) where
         let held : IsHeld parts.pieces f.segment (f.offset + k) = valid.held k (omega (arith, from, below, len)) in
         piece_at m f.segment (f.offset + k) parts.pieces held.piece held.is held.same held.from held.below (omega (arith, from))
 
-    option_at : (o : Option Field) → fixup_field modules placing m f ≡ o → (rest : List Stretch)
+    option_at : (o : Option FieldBytes) → fixup_field modules placing m f ≡ o → (rest : List Stretch)
         → HasAt (cons_option (option_map (stretch_at (address_of modules placing m f.segment f.offset)) o) rest) address
         → HasAt (map (placed_piece modules placing m) parts.pieces) address ⊎ HasAt rest address
     unfolding HasAt

@@ -6,9 +6,9 @@ use Rattle.std.specs.Option.{option_map_or, option_or}
 use Rattle.std.proofs.lemmas.Bool.{and_parts, leb-true, ltb-false}
 use Rattle.std.proofs.lemmas.List.Elements.{All-from_get_or, All-get_or, All-head, All-tail}
 use Rattle.std.proofs.lemmas.Option.{get_or_from_slice_get, same_Some, slice_get_within}
-use Rattle.m51_linker.specs.declared.fields.Field.{Field}
-use Rattle.m51_linker.specs.declared.fields.Field.TheVariants.{One}
-use Rattle.m51_linker.specs.Fields.{block_field, bytes_of as field_bytes, far_of, field_of, one_if}
+use Rattle.m51_fields.specs.declared.fields.FieldBytes.{FieldBytes}
+use Rattle.m51_fields.specs.declared.fields.FieldBytes.TheVariants.{One}
+use Rattle.m51_fields.specs.Fields.{block_field, bytes_of as field_bytes, far_of, field_of, one_if}
 use Rattle.m51_isa.specs.Targets.{fits_byte, in_one_block, is_near}
 use Rattle.m51_linker.specs.Image.{IsImage, byte_at, content_of, fields_of, fixup_field, module_content, module_fields, placed_field, placed_piece}
 use Rattle.m51_linker.specs.Stretches.{Stretch, byte_among, byte_in, stretch_at}
@@ -104,11 +104,11 @@ stretches_flat f each [] = tt
 stretches_flat f each (k ∷ ks) = stretches_append (f k) (flat_map f ks) (each k) (stretches_flat f each ks)
 
 -- fields are of bytes
-record IfFieldBytes (o : Option Field) : Type 0 where
-  holds : (field : Field) → o ≡ Some field → IsBytes (field_bytes field)
+record IfFieldBytes (o : Option FieldBytes) : Type 0 where
+  holds : (field : FieldBytes) → o ≡ Some field → IsBytes (field_bytes field)
 
-field_some : (f : Field) → IsBytes (field_bytes f) → IfFieldBytes (Some f)
-field_some f h = record { holds = λ g e. subst (λ (x : Field). IsBytes (field_bytes x)) (same_Some f g e) h }
+field_some : (f : FieldBytes) → IsBytes (field_bytes f) → IfFieldBytes (Some f)
+field_some f h = record { holds = λ g e. subst (λ (x : FieldBytes). IsBytes (field_bytes x)) (same_Some f g e) h }
 
 field_none : IfFieldBytes None
 field_none = record { holds = λ g e. absurd (cc e) }
@@ -176,7 +176,7 @@ module _ (modules : List ModuleParts) (placing : Placing) (all : All HasBytes mo
   fixup_bytes : (m : ℕ) (f : Fixup) → IsBitNumber f.form f.bit → IfFieldBytes (fixup_field modules placing m f)
   fixup_bytes m f bit = field_is_bytes f.form f.bit (target_of modules placing m f) _ _ (target_fits m f) bit
 
-  option_bytes : (at : ℕ) (o : Option Field) (rest : List Stretch) → IfFieldBytes o → AreStretches rest → AreStretches (cons_option (option_map (stretch_at at) o) rest)
+  option_bytes : (at : ℕ) (o : Option FieldBytes) (rest : List Stretch) → IfFieldBytes o → AreStretches rest → AreStretches (cons_option (option_map (stretch_at at) o) rest)
   unfolding AreStretches
   option_bytes at None rest h k = k
   option_bytes at (Some field) rest h k = (h.holds field refl, k)

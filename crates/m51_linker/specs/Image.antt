@@ -8,8 +8,8 @@ use Rattle.m51_module.specs.declared.content.Piece.{Piece}
 use Rattle.m51_module.specs.declared.image.TheConstants.{IMAGE_LEN}
 use Rattle.m51_module.specs.declared.parts.ModuleParts.{ModuleParts}
 use Rattle.m51_place.specs.declared.placing.Placing.{Placing}
-use Rattle.m51_linker.specs.declared.fields.Field.{Field}
-use Rattle.m51_linker.specs.Fields.{field_of}
+use Rattle.m51_fields.specs.declared.fields.FieldBytes.{FieldBytes}
+use Rattle.m51_fields.specs.Fields.{field_of}
 use Rattle.m51_linker.specs.Stretches.{Stretch, byte_among, stretch_at}
 use Rattle.m51_linker.specs.Targets.{address_of, target_of}
 
@@ -34,7 +34,7 @@ abbrev pub content_byte : List ModuleParts → Placing → ℕ → ℕ
 content_byte modules placing address = unwrap_or (byte_among (content_of modules placing) address) 0xFF
 
 -- the field of a fixup of the module; none where its rule fails
-abbrev pub fixup_field : List ModuleParts → Placing → ℕ → Fixup → Option Field
+abbrev pub fixup_field : List ModuleParts → Placing → ℕ → Fixup → Option FieldBytes
 fixup_field modules placing m f =
     let place : ℕ = address_of modules placing m f.segment f.offset in
     field_of f.form f.bit (target_of modules placing m f) place (content_byte modules placing place)

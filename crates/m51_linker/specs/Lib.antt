@@ -1,5 +1,4 @@
 pub mod Broken
-pub mod Fields
 pub mod Growing
 pub mod Image
 pub mod Link

@@ -1,8 +1,8 @@
 -- Bytes in a row in program memory.
 use Rattle.std.specs.Prelude.{ℕ, ◌-◌, nat_le, if◌then◌else◌, List, [], ◌∷◌, slice_get, Option, None}
 use Rattle.std.specs.Option.{option_or}
-use Rattle.m51_linker.specs.declared.fields.Field.{Field}
-use Rattle.m51_linker.specs.Fields.{bytes_of}
+use Rattle.m51_fields.specs.declared.fields.FieldBytes.{FieldBytes}
+use Rattle.m51_fields.specs.Fields.{bytes_of}
 
 -- bytes in a row, from an address on
 pub record Stretch : Type 0 where
@@ -20,5 +20,5 @@ byte_among [] address = None
 byte_among (s ∷ more) address = option_or (byte_among more address) (byte_in s address)
 
 -- the bytes of a field at the address
-abbrev pub stretch_at : ℕ → Field → Stretch
+abbrev pub stretch_at : ℕ → FieldBytes → Stretch
 stretch_at address field = record { at = address; bytes = bytes_of field }

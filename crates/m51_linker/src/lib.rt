@@ -3,7 +3,6 @@
 
 mod addresses;
 mod checking;
-mod fields;
 mod filling;
 mod linked;
 mod linking;
@@ -12,7 +11,6 @@ mod patching;
 mod running;
 
 pub use checking::Spot;
-pub use fields::Field;
 pub use linked::Linked;
 pub use linking::link;
 pub use m51_module::{Run, Runs};

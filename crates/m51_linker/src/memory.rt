@@ -1,12 +1,12 @@
 //! The bytes of program memory while they are put there: those of content, each of which may be there or not, and the
 //! image.
 ghost use Rattle.std.specs.Prelude.{◌≡◌, ◌+◌, ◌≤◌, ℕ, [], ◌∷◌, IfOk, None, length, slice_index_or, unwrap_or, vec_len};
-ghost use Rattle.m51_linker.specs.Fields.{bytes_of};
+ghost use Rattle.m51_fields.specs.Fields.{bytes_of};
 ghost use Rattle.m51_linker.specs.Stretches.{stretch_at};
 ghost use Rattle.m51_linker.specs.Memory.{AreBytes, AreWritten, IsErasedBut, held_at, image_at};
 
-use crate::Field;
 use m51_cells::NoMemory;
+use m51_fields::FieldBytes;
 use m51_module::{IMAGE_LEN, Image};
 use std::alloc::{AllocError, Global};
 
@@ -70,12 +70,12 @@ fn put_bytes(image: &mut Image, at: usize, bytes: &[u8])
 }
 
 // Puts the bytes of a field into the image at the address.
-pub(crate) fn put_field(image: &mut Image, at: usize, field: Field)
+pub(crate) fn put_field(image: &mut Image, at: usize, field: FieldBytes)
     requires { at + length (bytes_of field) ≤ IMAGE_LEN }
     ensures { AreWritten (stretch_at at field ∷ []) (image_at image.old) (image_at image.new) }
 {
     match field {
-        Field::One(byte) => put_bytes(image, at, &[byte]),
-        Field::Two(first, second) => put_bytes(image, at, &[first, second]),
+        FieldBytes::One(byte) => put_bytes(image, at, &[byte]),
+        FieldBytes::Two(first, second) => put_bytes(image, at, &[first, second]),
     }
 }

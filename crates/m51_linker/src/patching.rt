@@ -7,8 +7,8 @@ ghost use Rattle.m51_linker.specs.Ready.{ArePlaced, Checks, IsFixupPlaced};
 
 use crate::addresses::{address_of, target_of};
 use crate::checking::{Spot, earlier_of, refuse, spot_of};
-use crate::fields::field_of;
 use crate::memory::{byte_or_erased, image_of, put_field};
+use m51_fields::field_of;
 use m51_module::{Fixup, Image, Module, Refusal};
 use m51_place::Placing;
 use m51_resolve::Joined;

@@ -9,7 +9,8 @@ use Rattle.m51_module.specs.Validity.{numbered, IsPieceValid, LiesBefore, Earlie
 use Rattle.m51_cells.specs.Kinds.{is_code}
 use Rattle.m51_cells.proofs.KindLaws.{code_is}
 use Rattle.m51_frame.specs.Fields.{checked, or_absent, pair}
-use Rattle.m51_records.specs.Contents.{piece_contents, latest, segment_follows, code_segment_at, ends_before, piece_follows, piece_offset_at, content_at, piece_in}
+use Rattle.m51_frame.specs.Pieces.{ends_before}
+use Rattle.m51_records.specs.Contents.{piece_contents, latest, segment_follows, code_segment_at, piece_follows, piece_offset_at, content_at, piece_in}
 use Rattle.m51_records.proofs.Tools.{on_ok, ok_is, checked_ok, absent_ok, all_push, all_front, all_last, pairs_push, pairs_front, pairs_last}
 use Rattle.m51_records.proofs.FieldLaws.{IsBytes}
 use Rattle.m51_records.proofs.NameLaws.{false_of}

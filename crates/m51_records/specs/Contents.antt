@@ -8,6 +8,7 @@ use Rattle.m51_module.specs.Validity.{numbered}
 use Rattle.m51_module.specs.declared.object_error.ObjError.{ObjError}
 use Rattle.m51_cells.specs.Kinds.{is_code}
 use Rattle.m51_frame.specs.Fields.{◌>>=◌, checked, or_absent, byte_at, pair, pair_at}
+use Rattle.m51_frame.specs.Pieces.{ends_before}
 
 -- segment, offset, bytes
 abbrev pub piece_contents : Piece → List ℕ
@@ -28,12 +29,6 @@ code_segment_at segments previous end bytes = do
   number ← byte_at end bytes
   segment ← or_absent (numbered segments number.0) end bytes
   checked (is_code segment.kind && segment_follows previous number.0) end bytes (number.0, segment.size, number.1)
-
--- the piece ends below the offset, or at it with the most bytes: so many lie between its offset and this one
-abbrev pub ends_before : Piece → ℕ → Bool
-ends_before p offset =
-    if length p.bytes == offset - p.offset then length p.bytes == MOST_PIECE_BYTES
-    else nat_lt (length p.bytes) (offset - p.offset)
 
 -- the piece before ends so, where it is in the same segment
 abbrev pub piece_follows : Option Piece → ℕ → ℕ → Bool

@@ -2,7 +2,7 @@
 ghost use Rattle.std.specs.Prelude.{◌≡◌, ◌<◌, length, ◌≤◌};
 ghost use Rattle.m51_module.specs.declared.content.Piece.{Piece};
 ghost use Rattle.m51_frame.specs.Fields.{Reads};
-ghost use Rattle.m51_records.specs.Contents.{piece_contents, segment_follows, latest, code_segment_at, ends_before};
+ghost use Rattle.m51_records.specs.Contents.{piece_contents, segment_follows, latest, code_segment_at};
 ghost use Rattle.m51_records.specs.Contents.{piece_follows, piece_offset_at, limited, content_at, piece_in};
 ghost use Rattle.m51_cells.specs.declared.limits.TheConstants.{MOST_PIECE_BYTES};
 ghost use Rattle.m51_records.specs.declared.types.TheConstants.{CONTENT};
@@ -10,7 +10,7 @@ ghost use Rattle.m51_records.specs.declared.types.TheConstants.{CONTENT};
 use crate::record::{Reader, Record};
 use crate::types::CONTENT;
 use m51_cells::{MOST_PIECE_BYTES, NoMemory, copy_of, is_code};
-use m51_frame::{absent, broken, byte_at, pair_at, put_pair};
+use m51_frame::{absent, broken, byte_at, ends_before, pair_at, put_pair};
 use m51_module::{ObjError, Piece, Segment, segment_numbered};
 use std::alloc::Global;
 
@@ -43,19 +43,6 @@ fn code_segment_at<'a>(
         return Err(broken(end, bytes));
     }
     Ok((number, segment.size, rest))
-}
-
-// Whether the piece ends below the offset, or at it with the most bytes.
-fn ends_before(piece: &Piece, offset: u16) -> bool
-    ensures { result ≡ ends_before piece.now offset }
-{
-    let len = piece.bytes.len();
-    let room = usize::from(offset.saturating_sub(piece.offset));
-    if len == room {
-        len == MOST_PIECE_BYTES
-    } else {
-        len < room
-    }
 }
 
 // Whether the piece before ends before the offset, where it is in the same segment.

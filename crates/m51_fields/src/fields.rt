@@ -1,16 +1,16 @@
 //! What each form of fixup writes, and its rule.
 ghost use Rattle.std.specs.Prelude.{◌≡◌, ◌≤◌};
-ghost use Rattle.m51_linker.specs.Fields.{bit_field, block_field, byte_field, conv_field, field_of, high_of};
-ghost use Rattle.m51_linker.specs.Fields.{inblock_field, low_of, one_if, relative_field};
+ghost use Rattle.m51_fields.specs.Fields.{bit_field, block_field, byte_field, conv_field, field_of, high_of};
+ghost use Rattle.m51_fields.specs.Fields.{inblock_field, low_of, one_if, relative_field};
 
 use m51_isa::{bit_address, distance, fits_byte, in_one_block, is_near};
 use m51_module::Form;
 
-/// What a field holds.
+/// What a field holds: one byte or two.
 ///
 /// Source: RL51 guide.
 #[derive(Clone, Copy)]
-pub enum Field {
+pub enum FieldBytes {
     /// One byte.
     One(u8),
     /// Two bytes, the one at the lower address first.
@@ -30,21 +30,25 @@ fn high_of(address: u16) -> u8
 }
 
 // The byte, where the rule is met.
-fn one_if(met: bool, byte: u8) -> Option<Field>
+fn one_if(met: bool, byte: u8) -> Option<FieldBytes>
     ensures { result ≡ one_if met byte }
 {
-    if met { Some(Field::One(byte)) } else { None }
+    if met {
+        Some(FieldBytes::One(byte))
+    } else {
+        None
+    }
 }
 
 // BYTE.
-fn byte_field(target: u16) -> Option<Field>
+fn byte_field(target: u16) -> Option<FieldBytes>
     ensures { result ≡ byte_field target }
 {
     one_if(fits_byte(target), low_of(target))
 }
 
 // RELATIVE.
-fn relative_field(target: u16, place: u16) -> Option<Field>
+fn relative_field(target: u16, place: u16) -> Option<FieldBytes>
     ensures { result ≡ relative_field target place }
 {
     let far = distance(place.wrapping_add(1), target);
@@ -52,14 +56,14 @@ fn relative_field(target: u16, place: u16) -> Option<Field>
 }
 
 // The field of INBLOCK over that first byte of content.
-fn block_field(target: u16, first: u8) -> Field
+fn block_field(target: u16, first: u8) -> FieldBytes
     ensures { result ≡ block_field target first }
 {
-    Field::Two(high_of(target) % 8 * 32 + first % 32, low_of(target))
+    FieldBytes::Two(high_of(target) % 8 * 32 + first % 32, low_of(target))
 }
 
 // INBLOCK.
-fn inblock_field(target: u16, place: u16, first: u8) -> Option<Field>
+fn inblock_field(target: u16, place: u16, first: u8) -> Option<FieldBytes>
     ensures { result ≡ inblock_field target place first }
 {
     if in_one_block(target, place.wrapping_add(2)) {
@@ -70,31 +74,33 @@ fn inblock_field(target: u16, place: u16, first: u8) -> Option<Field>
 }
 
 // BIT.
-fn bit_field(target: u16) -> Option<Field>
+fn bit_field(target: u16) -> Option<FieldBytes>
     ensures { result ≡ bit_field target }
 {
     one_if(target <= 0xFF, low_of(target))
 }
 
 // CONV.
-fn conv_field(target: u16, bit: u8) -> Option<Field>
+fn conv_field(target: u16, bit: u8) -> Option<FieldBytes>
     ensures { result ≡ conv_field target bit }
 {
     let address = bit_address(target, u16::from(bit))?;
-    Some(Field::One(address as u8))
+    Some(FieldBytes::One(address as u8))
 }
 
-// The field of a fixup of that form and bit, with that target, at that address, where content has that first byte. None
-// where the rule of the form fails.
-pub(crate) fn field_of(form: Form, bit: u8, target: u16, place: u16, first: u8) -> Option<Field>
+/// The field of a fixup of that form and bit, with that target, at that address, where content has that first byte; `None`
+/// if the rule of the form fails. The bit is at most 7.
+///
+/// Source: RL51 guide; OMF-51.
+pub fn field_of(form: Form, bit: u8, target: u16, place: u16, first: u8) -> Option<FieldBytes>
     requires { bit ≤ 7 }
     ensures { result ≡ field_of form bit target place first }
 {
     match form {
-        Form::Low => Some(Field::One(low_of(target))),
-        Form::High => Some(Field::One(high_of(target))),
+        Form::Low => Some(FieldBytes::One(low_of(target))),
+        Form::High => Some(FieldBytes::One(high_of(target))),
         Form::Byte => byte_field(target),
-        Form::Word => Some(Field::Two(high_of(target), low_of(target))),
+        Form::Word => Some(FieldBytes::Two(high_of(target), low_of(target))),
         Form::Relative => relative_field(target, place),
         Form::Inblock => inblock_field(target, place, first),
         Form::Bit => bit_field(target),

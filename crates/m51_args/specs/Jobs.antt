@@ -1,4 +1,4 @@
--- What the words ask for.
+-- The job that the arguments ask for.
 use Rattle.std.specs.Prelude.{ℕ, List, [], ◌∷◌, Option, Some, None, codes, option_map, option_and_then, if◌then◌else◌}
 use Rattle.std.specs.Str.{bytes_eq}
 use Rattle.clap.specs.Words.{App, Row}
@@ -107,7 +107,7 @@ job_by verb words =
     else if bytes_eq verb (codes "party") then asked party_app party_of Party words
     else None
 
--- what the words ask for; none where they are faulty
+-- the job that the arguments ask for; none if they are faulty
 abbrev pub job_of : List (List ℕ) → Option Job
 job_of [] = None
 job_of (verb ∷ words) = job_by verb (verb ∷ words)

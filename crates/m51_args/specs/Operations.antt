@@ -1,4 +1,4 @@
--- The words of lib: an operation, a library, and what is done with it.
+-- The arguments of lib: an operation, a library, and the objects or names.
 use Rattle.std.specs.Prelude.{ℕ, List, [], ◌∷◌, ◌++◌, Option, Some, None, codes, option_map}
 use Rattle.std.specs.Prelude.{if◌then◌else◌}
 use Rattle.std.specs.Str.{bytes_eq}
@@ -16,7 +16,7 @@ abbrev pub name_before : Option (List ℕ) → Option (List (List ℕ)) → Opti
 name_before (Some name) (Some names) = Some (name ∷ names)
 name_before _ _ = None
 
--- names, each of which is one
+-- words, each of which is a name
 abbrev pub names_in : List (List ℕ) → Option (List (List ℕ))
 names_in [] = Some []
 names_in (word ∷ words) = name_before (name_of word) (names_in words)
@@ -55,7 +55,7 @@ operation_of word words =
 abbrev pub done_with : List ℕ → Operation → LibraryJob
 done_with library operation = record { library = library; operation = operation }
 
--- what the words ask for: the operation, the library, and the rest
+-- what the arguments of `lib` ask for: the operation, the library, and the rest
 unfoldable pub library_job : List (List ℕ) → Option LibraryJob
 library_job (word ∷ library ∷ words) = option_map (done_with library) (operation_of word words)
 library_job words = None

@@ -1,13 +1,13 @@
-//! Why arguments ask for nothing.
+//! Why arguments are refused.
 use m51_cells::NoMemory;
 use std::alloc::{AllocError, AllocFailed};
 
-/// Why arguments ask for nothing.
+/// Why arguments are refused.
 ///
 /// Source: own choice ("Words").
 #[derive(Clone, Copy, Debug, PartialEq, Eq)]
 pub enum WordsError {
-    /// The first argument is no verb, or the others are none that it takes.
+    /// The first argument is no verb, or the verb does not take the others.
     Usage,
     /// Out of memory.
     Memory,

@@ -32,7 +32,7 @@ fn objects_of(alloc: Global, words: &[&str]) -> Result<FileNames, WordsError>
     Ok(file_names(alloc, words)?)
 }
 
-// Names, each of which is one.
+// Words, each of which is a name.
 fn names_in(alloc: Global, words: &[&str]) -> Result<Names, WordsError>
     ensures { AsksFor (λ names. names) result (names_in (lent words.now)) }
 {
@@ -122,7 +122,7 @@ fn operation_of(alloc: Global, word: &str, words: &[&str]) -> Result<Operation, 
     }
 }
 
-// What these words of `lib` ask for: the operation, the library, and the rest.
+// What these arguments of `lib` ask for: the operation, the library, and the rest.
 #[tactic(auto, unfolding(crate::specs::Operations::library_job))]
 pub(crate) fn library_job(alloc: Global, words: &[&str]) -> Result<LibraryJob, WordsError>
     ensures { AsksFor (λ job. job) result (library_job (lent words.now)) }

@@ -192,7 +192,7 @@ fn party_job(alloc: Global, words: &[String]) -> Result<Job, WordsError>
     Ok(Job::Party(party_of(alloc, &matches)?))
 }
 
-// What the words ask for, the first of which is this verb.
+// The job that the arguments ask for, the first of which is this verb.
 #[tactic(auto, unfolding(crate::specs::Jobs::job_by))]
 fn job_by(alloc: Global, verb: &str, words: &[String]) -> Result<Job, WordsError>
     ensures { AsksFor (λ job. job) result (job_by verb.now (texts words.now)) }

@@ -21,8 +21,7 @@ pub enum Search {
     Full,
 }
 
-// The first base from there on whose block of that many bytes has room for the segment; the next block, where none is
-// in this one.
+// `from`, if the segment lies in one block of `block` bytes there; else the start of the next block.
 fn in_block(block: u32, size: u32, from: u32) -> u32
     requires block { (block ≡ 256) ⊎ (block ≡ 2048) }
     requires size { size ≤ 65535 }
@@ -125,7 +124,7 @@ fn pass(extents: &[Extent], kind: Kind, reloc: Reloc, size: u32, base: u32) -> S
     }
 }
 
-/// Whether the memories are one.
+/// Whether the memories are the same.
 ///
 /// Source: own choice ("Bases that fit").
 pub fn same_space(one: Space, two: Space) -> bool

@@ -26,7 +26,7 @@ allowed line control h = let w = (line_law line control).0 h in says_allowed w.w
 abbrev IsAllowedLine : ℕ × Control → Type 0
 IsAllowedLine entry = IsAllowed entry.1
 
--- at most so many lines are read, each as a control that is allowed
+-- at most `most` lines are read, each as a control that is allowed
 record AreAllowed (most : ℕ) (controls : List (ℕ × Control)) : Type 0 where
   few : length controls ≤ most
   each : All IsAllowedLine controls

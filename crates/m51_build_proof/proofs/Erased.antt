@@ -1,4 +1,4 @@
--- The image of a linked program is erased outside its runs: a field lies only where content stands.
+-- The image of a linked program is erased outside its runs: a field lies only where there is content.
 use Rattle.std.proofs.Common.{◌≡◌, ◌⊎◌, inl, inr, ℕ, zero, suc, ◌+◌, ◌-◌, ◌<◌, ◌≤◌, Bool, true, false, cond, ◌&&◌, List, [], ◌∷◌, ◌++◌, length, map, get_or, Option, Some, None, refl, sym, ap, subst, ◌∙◌, arith}
 use Rattle.std.specs.Prelude.{◌%◌, is_some, nat_le, nat_lt, option_map, slice_get, unwrap_or}
 use Rattle.std.specs.List.{All, Contains, cons_option, filter_map, flat_map, range_with_len}
@@ -198,7 +198,7 @@ module _ (modules : List ModuleParts) (placing : Placing) (address : ℕ) where
       each_at (module_fields modules placing) (module_content modules placing) address
       (λ m here. of_module m (slice_get modules m) (module_valid valid m) here) (range_with_len 0 (length modules)) h
 
-  -- where no content stands there is FFH
+  -- where there is no content the byte is FFH
   unfilled_by : (content fields : Option ℕ) → byte_among (content_of modules placing) address ≡ content → byte_among (fields_of modules placing) address ≡ fields
       → All IsValid modules → (is_some content ≡ true → ⊥) → unwrap_or (option_or fields content) 0xFF ≡ 0xFF
   unfilled_by None None is are valid none = refl

@@ -51,7 +51,7 @@ use Rattle.m51_build_proof.proofs.Rooted.{layout_root}
 use Rattle.m51_build_proof.proofs.Verdicts.{reported}
 
 module _ (l : LayoutParts) (sound : IsSound l) (image : List ℕ) where
-  -- the root that the machine finds is the one that is wanted
+  -- the root that the machine finds is the required one
   wanted_by : (source : Source) (o : Option ℕ) → root_found l (Vector source) ≡ o → IsRootWanted l (Vector source) o
   wanted_by source (Some u) is = root_at l sound source u is
   wanted_by source None is = λ u h. absurd (cc (is, same_root_found l source (Some u) h (λ w k. ap Some (one_root l sound (vector_of source) u w h k))))

@@ -1,4 +1,4 @@
--- What a build comes to whose files are accepted and whose graph is drawn: placing decides what is left.
+-- The outcome of a build whose files are accepted and whose graph is drawn: placing decides what is left.
 use Rattle.std.proofs.Common.{◌≡◌, inl, inr, ℕ, List, Option, Some, None, Result, Ok, Err, refl, sym, ap, subst, ◌∙◌}
 use Rattle.std.specs.Prelude.{option_map}
 use Rattle.m51_cells.specs.Outcome.{and_then}
@@ -31,7 +31,7 @@ use Rattle.m51_chain.specs.Programs.{IsReport}
 use Rattle.m51_build_proof.specs.Overlay.{ReachesPlacing}
 use Rattle.m51_build_proof.specs.Builds.{IsRun}
 
--- what the files of the build give is no other thing
+-- where the files of a build give these inputs, its outcome is one for them
 of_given : (files : ProgramFiles) (Is : InputsTree → Outcome → Type 0) (given : Result InputsTree InputError) (inputs : InputsTree) (outcome : Outcome) → given ≡ Ok inputs
     → IsGivenOutcome files Is given outcome → Is inputs outcome
 of_given files Is given inputs outcome same (Refused error is one) = absurd (cc (same, is))

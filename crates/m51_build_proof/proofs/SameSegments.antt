@@ -155,7 +155,7 @@ covers_too byte p h =
     let both = and_parts (is_overlaid_data p.kind p.reloc p.mark) (nat_le p.base byte && nat_lt byte (p.base + p.size)) h in
     and_from (is_overlaid_data p.kind UnitType p.mark) (nat_le p.base byte && nat_lt byte (p.base + p.size)) (unit_too p both.0) both.1
 
--- where each that passes one test passes another, so many pass it at least
+-- if each element that passes one test passes another, at least as many pass the other
 or_too : (a b c d : Bool) → (a ≡ true → c ≡ true) → (b ≡ true → d ≡ true) → (a || b) ≡ true → (c || d) ≡ true
 or_too true b true d f g h = refl
 or_too true b false d f g h = absurd (false≢true (f refl))

@@ -1,5 +1,5 @@
--- Where names and the place of a statement have numbers of 16 bits, so has the value of each expression that writes such
--- numbers.
+-- Where names and the place of a statement have numbers of 16 bits, so has the value of each expression that writes
+-- such numbers.
 use Rattle.std.proofs.Common.{◌≡◌, ℕ, ◌+◌, ◌*◌, ◌-◌, ◌/◌, ◌%◌, ◌^◌, ◌<◌, ◌≤◌, nat_lt, nat_le, ◌==◌, Bool, true, false, not, ◌&&◌, ◌||◌, cond, List, Option, Some, None, Ok, Err, refl, subst, arith}
 use Rattle.std.specs.Prelude.{unwrap_or}
 use Rattle.std.proofs.Math.Nat.{div-le_self, mod-le}

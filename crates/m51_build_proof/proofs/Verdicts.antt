@@ -1,4 +1,4 @@
--- What a build comes to, by what its files give and by the rules of the link.
+-- The outcome of a build, by what its files give and by the rules of the link.
 use Rattle.std.proofs.Common.{◌≡◌, inl, inr, ℕ, Bool, true, false, List, Option, Some, None, Result, Ok, Err, refl, sym, ap, subst, ◌∙◌}
 use Rattle.m51_cells.specs.Outcome.{and_then}
 use Rattle.m51_cells.specs.declared.event.Event.{Event as RunEvent}

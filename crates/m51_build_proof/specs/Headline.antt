@@ -49,8 +49,8 @@ pub record LinksExactly (job : BuildJob) (contents : List (List ℕ)) (outcome :
       → program_in inputs ≡ Err why → outcome ≡ link_outcome why
 
 -- It prints the map, the line RUN, and the record of the machine that keeps each segment in a store of its own: a line
--- for each entry of the steps that are performed, and the last line with the event, if one came. It keeps the HEX of the
--- image, if a file is named for it.
+-- for each entry of the steps that are performed, and the last line with the event, if one came. It keeps the HEX of
+-- the image, if a file is named for it.
 pub record PrintsRecord (job : BuildJob) (script : Script) (linked : Linked) (outcome : Outcome) : Type 0 where
   -- the heaviest chain of each root, for the map
   pub chains : List Chain

@@ -24,8 +24,8 @@ pub record HasSameSegments (l other : LayoutParts) : Type 0 where
   pub owners : other.owners ≡ l.owners
   pub placed : AllZip HasOtherBase l.placed other.placed
 
--- The layout covers so many bytes of internal RAM by overlaid DATA, as its map says, and each sound layout of the same
--- segments covers at least as many.
+-- The layout covers this number of bytes of internal RAM by overlaid DATA, as its map says, and each sound layout of
+-- the same segments covers at least as many.
 pub record CoversLeast (l : LayoutParts) (bytes : ℕ) : Type 0 where
   pub covers : overlaid_below l.placed 256 ≡ bytes
   pub least : (other : LayoutParts) → HasSameSegments l other → IsSound other → bytes ≤ overlaid_below other.placed 256

@@ -94,8 +94,8 @@ pub record RefusesOverlay (modules : List ModuleParts) (g : GraphParts) (outcome
   pub status : outcome.status ≡ Link
   pub text : outcome.text ≡ refusal_text (L12 segment.title)
 
--- Under the premise a build is refused so exactly where the weight exceeds the length of the run, and neither L9 comes
--- nor L12 for a segment before the overlaid ones.
+-- Under the premise a build is refused so exactly if the weight exceeds the length of the run, and neither L9 comes nor
+-- L12 for a segment before the overlaid ones.
 abbrev pub BuildRefusesOverlay : Type 0
 BuildRefusesOverlay = (job : BuildJob) (contents : List (List ℕ)) (outcome : Outcome) (modules : List ModuleParts)
     (controls : List (ℕ × Control)) (g : GraphParts) (low high weight : ℕ)

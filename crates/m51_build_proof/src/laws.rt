@@ -6,10 +6,10 @@ ghost use Rattle.m51_build_proof.specs.Overlay.{BuildHasWeight, BuildPrintsLeast
 
 /// What holds of each outcome of `build`, for all contents of its files and all numbers of steps.
 ///
-/// It is run, status 0 or 1, exactly where no file is refused and no rule of the link fails; else its outcome is that of
+/// It is run, status 0 or 1, exactly if no file is refused and no rule of the link fails; else its outcome is that of
 /// the first refusal. What is printed after RUN is the record of the machine that keeps each segment in a store of its
-/// own, over the layout and the image of the link and the script. After each step of it at most one live segment covers a
-/// cell. The file that is kept is read as the image, which on one memory that has the script's fill outside overlaid
+/// own, over the layout and the image of the link and the script. After each step of it at most one live segment covers
+/// a cell. The file that is kept is read as the image, which on one memory that has the script's fill outside overlaid
 /// cells gives the same entries over the steps that were performed, whatever overlaid cells hold at the start; and so
 /// does the verb `flat`, over that file and the same script, for as many steps.
 ///
@@ -25,9 +25,9 @@ pub fn each_build_has_one_outcome()
     ensures { EachHasOneOutcome }
 {}
 
-/// Where words ask for a build, and the shelf tells its files: what the contract of the top call says at status 0 or 1
-/// is that the files of the words were read, that the outcome of the build is as promised, that its file is kept, and
-/// that its text is written whole.
+/// Where the arguments ask for a build, and the files of the shelf are visible: what the contract of the top call says
+/// at status 0 or 1 is that the files that the arguments name were read, that the outcome of the build is as promised,
+/// that its file is kept, and that its text is written whole.
 ///
 /// Source: own choice ("The headline").
 pub fn chain_keeps_the_promise()
@@ -45,8 +45,8 @@ pub fn printed_figure_is_weight()
 
 /// Under the same condition, for each outcome of `build` that is a run, status 0 or 1: the text begins with the map of
 /// the layout that placing gives, its `CHAIN` lines are the heaviest walks, and its `OVERLAID` line has the weight of
-/// the graph. The overlaid segments of that layout cover so many bytes of internal RAM, and those of no sound layout of
-/// the same segments fewer, whatever their bases.
+/// the graph. The overlaid segments of that layout cover as many bytes of internal RAM as this weight, and those of no
+/// sound layout of the same segments fewer, whatever their bases.
 ///
 /// Source: own choice ("Heaviest chains").
 pub fn build_prints_least_overlay()
@@ -54,9 +54,9 @@ pub fn build_prints_least_overlay()
 {}
 
 /// Under the same condition, for each outcome of `build` that comes as far as placing: it is status 4 and the line of
-/// L12 with the name of an overlaid segment exactly where the weight exceeds the length of the run, and neither L9
-/// comes nor L12 for a segment before the overlaid ones. With or without that condition L12 comes only where a build
-/// comes as far as placing: no file is refused, and no rule of the link before L9 fails.
+/// L12 with the name of an overlaid segment exactly if the weight exceeds the length of the run, and neither L9 comes
+/// nor L12 for a segment before the overlaid ones. With or without that condition L12 comes only where a build comes as
+/// far as placing: no file is refused, and no rule of the link before L9 fails.
 ///
 /// Source: own choice ("Heaviest chains").
 pub fn build_refuses_overlay()

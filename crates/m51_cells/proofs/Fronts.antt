@@ -1,4 +1,4 @@
--- Laws of told bytes that have grown by a front of a text: a part of it from its beginning, or all of it.
+-- Laws of visible output that has grown by a prefix of a text, which may be all of it.
 use Rattle.std.proofs.Common.{◌≡◌, ℕ, ◌+◌, List, ◌++◌, length, take, Option, arith, length-append}
 use Rattle.std.proofs.Math.Seq.{take-append-add}
 use Rattle.std.proofs.lemmas.List.{take-append-le}
@@ -6,16 +6,16 @@ use Rattle.std.proofs.KnownBytes.{Appends-trans}
 use Rattle.std.specs.Io.KnownBytes.{Appends}
 use Rattle.m51_cells.specs.Outside.{AppendsFront}
 
--- a text, and then a front of another, are a front of both
+-- a text, and then a prefix of another, are a prefix of the two together
 pub front_at_end : (a b c : Option (List ℕ)) (xs ys : List ℕ) → Appends a b xs → AppendsFront b c ys → AppendsFront a c (xs ++ ys)
 front_at_end a b c xs ys p q =
     let some : take (length xs + q.0) (xs ++ ys) ≡ xs ++ take q.0 ys = take-append-add xs ys q.0 in
     (length xs + q.0, omega (arith, length-append xs ys, q.1), rw some (Appends-trans a b c xs (take q.0 ys) p q.2))
 
--- a front stays one where more follows in the text
+-- a prefix of a text is one of each longer text that begins with it
 pub front_more : (a b : Option (List ℕ)) (xs ys : List ℕ) → AppendsFront a b xs → AppendsFront a b (xs ++ ys)
 front_more a b xs ys q = (q.0, omega (arith, length-append xs ys, q.1), rw (take-append-le q.0 xs ys q.1) (q.2))
 
--- a text, then a front of another, where a third follows
+-- the same where a third text follows the second
 pub front_after : (a b c : Option (List ℕ)) (xs ys zs : List ℕ) → Appends a b xs → AppendsFront b c ys → AppendsFront a c (xs ++ (ys ++ zs))
 front_after a b c xs ys zs p q = front_at_end a b c xs (ys ++ zs) p (front_more b c ys zs q)

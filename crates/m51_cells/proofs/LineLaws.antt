@@ -41,6 +41,6 @@ cut_line text line count is found cut =
     ∙ ap (λ (l : List ℕ). l ∷ lines (drop (count + 1) text)) (sym cut)
     ∙ ap (λ (rest : List ℕ). line ∷ lines rest) (sym (take_rest text (count + 1)))
 
--- the last line that is there, and no text after it
+-- where no text is left, the lines found are all of them
 pub no_more : (found : List (List ℕ)) (rest text : List ℕ) → rest ≡ [] → found ++ lines rest ≡ lines text → found ≡ lines text
 no_more found rest text none all = sym (append-nil found) ∙ ap (λ (r : List ℕ). found ++ lines r) (sym none) ∙ all

@@ -31,7 +31,7 @@ pub map_none : {A B : Type 0} (f : A → B) (x : Option A) → option_map f x �
 map_none f None h = refl
 map_none f (Some x) h = absurd (cc h)
 
--- the names with these in front
+-- these names before those of the option
 abbrev pub names_before : List (List ℕ) → Option (List (List ℕ)) → Option (List (List ℕ))
 names_before names None = None
 names_before names (Some more) = Some (names ++ more)

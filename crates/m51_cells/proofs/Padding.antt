@@ -1,4 +1,4 @@
--- A name at the front of an array of 31 bytes.
+-- A name at the beginning of an array of 31 bytes.
 use Rattle.std.proofs.Common.{◌≡◌, ℕ, ◌+◌, ◌-◌, ◌<◌, ◌≤◌, List, [], ◌∷◌, ◌++◌, length, take, map, replicate, slice_set, slice_index, sym, ap, ◌∙◌, append_assoc, arith, length-take-le}
 use Rattle.std.proofs.Math.Seq.{set-append_seam, take-append_seam, take-length}
 use Rattle.std.proofs.lemmas.Grind.{common_steps}
@@ -11,11 +11,11 @@ use Rattle.m51_cells.proofs.NameLaws.{upper_again}
 abbrev zeros : ℕ → List ℕ
 zeros n = replicate n 0
 
--- there is a zero in front, as long as there are any
+-- a positive number of zeros begins with a zero
 one_less : (n m : ℕ) → n ≡ m + 1 → zeros n ≡ 0 ∷ zeros m
 one_less n m h = ap zeros h ∙ grind (arith, common_steps)
 
--- a write after the front makes the front longer
+-- a write at the first index after a prefix extends the prefix
 at_seam : (xs ys : List ℕ) (i y v : ℕ) → length xs ≡ i → slice_set (xs ++ y ∷ ys) i v ≡ (xs ++ v ∷ []) ++ ys
 at_seam xs ys i y v e = ap (λ n. slice_set (xs ++ y ∷ ys) n v) (sym e) ∙ set-append_seam xs y ys v ∙ sym (append_assoc xs (v ∷ []) ys)
 

@@ -11,7 +11,7 @@ pub guarded : {A : Type 0} (b : Bool) (x : Option A) (y : A) → cond b x None �
 guarded true x y h = (refl, h)
 guarded false x y h = absurd (cc)
 
--- the value with which an option goes on
+-- the value of an option, on which its next step depends
 pub record Goes-on {A B : Type 0} (f : A → Option B) (o : Option A) (y : B) : Type 0 where
   pub value : A
   pub found : o ≡ Some value
@@ -55,7 +55,7 @@ run_step : (p : ℕ → Bool) (x : ℕ) (xs rest : List ℕ) (b : Bool) → b �
 run_step p x xs rest true h len = omega (arith, len)
 run_step p x xs rest false h len = absurd (cc)
 
--- a run that the rest does not go on
+-- the length of a run that the rest does not continue
 pub run_len : (p : ℕ → Bool) (run rest : List ℕ) → list_all p run ≡ true → prefix_len p rest ≡ 0 → prefix_len p (run ++ rest) ≡ length run
 run_len p [] rest all stops = stops
 run_len p (x ∷ xs) rest all stops =

@@ -17,7 +17,7 @@ below_or_last (suc n) (suc count) h = elim (below_or_last n count (omega (arith,
   | inr last ↦ inr (ap suc last)
 ]
 
--- a number is positive exactly where it is not 0
+-- a number is positive exactly if it is not 0
 pub positive : (n : ℕ) → (n == 0) ≡ false → 0 < n
 positive n h = grind (arith, nat_tests)
 
@@ -50,11 +50,11 @@ pub all_one : {X : Type 0} (P : X → Type 0) (x : X) → P x → All P (x ∷ [
 all_one P x h zero d below = h
 all_one P x h (suc k) d below = absurd (omega (arith, below))
 
--- no two items of the empty list stand in any relation, so each two do
+-- any relation holds of each two items of the empty list, which has none
 pub pairs_none : {X : Type 0} (R : X → X → Type 0) → AllPairs R []
 pairs_none R i j d less below = absurd (omega (arith, below))
 
--- one number more
+-- a range that is longer by one number
 pub range_suc : (first n : ℕ) → range_with_len first (suc n) ≡ range_with_len first n ++ (first + n) ∷ []
 range_suc first zero = ap (λ k. k ∷ []) (omega arith)
 range_suc first (suc n) = ap (λ ks. first ∷ ks) (range_suc (first + 1) n ∙ ap (λ k. range_with_len (first + 1) n ++ k ∷ []) (omega arith))

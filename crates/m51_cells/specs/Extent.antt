@@ -8,7 +8,7 @@ use Rattle.m51_cells.specs.declared.extent.Extent.{Extent}
 use Rattle.m51_cells.specs.declared.kind.Kind.{Kind}
 use Rattle.m51_cells.specs.declared.kind.Kind.TheVariants.{Code, Xdata, Direct, Idata, Bits, Number}
 
--- so many cells of a memory, from the first
+-- `len` cells of a memory, from the first
 abbrev pub extent : Space → ℕ → ℕ → Extent
 extent space first len = record { space = space; first = first; len = len }
 

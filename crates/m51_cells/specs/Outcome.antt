@@ -12,7 +12,7 @@ abbrev pub Gives : {T V E R : Type 0} → (T → V) → (E → Option R) → Res
 Gives view refusal (Ok value) answer = answer ≡ Ok (view value)
 Gives view refusal (Err error) answer = RefusesWith (refusal error) answer
 
--- goes on with the value, where there is one
+-- continues with the value; an error is the result
 abbrev pub and_then : {A B E : Type 0} → Result A E → (A → Result B E) → Result B E
 and_then (Ok value) go = go value
 and_then (Err error) go = Err error

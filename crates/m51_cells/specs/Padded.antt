@@ -3,7 +3,7 @@ use Rattle.std.specs.Prelude.{◌≡◌, ◌≤◌, ◌-◌, ℕ, List, ◌++◌
 use Rattle.std.proofs.Common.{sym, ap, subst, ◌∙◌, length-take-le}
 use Rattle.m51_cells.specs.Name.{IsUpper}
 
--- the name is the front of an array of 31 bytes, zeros follow it, and none of its bytes is a small letter
+-- the name is at the beginning of an array of 31 bytes, zeros follow it, and none of its bytes is a small letter
 pub record IsPadded (len : ℕ) (bytes : List ℕ) : Type 0 where
   pub short : len ≤ 31
   pub whole : length bytes ≡ 31

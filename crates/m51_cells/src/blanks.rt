@@ -41,7 +41,7 @@ pub fn part_len(text: &[u8]) -> usize
     text.iter().take_while(|byte| !is_blank(**byte)).count()
 }
 
-/// Whether a line says nothing: it is empty, has only blanks, or begins with `;`.
+/// Whether a line is skipped: it is empty, has only blanks, or begins with `;`.
 ///
 /// Source: own choice ("Lines").
 pub fn is_skipped(line: &[u8]) -> bool

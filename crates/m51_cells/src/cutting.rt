@@ -25,7 +25,7 @@ fn count_before_feed(text: &[u8]) -> usize
     text.iter().take_while(|byte| **byte != b'\n').count()
 }
 
-/// The first line of a text, without its end, and what follows that end; `None` exactly where the text is empty.
+/// The first line of a text, without its end, and what follows that end; `None` exactly if the text is empty.
 ///
 /// A line ends in a line feed, or in a carriage return and a line feed; the last may lack its end. Any other carriage
 /// return is a byte of its line.

@@ -1,4 +1,4 @@
-//! What the record of a run reports.
+//! What the trace of a run reports.
 use crate::Cell;
 
 /// Why a transfer of control is refused.
@@ -43,7 +43,7 @@ pub enum Event {
     PowerDown { at: u16 },
 }
 
-/// One line of the record.
+/// One line of the trace.
 ///
 /// Source: own choice ("The record").
 #[derive(Clone, Copy, Debug, PartialEq, Eq)]

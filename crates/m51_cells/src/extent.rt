@@ -5,7 +5,7 @@ ghost use Rattle.m51_cells.specs.Fits.{allows, Fits, FitsBlock, FitsMemory};
 
 use crate::{Kind, Reloc, Space};
 
-/// Cells in a row.
+/// Consecutive cells of a memory.
 ///
 /// Source: own choice ("A cell of RAM is a bit").
 #[derive(Clone, Copy, Debug, PartialEq, Eq)]
@@ -13,7 +13,7 @@ pub struct Extent {
     pub space: Space,
     /// The first cell.
     pub first: u32,
-    /// How many there are.
+    /// The number of cells.
     pub len: u32,
 }
 

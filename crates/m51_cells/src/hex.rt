@@ -42,7 +42,7 @@ pub fn hex4(number: u16) -> [u8; 4]
     ]
 }
 
-/// The value of a digit in either case, below 16; `None` exactly where the byte is no digit.
+/// The value of a digit in either case, below 16; `None` exactly if the byte is no digit.
 ///
 /// Source: Intel HEX.
 pub fn digit_value(byte: u8) -> Option<u8>

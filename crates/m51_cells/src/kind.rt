@@ -53,7 +53,7 @@ pub enum Base {
     External(u8),
 }
 
-/// Whether the kinds are one.
+/// Whether the kinds are the same.
 ///
 /// Source: ASM51 guide.
 #[tactic(auto, using(crate::proofs::KindLaws::kind_same))]
@@ -64,7 +64,7 @@ pub fn same_kind(one: Kind, two: Kind) -> bool
     one == two
 }
 
-/// Whether the types are one.
+/// Whether the types are the same.
 ///
 /// Source: ASM51 guide.
 #[tactic(auto, using(crate::proofs::KindLaws::reloc_same))]

@@ -43,7 +43,7 @@ impl<T> ListOf<T> {
         ListOf { items }
     }
 
-    /// The items, handed out without taking memory.
+    /// The items, by value. It allocates nothing.
     ///
     /// Source: own choice ("Lists in types").
     pub fn into_vec(self) -> Vec<T>
@@ -53,7 +53,7 @@ impl<T> ListOf<T> {
         items
     }
 
-    /// The items, lent.
+    /// The items, borrowed.
     ///
     /// Source: own choice ("Lists in types").
     pub fn as_slice(&self) -> &[T]
@@ -62,7 +62,7 @@ impl<T> ListOf<T> {
         &self.items
     }
 
-    /// How many items there are.
+    /// The number of items.
     ///
     /// Source: own choice ("Lists in types").
     pub fn len(&self) -> usize

@@ -79,7 +79,7 @@ impl PartialEq for Name {
 
     ghost laws = { Prim.search (comparing, rules) };
 
-    // Whether the names are one.
+    // Whether the names are the same.
     fn eq(&self, other: &Name) -> bool {
         self.bytes() == other.bytes()
     }
@@ -100,7 +100,7 @@ impl Hash for Name {
 }
 
 impl Name {
-    /// The name that a text writes, in either case; `None` exactly where the text is empty, is longer than 31 bytes,
+    /// The name that a text writes, in either case; `None` exactly if the text is empty, is longer than 31 bytes,
     /// has a byte other than a letter, a digit, `?` or `_`, or begins with a digit.
     ///
     /// Source: own choice ("Names").

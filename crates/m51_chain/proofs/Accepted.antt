@@ -31,7 +31,7 @@ use Rattle.m51_verbs.specs.Optional.{content_if}
 use Rattle.m51_chain.specs.Parties.{party_files}
 use Rattle.m51_chain.specs.ProgramFiles.{AreAnswered, script_content}
 
--- the value with which a step goes on
+-- the value with which a step continues
 pub on_value : {A B E : Type 0} (r : Result A E) (go : A → Result B E) (y : B) (P : Type 0) → ((x : A) → r ≡ Ok x → go x ≡ Ok y → P) → and_then r go ≡ Ok y → P
 on_value (Ok x) go y P k h = k x refl h
 on_value (Err e) go y P k h = absurd (cc h)
@@ -79,7 +79,7 @@ linked_count word (name ∷ names) (bytes ∷ contents) (m ∷ ms) linked all co
     by_source (ending_of name) word bytes m ms (linked_from (word + 1) names contents) linked (length names) parts.0
     (λ rest is. linked_count (word + 1) names contents ms rest parts.1 (omega (arith, count)) (omega (arith, each)) is) h
 
--- as many answers as sources, and as many words
+-- as many answers as sources, and as many file arguments
 sources_count : (names contents : List (List ℕ)) → list_all is_source names ≡ true → length contents ≡ length names → length (sources_of names contents) ≡ length names
 sources_count [] contents all count = refl
 sources_count (name ∷ names) [] all count = absurd (omega (arith, count))
@@ -141,7 +141,7 @@ sources_give names contents control file inputs all count given =
     (λ sources linked same are. linked_count 0 names contents sources linked all count same are)
     (sym given.is)
 
--- words of party are 2 to 8 sources
+-- the file arguments of party are 2 to 8 sources
 pub record AreBoards (files : List (List ℕ)) : Type 0 where
   pub least : 2 ≤ length files
   pub most : length files ≤ 8

@@ -1,4 +1,4 @@
--- What lies behind a status.
+-- What caused a status.
 use Rattle.std.proofs.Common.{◌≡◌, ℕ, List, Option, Some, None, refl, sym, ap, ◌∙◌, subst, inl, inr, arith}
 use Rattle.std.specs.Prelude.{option_map}
 use Rattle.m51_jobs.specs.declared.job.Job.{Job}
@@ -18,7 +18,7 @@ use Rattle.m51_chain.specs.Due as due
 use Rattle.m51_chain.specs.Due.{IsWorkFor, IsAtFor, IsDueFor, IsDue}
 use Rattle.m51_chain.specs.Told.{Written, Ended, IsSaid, IsWorked, IsKeepFault, IsCaused}
 
--- ---- what is known of told files, forgotten
+-- ---- what is known of files that are visible, as if they were not
 
 read_untold : (holds : Option Files) (names contents : List (List ℕ)) → AreRead holds names contents → AreRead None names contents
 read_untold holds names contents read = record { count = read.count; within = read.within; held = tt }

@@ -1,4 +1,4 @@
--- Words and files have one answer, and it comes where no call fails.
+-- Arguments and files have one answer, and it is given if no call fails.
 use Rattle.std.proofs.Common.{◌≡◌, ◌⊎◌, ℕ, ◌<◌, ◌≤◌, List, Option, Some, None, refl, sym, ap, ◌∙◌, subst, arith, inl, inr}
 use Rattle.m51_cells.specs.declared.limits.TheConstants.{MOST_FILES}
 use Rattle.m51_jobs.specs.declared.job.Job.{Job}
@@ -23,7 +23,7 @@ ByReading job (Absent name) answer = answer ≡ unread_answer name
 ByReading job TooLong answer = answer ≡ long_answer
 ByReading job (Whole contents) answer = HasOutcome job contents answer
 
--- by the number of file words, and then by what is read
+-- by the number of file arguments, and then by what is read
 abbrev ByJob : Files → Job → Answer → Type 0
 ByJob files job answer =
     ((MOST_FILES < file_count job) × (answer ≡ many_answer))

@@ -15,7 +15,8 @@ use Rattle.m51_chain.specs.Due.{IsDue}
 use Rattle.m51_chain.specs.Told.{Ended, IsUnread, IsTold}
 use Rattle.m51_verbs.proofs.Readings.{long_after}
 
--- Where the shelf tells its files, an answer that is due is that of words and files, or a call on the shelf failed.
+-- If the files of the shelf are visible, an answer that is due is that of arguments and files, or a call on the shelf
+-- failed.
 due_answer : (words : List (List ℕ)) (held : Files) (c : Change) (answer : Answer) → IsDue words (Some held) c.reads_before c.reads answer
     → IsAnswer words held answer ⊎ IsUnread words (Some held) c answer
 due_answer words held c answer (due.Faulty none is) = inl (answers.Faulty none is)

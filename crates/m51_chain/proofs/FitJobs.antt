@@ -96,7 +96,7 @@ other_one {A = A} app job_in of words one = by (option_and_then job_in (rows_in 
     by None = tt
     by (Some a) = one a
 
--- a verb, and the job of its words
+-- a verb, and the job of its arguments
 abbrev Verb : Type 0
 Verb = List ℕ × Option Job
 

@@ -1,4 +1,4 @@
--- What a shelf holds after the answer for words was kept.
+-- What a shelf holds after the answer for arguments was kept.
 use Rattle.std.proofs.Common.{◌≡◌, inl, inr, ℕ, List, Option, Some, None, refl, sym, ap, subst, ◌∙◌}
 use Rattle.m51_jobs.specs.Files.{name_kept}
 use Rattle.m51_shelf.specs.Shelf.{File, Files}

@@ -1,4 +1,4 @@
--- What is known of a job that words ask for.
+-- What is known of a job that arguments ask for.
 use Rattle.std.specs.Prelude.{◌≡◌, ◌≤◌, count_by, true}
 use Rattle.m51_jobs.specs.declared.job.Job.{Job}
 use Rattle.m51_jobs.specs.declared.job.Job.TheVariants.{Asm, Gen, Party}

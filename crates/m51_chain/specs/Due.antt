@@ -1,4 +1,4 @@
--- Which answer is due for the words and for what the shelf did.
+-- Which answer is due for the arguments and for what the shelf did.
 use Rattle.std.specs.Prelude.{◌≡◌, ℕ, ◌<◌, ◌≤◌, List, Option, Some, None, Result, Ok, Err}
 use Rattle.m51_cells.specs.declared.limits.TheConstants.{MOST_FILES}
 use Rattle.m51_cells.specs.declared.memory.NoMemory.{NoMemory}
@@ -18,7 +18,7 @@ use Rattle.m51_shelf.specs.Reading.{IsLong}
 use Rattle.m51_verbs.specs.Reading.{AreRead, AreGiven, ReadsSome, IsReached}
 use Rattle.m51_chain.specs.Expected.{HasOutcome}
 
--- The work was done on contents that were read whole, and that are what the shelf handed out.
+-- The work was done on contents that were read whole, and that are what the shelf returned.
 pub record IsWorkFor (job : Job) (holds : Option Files) (before after : ReadAt) (answer : Answer) : Type 0 where
   pub few : file_count job ≤ MOST_FILES
   pub contents : List (List ℕ)
@@ -40,20 +40,20 @@ pub data IsDueFor (job : Job) (holds : Option Files) (before after : ReadAt) (an
       → IsDueFor job holds before after answer
   Worked : IsWorkFor job holds before after answer → IsDueFor job holds before after answer
 
--- The answer is due for these words: they are faulty, or it is due for their job.
+-- The answer is due for these arguments: they are faulty, or it is due for their job.
 pub data IsDue (words : List (List ℕ)) (holds : Option Files) (before after : ReadAt) (answer : Answer) : Type 0 where
   Faulty : job_of words ≡ None → answer ≡ usage_answer → IsDue words holds before after answer
   Asked : (job : Job) → job_of words ≡ Some job → IsDueFor job holds before after answer
       → IsDue words holds before after answer
 
--- The files that the words name were started, as far as it came, and no other.
+-- The files that the arguments name were started, as far as it came, and no other.
 pub record ReadsOnly (words : List (List ℕ)) (before after : ReadAt) : Type 0 where
   pub job : Job
   pub asked : job_of words ≡ Some job
   pub few : file_count job ≤ MOST_FILES
   pub reads : ReadsSome (names_read job) before after
 
--- What is to be done for what work comes to, where the file that is kept has this name: a step between the parts.
+-- What is to be done for the outcome of work, if the file that is kept has this name: a step between the parts.
 abbrev pub IsPlanned : Option (List ℕ) → Result Work Stop → Result Task NoMemory → Type 0
 IsPlanned name (Ok work) (Ok task) = answer_of task ≡ named_answer name (outcome_of work)
 IsPlanned name (Ok work) (Err none) = ⊥

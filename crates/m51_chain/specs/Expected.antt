@@ -1,4 +1,4 @@
--- The answer for words and files.
+-- The answer for arguments and files.
 use Rattle.std.specs.Prelude.{◌≡◌, ℕ, ◌<◌, ◌≤◌, List, Option, Some, None}
 use Rattle.m51_cells.specs.declared.limits.TheConstants.{MOST_FILES}
 use Rattle.m51_jobs.specs.declared.job.Job.{Job}
@@ -31,8 +31,9 @@ pub record HasOutcome (job : Job) (contents : List (List ℕ)) (answer : Answer)
   pub keeps : MayKeep outcome.status outcome.keeps
   pub is : answer ≡ named_answer (name_kept job) outcome
 
--- The answer for these words and files, the first in this order: the words are faulty; there are too many file words; a
--- file is not there or is too long, the first of those that are read; else what the verb makes of their contents.
+-- The answer for these arguments and files, the first in this order: the arguments are faulty; there are too many file
+-- arguments; a file does not exist or is too long, the first of those that are read; else what the verb makes of their
+-- contents.
 pub data IsAnswer (words : List (List ℕ)) (files : Files) (answer : Answer) : Type 0 where
   Faulty : job_of words ≡ None → answer ≡ usage_answer → IsAnswer words files answer
   Many : (job : Job) → job_of words ≡ Some job → MOST_FILES < file_count job → answer ≡ many_answer

@@ -9,7 +9,7 @@ use Rattle.m51_verbs.specs.Outcome.{Outcome, refused}
 use Rattle.m51_verbs.specs.Refusals.{library_outcome, object_outcome}
 use Rattle.m51_verbs.specs.ScriptRefusals.{control_outcome, script_outcome}
 
--- the faults of the sources of these words
+-- the faults of the sources of these file arguments
 abbrev pub faulty_lines : List (List ℕ) → SourceFaults → List ℕ
 faulty_lines files faulty = fault_lines (word_at files faulty.file) files faulty.faults
 

@@ -19,7 +19,7 @@ pub data IsProgramOutcome (program : Result Program Refusal) (Is : Linked → Ou
   Follows : (p : Program) (linked : Linked) → program ≡ Ok p → IsLinked p linked → Is linked outcome
       → IsProgramOutcome program Is outcome
 
--- the program of a module that is linked alone
+-- the program of a module that is linked by itself
 abbrev pub alone : ModuleParts → Result Program Refusal
 alone parts = program_of (parts ∷ []) [] []
 

@@ -1,4 +1,4 @@
--- What party makes of its files: each program is linked alone and is a board, and the boards run on one line.
+-- What party makes of its files: each program is linked by itself and is a board, and the boards run on one line.
 use Rattle.std.specs.Prelude.{◌≡◌, ℕ, ◌≤◌, Bool, true, false, List, [], ◌∷◌, length, All, None, Result, Ok, Err, IfSome, Vec}
 use Rattle.std.specs.declared.alloc.Global.{Global}
 use Rattle.m51_cells.specs.Outcome.{◌>>=◌}
@@ -38,7 +38,7 @@ each_of give (x ∷ xs) = do
   others ← each_of give xs
   Ok (first ∷ others)
 
--- the programs of modules, each linked alone
+-- the programs of modules, each linked by itself
 abbrev pub programs_of : List ModuleParts → Result (List Program) Refusal
 programs_of modules = each_of alone modules
 
@@ -98,7 +98,7 @@ pub record IsUnlinked {A : Type 0} (program : Result A Refusal) (outcome : Outco
   pub refuses : program ≡ Err why
   pub is : outcome ≡ link_outcome why
 
--- the board of a module that is linked alone, or a refusal of its link; out of memory is free
+-- the board of a module that is linked by itself, or a refusal of its link; out of memory is free
 abbrev pub IsBoardOr : Script → ModuleParts → Result BoardState Stop → Type 0
 IsBoardOr script parts (Ok board) = (program : Program) × (alone parts ≡ Ok program) × IsBoardOf script program board
 IsBoardOr script parts (Err stop) = IfSome (stopped stop) (IsUnlinked (alone parts))
@@ -114,7 +114,7 @@ abbrev pub AreBoardsOr : Script → List ModuleParts → Result (Vec BoardState 
 AreBoardsOr script modules (Ok boards) = AreBoardsFor script modules boards.items
 AreBoardsOr script modules (Err stop) = IfSome (stopped stop) (IsUnlinked (programs_of modules))
 
--- the boards of a party that were not stepped, and what they come to
+-- the boards of a party that were not stepped, and their outcome
 pub record AreJoined (job : PartyJob) (contents : List (List ℕ)) (boards : List BoardState) : Type 0 where
   pub least : LEAST_BOARDS ≤ length boards
   pub most : length boards ≤ MOST_BOARDS
@@ -126,7 +126,7 @@ abbrev pub AreJoinedOr : PartyJob → List (List ℕ) → Result (Vec BoardState
 AreJoinedOr job contents (Ok boards) = AreJoined job contents boards.items
 AreJoinedOr job contents (Err stop) = IfSome (stopped stop) (IsPartyOutcome job contents)
 
--- the status of a party that came to its end
+-- the status after a party, by how it ended
 abbrev pub party_status : PartyEnd → Result Status Failed
 party_status party_ends.Finished = Ok status.Ran
 party_status party_ends.Stopped = Ok status.Event

@@ -1,4 +1,4 @@
--- The files of a program: file words, a control file and a script. They are refused, or something comes of them.
+-- The files of a program: file arguments, a control file and a script. They are refused, or something comes of them.
 use Rattle.std.specs.Prelude.{◌≡◌, ℕ, ◌+◌, ◌≤◌, List, length, take, drop, Option, option_to_list, Result, Ok, Err, IfSome}
 use Rattle.std.specs.List.{All}
 use Rattle.m51_cells.specs.declared.limits.TheConstants.{MOST_FILES, MOST_FILE_BYTES}
@@ -10,7 +10,7 @@ use Rattle.m51_chain.specs.InputRefusals.{input_outcome}
 use Rattle.m51_verbs.specs.Optional.{content_if}
 use Rattle.m51_verbs.specs.Outcome.{Outcome, stopped}
 
--- File words, and the files that options name. They are read in this order.
+-- File arguments, and the files that options name. They are read in this order.
 pub record ProgramFiles : Type 0 where
   pub words : List (List ℕ)
   pub control : Option (List ℕ)
@@ -19,7 +19,7 @@ pub record ProgramFiles : Type 0 where
 abbrev pub named : List (List ℕ) → Option (List ℕ) → Option (List ℕ) → ProgramFiles
 named words control script = record { words = words; control = control; script = script }
 
--- the contents of the file words, of the control file and of the script
+-- the contents of the file arguments, of the control file and of the script
 abbrev pub word_contents : ProgramFiles → List (List ℕ) → List (List ℕ)
 word_contents files contents = take (length files.words) contents
 
@@ -55,7 +55,7 @@ pub record IsFilesOutcome
 
 -- Conditions of functions, and what functions on the way answer.
 
--- there are few file words, and as many contents as files, each within the limit
+-- there are at most MOST_FILES file arguments, and as many contents as files, each within the limit
 pub record HasParts (files : ProgramFiles) (contents : List (List ℕ)) : Type 0 where
   pub few : length files.words ≤ MOST_FILES
   pub count : length contents

@@ -24,7 +24,7 @@ map_and_run linked chains =
 abbrev pub hex_kept : Option (List ℕ) → Linked → Option (List ℕ)
 hex_kept name linked = option_map (λ _. hex_of linked.image linked.written) name
 
--- the report of a linked program: the map, RUN, and the record of at most so many steps with a script; its HEX is kept
+-- the report of a linked program: the map, RUN, and the record of at most `steps` steps with a script; its HEX is kept
 abbrev pub program_report : Linked → List Chain → Option (List ℕ) → Script → ℕ → Outcome
 program_report linked chains hex script steps = record {
   status = status_by (report_of linked.layout linked.image script steps).event;

@@ -1,4 +1,4 @@
--- What the work of a verb comes to, boards on one line too, and the answer of what is to be done.
+-- The outcome of the work of a verb, boards on one line too, and the answer of what is to be done.
 use Rattle.std.specs.Prelude.{None, Result}
 use Rattle.m51_chain.specs.declared.work.Task.{Task}
 use Rattle.m51_chain.specs.declared.work.Task.TheVariants as task
@@ -13,7 +13,7 @@ abbrev pub outcome_of : Work → Outcome
 outcome_of (work.Alone done) = verbs.outcome_of done
 outcome_of (work.Party boards steps) = party_outcome boards steps
 
--- what work comes to, out of memory aside, is one of these outcomes
+-- the outcome of work, out of memory aside, is one of these
 abbrev pub Comes : (Outcome → Type 0) → Result Work Stop → Type 0
 Comes Is result = ComesAs outcome_of Is result
 

@@ -12,7 +12,7 @@ use m51_verbs::{
 };
 use std::alloc::Global;
 
-// The lines of the faults of the sources of these words.
+// The lines of the faults of the sources of these file arguments.
 fn faults_text(alloc: Global, files: &[FileName], all: &[SourceFaults]) -> Result<Vec<u8>, NoMemory>
     ensures { IfOk result (λ text. text.items ≡ faults_text files.now all.now) }
 {
@@ -39,7 +39,7 @@ fn refuse_sources(
     })
 }
 
-// The files of a program are refused. Its clause `error` hands the condition on to the proof of the caller.
+// The files of a program are refused. Clause `error` repeats the condition for the caller's proof.
 pub(crate) fn refuse_inputs(
     alloc: Global,
     files: &[FileName],

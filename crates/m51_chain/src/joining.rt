@@ -39,7 +39,7 @@ fn script_again(alloc: Global, file: Option<&Bytes>) -> Result<Script, NoMemory>
     }
 }
 
-// The board of a module that is linked alone, with the script of this file.
+// The board of a module that is linked by itself, with the script of this file.
 fn board_alone(alloc: Global, parts: Module, file: Option<&Bytes>) -> Result<Board, Stop>
     requires { IsOk (script_in (option_copied file)) }
     ensures { (script : ScriptState) → script_in (option_copied file.entry) ≡ Ok script
@@ -50,7 +50,7 @@ fn board_alone(alloc: Global, parts: Module, file: Option<&Bytes>) -> Result<Boa
     Ok(board_of(alloc, linked, script)?)
 }
 
-// The boards of modules, each linked alone, in order.
+// The boards of modules, each linked by itself, in order.
 fn boards_alone(
     alloc: Global,
     modules: Vec<Module>,
@@ -82,7 +82,7 @@ fn together(alloc: Global, boards: Vec<Board>, steps: Steps) -> Result<Work, NoM
     })
 }
 
-// The boards of a party: each program is built alone.
+// The boards of a party: each program is built by itself.
 fn party_boards(alloc: Global, job: &PartyJob, contents: &[Bytes]) -> Result<Vec<Board>, Stop>
     requires fit { are_boards job.now.files ≡ true }
     requires contents { AreContentsOf (Party job.now) contents.now }
@@ -94,7 +94,7 @@ fn party_boards(alloc: Global, job: &PartyJob, contents: &[Bytes]) -> Result<Vec
     boards_alone(alloc, modules, script)
 }
 
-// Builds each program alone, and joins their boards on one line. The party is the last that takes memory.
+// Builds each program by itself, and joins their boards on one line. The party is the last allocation.
 pub(crate) fn join_files(alloc: Global, job: &PartyJob, contents: &[Bytes]) -> Result<Work, Stop>
     requires fit { are_boards job.now.files ≡ true }
     requires contents { AreContentsOf (Party job.now) contents.now }

@@ -72,7 +72,7 @@ pub(crate) fn link_modules(
     }
 }
 
-// Links a module alone: there are no libraries and no control lines.
+// Links a module by itself: there are no libraries and no control lines.
 pub(crate) fn link_alone(alloc: Global, parts: Module) -> Result<Linked, Stop>
     ensures answer { IsLinkedOr (alone parts) result }
     ensures ready { IfOk result IsReady }

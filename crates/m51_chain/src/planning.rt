@@ -46,7 +46,7 @@ fn work(alloc: Global, job: &Job, contents: &[Bytes]) -> Result<Work, Stop>
     }
 }
 
-// What is to be done for what the work comes to, where the file that is kept has this name.
+// What is to be done for the outcome of the work, if the file that is kept has this name.
 fn planned(target: Option<Target>, work: Result<Work, Stop>) -> Result<Task, NoMemory>
     ensures { IsPlanned target work result }
 {
@@ -68,8 +68,8 @@ fn target_of(alloc: Global, job: &Job) -> Result<Option<Target>, NoMemory>
     }
 }
 
-// The plan for a job whose files were read whole. What is to be written where the file could not be kept is made before
-// the work, of which the board is the last that takes memory.
+// The plan for a job whose files were read whole. What is to be written if the file could not be kept is made before
+// the work, of which the board is the last allocation.
 fn work_planned(alloc: Global, job: &Job, contents: &[Bytes]) -> Result<Task, NoMemory>
     requires fit { IsFit job.now }
     requires contents { AreContentsOf job.now contents.now }
@@ -95,7 +95,7 @@ fn plan_job<F: Shelf>(alloc: Global, job: &Job, files: &mut F) -> Result<Task, N
     plan_few(alloc, job, files)
 }
 
-// The plan for a job whose number of file words is no more than the most.
+// The plan for a job whose number of file arguments is within the limit.
 fn plan_few<F: Shelf>(alloc: Global, job: &Job, files: &mut F) -> Result<Task, NoMemory>
     requires fit { IsFit job.now }
     requires few { file_count job.now ≤ MOST_FILES }
@@ -118,8 +118,8 @@ fn plan_few<F: Shelf>(alloc: Global, job: &Job, files: &mut F) -> Result<Task, N
     }
 }
 
-// What is to be kept and written for these words: the words are read, then their files, and then the verb does its
-// work.
+// What is to be kept and written for these arguments: the arguments are read, then their files, and then the verb does
+// its work.
 pub(crate) fn plan<F: Shelf>(
     alloc: Global,
     words: &[String],

@@ -32,7 +32,7 @@ fn map_and_run(alloc: Global, linked: &Linked) -> Result<Bytes, NoMemory>
     requires { IsReady linked.now }
     ensures { IfOk result (IsMap linked.now) }
 {
-    // A layout is sound by its type; asking for its units brings that in.
+    // For the proof only: reading the units exposes the layout's invariant.
     let _ = linked.layout.units();
     let chains = heaviest(alloc, &linked.layout)?;
     let bytes = filled(linked.written.as_slice());
@@ -61,7 +61,7 @@ fn hex_kept(alloc: Global, job: &BuildJob, linked: &Linked) -> Result<Option<Byt
     }
 }
 
-// The report of a linked program. The board is the last that takes memory.
+// The report of a linked program. The board is the last allocation.
 pub(crate) fn report(
     alloc: Global,
     job: &BuildJob,

@@ -11,7 +11,7 @@ use m51_party::PartyEnd;
 use m51_shelf::{Failed, Shelf, Sink};
 use m51_verbs::{Status, carry_out, status_told};
 
-// The status of a party that came to its end.
+// The status after a party, by how it ended.
 fn party_status(end: PartyEnd) -> Result<Status, Failed>
     ensures { result ≡ party_status end }
 {

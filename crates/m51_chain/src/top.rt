@@ -27,34 +27,34 @@ pub fn chain<F: Shelf, S: Sink>(
     files: &mut F,
     out: &mut S,
 ) -> Status
-    // Where the shelf tells its files, status, text and kept files are those of the answer for words and files, unless
-    // a call failed or there is no memory.
+    // If the files are visible to contracts: status, output and kept file are those specified for these arguments and
+    // files, unless a call fails or memory runs out.
     ensures told { (held : Files) → (F.state files.old).holds ≡ Some held → IsTold (texts words.now) held
         (change (F.state files.old) (F.state files.new) (S.state out.old) (S.state out.new)) result }
 
-    // Where it tells them and no call fails, the answer for words and files is kept and written whole, unless there is
-    // no memory; then nothing is kept or written.
+    // If they are visible and no call fails, the answer for these arguments and files is kept and written whole, unless
+    // memory runs out; then nothing is kept or written.
     ensures complete { (held : Files) (answer : Answer) → (F.state files.old).holds ≡ Some held
         → IsAnswer (texts words.now) held answer → IsComplete answer
         (change (F.state files.old) (F.state files.new) (S.state out.old) (S.state out.new)) result }
 
-    // The cause of each status, told or not.
+    // The cause of each status, whether or not the files are visible.
     ensures cause { IsCaused (texts words.now)
         (change (F.state files.old) (F.state files.new) (S.state out.old) (S.state out.new)) result }
 
-    // Faulty words are refused before a file is touched.
+    // Faulty arguments are refused before a file is touched.
     ensures usage { job_of (texts words.now) ≡ None → files.new ≡ files.old }
 
-    // No other files than those of the words are started, in their order, and of each at most one byte past the limit
-    // is taken, where the shelf tells what it hands out, and of the last one in any case; with too many file words none
-    // is started.
+    // No files but those that the arguments name are started, in their order. At most one byte past the limit is read:
+    // of the last one in any case, and of each if what the shelf returns is visible. With too many file arguments no
+    // file is opened.
     ensures reads { ((F.state files.new).reads ≡ (F.state files.old).reads)
         ⊎ ReadsOnly (texts words.now) (F.state files.old).reads (F.state files.new).reads }
 
-    // Where the shelf tells its files, all but the one that the words keep are as before.
+    // If the files are visible, all but the one that the arguments keep are as before.
     ensures holds { HoldsButKept (texts words.now) (F.state files.old).holds (F.state files.new).holds }
 
-    // No count of failures falls.
+    // Failure counters never decrease.
     ensures read_later { (F.state files.old).reads.faults ≤ (F.state files.new).reads.faults }
     ensures kept_later { (F.state files.old).keeps.faults ≤ (F.state files.new).keeps.faults }
     ensures later { (S.state out.old).faults ≤ (S.state out.new).faults }

@@ -45,7 +45,7 @@ impl UnrunParty {
         })
     }
 
-    // Runs it, at most so many steps of each board.
+    // Runs it, at most `steps` steps of each board.
     pub(crate) fn run<S: Sink>(self, steps: u32, out: &mut S) -> PartyEnd
         requires { (1 ≤ steps) × (steps ≤ MOST_STEPS) }
         ensures report { IsPartyReport self steps (family_of self steps) (S.state out.old).text (S.state out.new).text

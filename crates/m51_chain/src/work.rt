@@ -1,9 +1,9 @@
-//! What the work of a verb comes to, and what is to be done for it.
+//! The outcome of the work of a verb, and what is to be done for it.
 use crate::unrun::UnrunParty;
 use m51_args::Steps;
 use m51_verbs::{Finished, Plan};
 
-// What the work of a verb comes to, where it is accepted.
+// The outcome of the work of a verb, if it is accepted.
 #[derive(Drop)]
 pub(crate) enum Work {
     // That of one board at most.

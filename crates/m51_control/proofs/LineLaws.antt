@@ -44,7 +44,7 @@ last_complete sign front =
     ∙ ap (λ t. cond t (Some (take (length front) text)) None) (eq-eqb (slice_index text (length front)) sign (get_or-append_seam front sign [] 0))
     ∙ ap Some (take-append_seam front (sign ∷ []))
 
--- a word, and what stands in its parentheses
+-- a word, and the text in the parentheses after it
 record WritesCall (line : List ℕ) (call : List ℕ × List ℕ) : Type 0 where
   pub part : List ℕ
   pub blanks : List ℕ

@@ -12,7 +12,7 @@ abbrev pub before : List (ℕ × Control) → Read → Read
 before front (Ok controls) = Ok (front ++ controls)
 before front (Err error) = Err error
 
--- so many lines are read, these controls among them, and these lines are left of all
+-- the first `number` lines are read, `controls` are those in them, and `left` are the lines that remain of `all`
 pub record Goes (controls : List (ℕ × Control)) (number : ℕ) (left all : List (List ℕ)) : Type 0 where
   pub told : before controls (read_from (number + 1) left) ≡ read_from 1 all
   pub few : length controls ≤ number

@@ -50,7 +50,7 @@ class_named word =
     else if bytes_eq word (codes "CODE") then Some class.Code
     else None
 
--- the class of an order, and what stands after its comma
+-- the class of an order, and the text after its comma
 abbrev pub ordered_of : List ℕ → Option (Class × List ℕ)
 ordered_of inside = do
   cut ← cut_at comma inside
@@ -65,7 +65,7 @@ order inside = do
   segments ← names_in role.Segment ordered.1
   Some (Order ordered.0 segments)
 
--- what a word says with what stands in its parentheses
+-- the control of a word and of the text in its parentheses
 unfoldable pub by_word : List ℕ → List ℕ → Option Control
 by_word word inside =
     if bytes_eq word (codes "OVERLAY") then overlay inside
@@ -74,7 +74,7 @@ by_word word inside =
     else if bytes_eq word (codes "ORDER") then order inside
     else None
 
--- A word, from the first byte on, and what stands in its parentheses, of which the second is the last byte. Since
+-- A word, from the first byte on, and the text in its parentheses; the closing one is the last byte. Since
 -- words, names and numbers hold only letters, digits, ? and _, no other byte than a tab and 20H to 7EH is in a form.
 abbrev pub call_of : List ℕ → Option (List ℕ × List ℕ)
 call_of line = do

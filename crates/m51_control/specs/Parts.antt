@@ -1,4 +1,4 @@
--- The parts of a control line: words and signs, round which blanks may stand.
+-- The parts of a control line: words and signs, with blanks allowed before and after each.
 use Rattle.std.specs.Prelude.{◌≡◌, ℕ, ◌-◌, Bool, ◌&&◌, ◌==◌, nat_lt, if◌then◌else◌, List, [], ◌∷◌, take, drop}
 use Rattle.std.specs.Prelude.{length, Option}
 use Rattle.std.specs.Prelude.{Some, None, option_and_then, slice_index}
@@ -6,7 +6,7 @@ use Rattle.std.specs.List.{list_all, prefix_len, position_or_len, slice_split, b
 use Rattle.m51_cells.specs.Blanks.{is_blank}
 use Rattle.m51_cells.specs.Name.{name_of}
 
--- goes on with a value, where there is one
+-- continues with the value; `None` stays `None`
 infixl 10 ◌>>=◌
 abbrev pub ◌>>=◌ : {A B : Type 0} → Option A → (A → Option B) → Option B
 found >>= go = option_and_then go found
@@ -37,7 +37,7 @@ tilde = 0x7E
 abbrev pub is_sign : ℕ → ℕ → Bool
 is_sign sign byte = byte == sign
 
--- what stands before the first of these signs, and what stands after it
+-- the text before the first of these signs, and the text after it
 abbrev pub cut_at : ℕ → List ℕ → Option (List ℕ × List ℕ)
 cut_at sign text =
     if nat_lt (position_or_len (is_sign sign) text) (length text)
@@ -52,14 +52,14 @@ IsOnePart sign text = slice_split (is_sign sign) text ≡ text ∷ []
 abbrev pub SplitsInto : ℕ → List ℕ → List ℕ → List ℕ → Type 0
 SplitsInto sign text first rest = slice_split (is_sign sign) text ≡ first ∷ slice_split (is_sign sign) rest
 
--- what stands before this sign, where it is the last byte
+-- the text before this sign, where that is the last byte
 abbrev pub before_last : ℕ → List ℕ → Option (List ℕ)
 before_last sign text =
     if nat_lt 0 (length text) && is_sign sign (slice_index text (length text - 1))
     then Some (take (length text - 1) text)
     else None
 
--- the part that comes first, after which only blanks stand
+-- the part that comes first, with only blanks after it
 abbrev pub before_blanks : List ℕ → Option (List ℕ)
 before_blanks text =
     let len = position_or_len is_blank text in

@@ -63,11 +63,11 @@ IsRange space.Code low high = ⊥
 abbrev pub reserve_of : Space → ℕ × ℕ → Option Control
 reserve_of memory bounds = if is_range memory bounds.0 bounds.1 then Some (Reserve memory bounds.0 bounds.1) else None
 
--- what stands in parentheses of which the first is passed, and after which only blanks stand
+-- the text in parentheses, from after the opening one; only blanks follow the closing one
 abbrev pub closed : List ℕ → Option (List ℕ)
 closed text = cut_at closing text >>= (λ cut. if list_all is_blank cut.1 then Some cut.0 else None)
 
--- the memory of a reserve, and what stands in its parentheses
+-- the memory of a reserve, and the text in its parentheses
 abbrev pub memory_of : List ℕ → Option (Space × List ℕ)
 memory_of text = do
   cut ← cut_at opening text

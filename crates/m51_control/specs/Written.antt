@@ -83,7 +83,8 @@ pub data Says (word inside : List ℕ) (control : Control) : Type 0 where
       → WritesNames role.Segment list segments → inside ≡ text ++ comma ∷ list → control ≡ Order class segments
       → Says word inside control
 
--- The line writes the control: a word in either case, blanks, and a text in parentheses; none stands before or after.
+-- The line writes the control: a word in either case, blanks, and a text in parentheses; nothing is before or after
+-- them.
 pub record Writes (line : List ℕ) (control : Control) : Type 0 where
   pub short : length line ≤ MOST_LINE_BYTES
   pub part : List ℕ

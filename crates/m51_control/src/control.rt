@@ -59,7 +59,7 @@ pub fn class_of(kind: Kind, reloc: Reloc) -> Option<Class>
     }
 }
 
-/// Whether the classes are one.
+/// Whether the classes are the same.
 ///
 /// Source: own choice ("Control lines").
 pub fn same_class(one: Class, two: Class) -> bool

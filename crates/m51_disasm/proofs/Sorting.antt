@@ -110,7 +110,7 @@ sorted_parts xs ys sorted stable below =
     ∙ all_pass (begins_below 0x10000) ys (λ k d h. let less : base_of (get_or ys k d) < 65536 = below k d h in
     grind (arith, nat_tests)))
 
--- the same of a sort that may want memory, by a closure that gives the base
+-- the same of a sort that may run out of memory, by a closure that gives the base
 pub after_sort : {F T E : Type 0} {g : Mut F (Bor Part × Unit {0}) ℕ} {f : F} (r : Result T E) (xs ys : List Part)
     → OnOk r ((key : Part → ℕ) → ComputesKey g key f → IsSortedByKey key nat_cmp ys)
     → ((key : Part → ℕ) → ComputesKey g key f → IsStableByKey key nat_cmp xs ys)

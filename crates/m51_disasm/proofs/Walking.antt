@@ -34,7 +34,7 @@ from_one : (image : List ℕ) (end at more : ℕ)
 unfolding statements_from statement_at
 from_one image end at more = refl
 
--- one statement more is done, of so many bytes
+-- one more statement is done, of `len` bytes
 pub walked_on : (image done : List ℕ) (end at len : ℕ) (whole : List ℕ)
     → len ≡ length_in (statement_at image end at).content → at < end → 1 ≤ len
     → done ++ beginnings (statements_from image end 0 at (end - at)) ≡ whole

@@ -27,7 +27,7 @@ map_joined : {A B : Type 0} (f : A → B) (xs ys : List A) → map f (xs ++ ys) 
 map_joined f [] ys = refl
 map_joined f (x ∷ xs) ys = ap (λ l. f x ∷ l) (map_joined f xs ys)
 
--- the line at one address more
+-- the line at one more address
 pub line_written : (f : ℕ → Line) (at : List ℕ) (i : ℕ) (d : ℕ) (text middle after : List ℕ) → i < length at
     → middle ≡ text ++ text_of_lines (map f (take i at))
     → after ≡ middle ++ text_of_lines (f (get_or at i d) ∷ [])
@@ -41,7 +41,7 @@ flat_joined : {A B : Type 0} (f : A → List B) (xs : List A) (y : A) → flat_m
 flat_joined f [] y = append-nil (f y)
 flat_joined f (x ∷ xs) y = ap (λ l. f x ++ l) (flat_joined f xs y) ∙ sym (append_assoc (f x) (flat_map f xs) (f y))
 
--- the lines of one part more
+-- the lines of one more part
 pub one_part_written : (image : List ℕ) (parts : List Part) (i : ℕ) (d : Part) (text middle after : List ℕ)
     → i < length parts → middle ≡ text ++ text_of_lines (flat_map (part_lines image) (take i parts))
     → after ≡ middle ++ text_of_lines (part_lines image (get_or parts i d))

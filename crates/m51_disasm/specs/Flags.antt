@@ -3,7 +3,7 @@ use Rattle.std.specs.Prelude.{◌≡◌, ℕ, ◌<◌, Bool, false, List, length
 use Rattle.std.specs.List.{slice_index_or}
 use Rattle.m51_disasm.specs.Lines.{is_among}
 
--- so many flags, none of them set
+-- `count` flags, none of them set
 pub record AreUnset (count : ℕ) (flags : List Bool) : Type 0 where
   pub len : length flags ≡ count
   pub each : (address : ℕ) → address < count → slice_index_or flags address false ≡ false

@@ -59,8 +59,8 @@ abbrev pub length_in : Content → ℕ
 length_in (Byte byte) = 1
 length_in (Code instr) = length_of instr
 
--- The statements of so many bytes of a unit, from an address on. Bytes are passed over, as many as belong to the
--- statement before: each statement begins where the one before it ends.
+-- The statements of a number of bytes of a unit, from an address on. The first `passed` bytes are passed over, which
+-- belong to the statement before: each statement begins where the one before it ends.
 unfoldable pub statements_from : List ℕ → ℕ → ℕ → ℕ → ℕ → List Statement
 statements_from image end passed at zero = []
 statements_from image end (suc passed) at (suc more) = statements_from image end passed (at + 1) more

@@ -67,7 +67,7 @@ operand_text target (Imm f) = codes "#" ++ data_text f.field f.number
 operand_text target (Plain f) = plain_text target f.field f.number
 operand_text target (NotBit f) = codes "/" ++ short_text f.number
 
--- an operand after what stands before it, a blank or a comma
+-- an operand after the blank or the comma before it
 unfoldable pub after : List ℕ → Target → Slot → List ℕ
 after sign target Nothing = []
 after sign target slot = sign ++ operand_text target slot

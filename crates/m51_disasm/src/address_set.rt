@@ -1,4 +1,4 @@
-//! Addresses that are found at once.
+//! A set of addresses with constant lookup time.
 ghost use Rattle.std.specs.Prelude.{◌≡◌, IfOk};
 ghost use Rattle.m51_disasm.specs.Flags.{AreFlags, AreUnset};
 ghost use Rattle.m51_disasm.specs.Lines.{is_among};
@@ -8,8 +8,8 @@ use m51_module::IMAGE_LEN;
 use std::alloc::{AllocError, Global};
 use std::marker::Model;
 
-/// Addresses of program memory, with a flag for each that there is, so that one is found at once. Contracts see them as
-/// a list.
+/// Addresses of program memory, with a flag for each that is in the set, so that lookup takes constant time. Contracts
+/// see them as a list.
 #[derive(Drop)]
 pub(crate) struct AddressSet {
     addresses: Vec<u16>,
@@ -27,7 +27,7 @@ impl Model for AddressSet {
     ghost invariant = { λ s. AreFlags s.addresses.items s.flags.items };
 }
 
-// So many flags, none of them set.
+// `count` flags, none of them set.
 #[tactic(auto, using(crate::proofs::Flagged::unset))]
 fn unset(alloc: Global, count: usize) -> Result<Vec<bool>, AllocError>
     ensures { IfOk result (λ flags. AreUnset count flags.items) }

@@ -24,7 +24,7 @@ pub(crate) fn statement_at(image: &[u8], end: u32, at: u16) -> Statement
     Statement { at, content }
 }
 
-// How many bytes are written so.
+// How many bytes the content has, 1 to 3.
 fn length_in(content: &Content) -> u32
     ensures value { result ≡ length_in content.now }
     ensures some { 1 ≤ result }

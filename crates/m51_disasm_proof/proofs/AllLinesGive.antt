@@ -1,4 +1,4 @@
--- All lines of a disassembly give the bytes of the image where they stand.
+-- All lines of a disassembly give the bytes of the image at their places.
 use Rattle.std.proofs.Common.{◌≡◌, ℕ, suc, ◌+◌, List, [], ◌∷◌, ◌++◌, length, length-append, map, flat_map, append_assoc, Some, refl, sym, ap, ◌∙◌, subst, arith}
 use Rattle.std.specs.Prelude.{slice_get}
 use Rattle.std.specs.List.{AllByRecursion}
@@ -29,7 +29,7 @@ use Rattle.m51_disasm_proof.proofs.PartLines.{rest_of, whole, whole_is}
 use Rattle.m51_disasm_proof.proofs.PartsInOrder.{AreInOrder}
 use Rattle.m51_disasm_proof.proofs.StatementsStand.{Follow, part_follows}
 
--- these lines, from line k on, which stands at that place, give their bytes
+-- these lines, from line k on, which is at that place, give their bytes
 abbrev pub GiveFrom : List LineTree → Assignment → List ℕ → ℕ → ℕ → List Line → Type 0
 GiveFrom lines a image k place [] = Unit {0}
 GiveFrom lines a image k place (l ∷ ls) =

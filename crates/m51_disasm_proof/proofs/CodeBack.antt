@@ -35,7 +35,7 @@ use Rattle.m51_disasm_proof.proofs.OperandsBack.{byte_in, held_in, IsLed, is_usu
 
 -- ---- the operands of the line are those of the row
 
--- an operand that is there is one of the line
+-- the row has an operand exactly if the line has one
 there_or_none : (t : Target) (s : Slot) (b : Bool) → is_there s ≡ b → IsSlot t s → is_some (operand_of t s) ≡ b
 there_or_none t s true there h = ap is_some (slot_read t s there h).is
 there_or_none t Nothing false there h = refl

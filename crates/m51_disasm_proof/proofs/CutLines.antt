@@ -15,7 +15,7 @@ use Rattle.m51_stmt.specs.Lines.{statement, statement_fault, read, token_line}
 use Rattle.m51_stmt.proofs.LineCuts.{Word, token_at, AreWords, symbol, are_symbols, one_blank, word_within}
 use Rattle.m51_text.specs.Said.{is_character}
 
--- the word stands as a token of its own before these bytes
+-- the word is cut as a token of its own before these bytes
 pub record Stands (w : Word) (rest : List ℕ) : Type 0 where
   pub some : 0 < length w.text
   pub front : (at : ℕ) (go : ℕ → Cut) → after_lexeme at (lexeme_of (w.text ++ rest)) go ≡ put_front (token_at at w ∷ []) (go (length w.text - 1))

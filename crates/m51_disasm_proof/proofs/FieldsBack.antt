@@ -58,7 +58,7 @@ block_back next address low small =
     let part : to % 2048 ≡ address = omega (arith, low, small) in
     (λ i. cond (eq-eqb (to / 2048) (next / 2048) same i) (Some (Number (part i))) None)
 
--- ---- what stands for an address
+-- ---- values that count as an address
 
 -- a value that counts as an address of the segment of the statement: in that segment, or as a number
 pub data IsAddressOf (segment address : ℕ) (v : Value) : Type 0 where
@@ -149,7 +149,7 @@ module _ (names : Meanings) (segment at : ℕ) (s : StandsAt names segment at) w
       word_given (next % 65536) address v is ∙ ap (λ n. Some (Number n)) (sym (same_Some number address leads))
   address_back at next number address v holds inside leads is = absurd (cc leads)
 
--- ---- numbers that stand for themselves
+-- ---- numbers that a field holds as they are
 
 byte_taken : (n : ℕ) → n < 256 → nat_le n 0xFF ≡ true
 byte_taken n h = le-leb n 255 (omega (arith, h))

@@ -34,7 +34,7 @@ use Rattle.m51_disasm_proof.proofs.CutLines.{IsCutInto, no_words, after_blank, a
 use Rattle.m51_disasm_proof.proofs.StandingWords.{name_stands, comma_stands}
 use Rattle.m51_disasm_proof.proofs.OperandsCut.{IsReadOperand, is_there, slot_read}
 
--- no operand stands after one that is not there
+-- no operand follows a missing one
 abbrev pub in_order : Slot → Slot → Slot → Bool
 in_order a b c = (is_there a || not (is_there b)) && (is_there b || not (is_there c))
 
@@ -68,7 +68,7 @@ part_symbols o xs ys e =
     let part = operand_part o in
     part.before xs ∙ ap (λ l. map symbol (operand_words o []) ++ l) e ∙ sym (part.before ys)
 
--- an operand that is there stands after its sign
+-- an operand that is not missing is written after its sign
 after_there : (sign : List ℕ) (t : Target) (s : Slot) → is_there s ≡ true → after sign t s ≡ sign ++ operand_text t s
 unfolding after
 after_there sign t Nothing h = absurd (cc h)

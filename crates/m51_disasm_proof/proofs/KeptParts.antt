@@ -26,7 +26,7 @@ use Rattle.m51_disasm_proof.proofs.LineSteps.{given_after, step, other_segment}
 use Rattle.m51_disasm_proof.proofs.PartLines.{rest_of, whole, through}
 use Rattle.m51_disasm_proof.proofs.StatementsStand.{part_follows}
 
--- what so many lines from line k on add to the segments
+-- what n lines, from line k on, add to the segments
 abbrev kept_from : List LineTree → Assignment → ℕ → ℕ → List Kept
 kept_from lines a k zero = []
 kept_from lines a k (suc n) = kept_by lines a k (body_at lines k) ++ kept_from lines a (suc k) n

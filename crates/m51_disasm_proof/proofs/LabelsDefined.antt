@@ -41,7 +41,7 @@ with_none : (o : Option ℕ) (ds : List Defined) → ds ≡ [] → label_defined
 with_none None ds e = e
 with_none (Some address) ds e = ap (λ d. (label_text address, Label) ∷ d) e
 
--- a line defines its label alone
+-- a line defines only its label
 pub defines_label : (l : Line) → definitions_in (meant l) ≡ label_defined (option_map label_text (label_of l))
 defines_label line.Nomod51 = refl
 defines_label (line.Segment base) = refl

@@ -71,7 +71,7 @@ module _ (image : List ℕ) (bytes : AreBytes image) (before : List Part) (part 
   abbrev statements : List Statement
   statements = statements_of image part
 
-  -- where a statement stands
+  -- the spot of a statement
   pub stands_there : (j : ℕ) (s : Statement) → slice_get statements j ≡ Some s
       → IsSpot a (lines_before image before + suc j) (record { segment = absolute (lines_before image before + 2) kind.Code part.base; place = s.at })
   stands_there j s e = lines_stand ls (lines_sound image bytes (before ++ part ∷ after) inside) a f (lines_before image before + suc j) _ (statement_spot image before part after j s e)

@@ -1,4 +1,4 @@
--- What each line of a disassembly does to the place where the next one stands.
+-- How each line of a disassembly changes the place of the next one.
 use Rattle.std.proofs.Common.{◌≡◌, ◌≢◌, ℕ, zero, suc, ◌+◌, ◌<◌, List, [], ◌∷◌, Some, refl, ap, ◌∙◌, arith}
 use Rattle.std.specs.Prelude.{slice_get}
 use Rattle.m51_stmt.specs.Statement.{BodyTree, Empty}
@@ -12,12 +12,12 @@ use Rattle.m51_disasm_proof.specs.Places.{segment_after, line_size}
 use Rattle.m51_disasm_proof.specs.Sound.{IsSound}
 use Rattle.m51_disasm_proof.proofs.LinesStand.{LineStands, begins, keeps_line, content_keeps}
 
--- what is given to the segment that is open after a line, before which so much is given
+-- how many bytes the open segment has after a line, from the number before the line
 abbrev pub given_after : ℕ → Line → ℕ
 given_after given (line.Segment base) = 0
 given_after given other = given + line_size other
 
--- where the line after one stands
+-- the segment and the place of the next line
 pub step : (lines : List LineTree) (a : Assignment) (f : Fits lines a) (k : ℕ) (s : TextSegment) (given : ℕ) (l : Line) → IsSound l → LineStands lines a f k s given
     → body_at lines k ≡ (meant l).body → LineStands lines a f (suc k) (segment_after k s l) (given_after given l)
 step lines a f k s given line.Nomod51 sound h is = keeps_line lines a f k s given line.Nomod51 sound h is (λ lines k names last s. refl)
@@ -25,7 +25,7 @@ step lines a f k s given (line.Segment base) sound h is = begins lines a f k s g
 step lines a f k s given (line.Statement st) sound h is = keeps_line lines a f k s given (line.Statement st) sound h is (content_keeps st.target st.content)
 step lines a f k s given line.End sound h is = keeps_line lines a f k s given line.End sound h is (λ lines k names last s. refl)
 
--- a line opens no segment that was there before, but for the one that is open
+-- a segment of an earlier line that is not open before a line is not open after it
 pub other_segment : (k id : ℕ) (s : TextSegment) (l : Line) → id < k + 2 → s.id ≢ id → (segment_after k s l).id ≢ id
 other_segment k id s line.Nomod51 low ne = ne
 other_segment k id s (line.Segment base) low ne = λ e. omega (arith, low, e)

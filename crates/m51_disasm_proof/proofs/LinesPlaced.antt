@@ -1,4 +1,4 @@
--- No line of a disassembly has a fault by what stands above it.
+-- No line of a disassembly has a fault by the lines above it.
 use Rattle.std.proofs.Common.{◌≡◌, ℕ, zero, suc, ◌+◌, ◌<◌, ◌≤◌, ◌==◌, ◌&&◌, ◌||◌, not, nat_lt, Bool, true, false, cond, List, [], ◌∷◌, length, Option, Some, None, refl, sym, ap, ◌∙◌, subst, arith}
 use Rattle.std.specs.List.{AllByRecursion}
 use Rattle.std.proofs.lemmas.Bool.{le-ltb, ne_eqb}
@@ -40,7 +40,7 @@ abbrev count_after : ℕ → ℕ → Line → ℕ
 count_after count given (line.Segment base) = count + some given
 count_after count given l = count
 
--- so much given to a segment ends in program memory, in a segment that is not too large, with few enough segments
+-- the bytes given to a segment end in program memory, the segment is not too large, and there are few enough segments
 pub record HasPlace (base given count : ℕ) : Type 0 where
   pub place : base + given ≤ 65536
   pub size : given ≤ 65535

@@ -1,4 +1,4 @@
--- Where the lines of a disassembly stand under each assignment that fits them.
+-- The spots of the lines of a disassembly, under each assignment that fits them.
 use Rattle.std.proofs.Common.{◌≡◌, ◌≢◌, ℕ, zero, suc, ◌+◌, ◌<◌, ◌≤◌, ◌==◌, true, cond, List, [], ◌∷◌, Option, Some, refl, ap, sym, ◌∙◌, subst, arith, slice_get, eq-eqb, ⊎_elim}
 use Rattle.std.specs.List.{AllByRecursion}
 use Rattle.std.proofs.str.Laws.{order}
@@ -53,7 +53,7 @@ content_keeps t (content.Byte byte) = λ lines k names last s. refl
 content_keeps t (content.Code i) = λ lines k names last s. refl
 
 module _ (lines : List LineTree) (a : Assignment) (f : Fits lines a) where
-  -- line k stands in this segment, to which the lines before give so many bytes
+  -- line k is in this segment, to which the lines before it give `given` bytes
   pub record LineStands (k : ℕ) (s : TextSegment) (given : ℕ) : Type 0 where
     pub segment : a.segment k ≡ s
     pub given_is : filled lines a s.id k ≡ given
@@ -121,7 +121,7 @@ module _ (lines : List LineTree) (a : Assignment) (f : Fits lines a) where
     place = f.places k ∙ (λ i. (h.segment i).base + filled lines a (h.segment i).id k) ∙ ap (λ n. s.base + n) h.given_is;
   }
 
-  -- the lines from line k on stand in their spots
+  -- the lines from line k on are in their spots
   spots_are : (ls : List Line) (k : ℕ) (s : TextSegment) (given place : ℕ) → place ≡ s.base + given → AllByRecursion IsSound ls → LineStands k s given → Says lines k ls
       → (j : ℕ) (spot : Spot) → slice_get (spots_from k s place ls) j ≡ Some spot → IsSpot a (k + j) spot
   spots_are [] k s given place at sound h is j spot e = absurd (cc e)
@@ -149,7 +149,7 @@ module _ (lines : List LineTree) (a : Assignment) (f : Fits lines a) where
       subst (λ i. IsSpot a i spot) next
       (spots_are ls (suc k) s (given + 0) (place + 0) (omega (arith, at)) sound.1 (keeps_line k s given line.End sound.0 h is.0 (λ lines k names last s. refl)) is.1 j spot e)
 
--- under each assignment that fits, each line of a disassembly stands in its spot
+-- under each assignment that fits, each line of a disassembly is in its spot
 pub lines_stand : (ls : List Line) → AllByRecursion IsSound ls → (a : Assignment) → Fits (read_from 1 ls) a → (k : ℕ) (spot : Spot) → slice_get (spots_from 0 opening 0 ls) k ≡ Some spot → IsSpot a k spot
 lines_stand ls sound a f k spot e =
     let same : 0 + k ≡ k = omega arith in

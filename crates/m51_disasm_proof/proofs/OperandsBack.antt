@@ -44,7 +44,7 @@ is_leading field.Addr11 = true
 is_leading field.Addr16 = true
 is_leading other = false
 
--- data stand after their sign, and an address does not
+-- data are written after #, an address is not, and only a bit is written after /
 abbrev pub is_usual : Slot → Bool
 is_usual (Imm f) = is_data f.field
 is_usual (Plain f) = not (is_data f.field)

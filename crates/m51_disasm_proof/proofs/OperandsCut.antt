@@ -25,7 +25,7 @@ use Rattle.m51_disasm_proof.proofs.CutLines.{IsCutInto, after_word}
 use Rattle.m51_disasm_proof.proofs.StandingWords.{Ends, name_stands, at_stands, plus_stands, hash_stands, slash_stands, byte_word, byte_stands, word_stands}
 use Rattle.m51_disasm_proof.proofs.Labels.{label_written, label_is_leaf}
 
--- an operand of a row, which stands for one of a line, and the words that its text is cut into
+-- an operand of a row as one of a line, and the words that its text is cut into
 pub record IsReadOperand (t : Target) (s : Slot) : Type 0 where
   pub operand : OperandTree
   pub is : operand_of t s ≡ Some operand
@@ -152,7 +152,7 @@ address_read t field.Direct byte n h = byte_read t field.Direct byte n refl refl
 address_read t field.Bit byte n h = byte_read t field.Bit byte n refl refl
 address_read t f byte n h = led_read t f byte n (target_read t h) refl refl
 
--- an operand is there
+-- the slot has an operand
 abbrev pub is_there : Slot → Bool
 is_there Nothing = false
 is_there s = true

@@ -36,7 +36,7 @@ pub whole_is : (image : List ℕ) (parts : List Part) → lines_of image parts �
 unfolding lines_of
 whole_is image parts = ap (λ l. line.Nomod51 ∷ l) (rest_is image parts)
 
--- where the lines after statements stand
+-- the segment and the place of the lines after statements
 pub record IsThrough (lines : List LineTree) (a : Assignment) (f : Fits lines a) (k : ℕ) (s : TextSegment) (given : ℕ) (rest : List Line) : Type 0 where
   pub stands : LineStands lines a f k s given
   pub says : Says lines k rest

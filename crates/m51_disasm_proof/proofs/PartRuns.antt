@@ -49,7 +49,7 @@ runs_joined at (x ∷ xs) [] = ap (λ l. one_run at (x ∷ l)) (sym (append-nil 
 runs_joined at (x ∷ xs) (y ∷ ys) =
     ap (λ b. cond b (one_run at ((x ∷ xs) ++ (y ∷ ys))) (two_runs at (x ∷ xs) (at + length (x ∷ xs)) (y ∷ ys))) (eq-eqb (at + length (x ∷ xs)) (at + length (x ∷ xs)) refl)
 
--- ---- the runs of so many lines
+-- ---- the runs of consecutive lines
 
 module _ (lines : List LineTree) (a : Assignment) (id : ℕ) where
   pub runs_of : ℕ → ℕ → List Run

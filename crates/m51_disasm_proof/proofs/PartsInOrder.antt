@@ -1,4 +1,4 @@
--- The parts of a sound layout stand in order, and none of them reaches into the next.
+-- The parts of a sound layout are in order, and none of them reaches into the next.
 use Rattle.std.proofs.Common.{◌≡◌, ◌≢◌, ◌⊎◌, inl, inr, ℕ, zero, suc, ◌+◌, ◌<◌, ◌≤◌, ◌==◌, Bool, true, false, cond, List, [], ◌∷◌, map, Some, refl, sym, ap, ◌∙◌, subst, arith, ⊎_elim}
 use Rattle.std.specs.Prelude.{slice_get}
 use Rattle.std.specs.List.{filter}
@@ -18,7 +18,7 @@ use Rattle.m51_disasm.specs.Parts.{part_of, has_bytes, units_of, parts_below, pa
 use Rattle.m51_asm.proofs.Members.{In, Every, Pairs, no_element, in_first, in_later, in_cons, in_append, in_map, at_in, pairs_append, pairs_map, pairs_weaker}
 use Rattle.m51_disasm_proof.specs.Sound.{HaveSizes}
 
--- these parts stand in order from an address on, none in another
+-- these parts are in order from an address on, and none overlaps another
 abbrev pub AreInOrder : ℕ → List Part → Type 0
 AreInOrder low [] = Unit {0}
 AreInOrder low (p ∷ ps) = (low ≤ p.base) × AreInOrder (p.base + p.size) ps

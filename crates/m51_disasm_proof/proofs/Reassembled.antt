@@ -57,7 +57,7 @@ module _ (image : List ℕ) (bytes : AreBytes image) (parts : List Part) (inside
       subst (λ xs. GiveFrom (read_from 1 xs) a image 0 0 ls) (whole_is image parts)
       (all_give image bytes parts inside order a (subst (λ xs. Fits (read_from 1 xs) a) (sym (whole_is image parts)) f))
 
-  -- no line has a fault by what stands above it
+  -- no line has a fault by the lines above it
   free : AllByRecursion IsSmall parts → length parts ≤ 254 → AreFree lines a (length lines)
   unfolding segments_before
   free sizes few j less =

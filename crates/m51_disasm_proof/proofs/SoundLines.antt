@@ -29,7 +29,7 @@ use Rattle.m51_disasm_proof.proofs.RowsDecoded.{decoded_rows}
 abbrev IsAddressOr : Option ℕ → Type 0
 IsAddressOr o = IfSome o (λ address. address < 65536)
 
--- it is there
+-- the address exists, and is below 65,536
 abbrev IsLed : Option ℕ → Type 0
 IsLed None = ⊥
 IsLed (Some address) = address < 65536

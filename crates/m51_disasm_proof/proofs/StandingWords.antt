@@ -1,4 +1,4 @@
--- Names, numbers and signs stand as tokens of their own before what does not go on with them.
+-- Names, numbers and signs are cut as tokens of their own before bytes that do not continue them.
 use Rattle.std.proofs.Common.{◌≡◌, ℕ, ◌+◌, ◌-◌, ◌*◌, ◌/◌, ◌%◌, ◌<◌, ◌==◌, ◌||◌, nat_le, Bool, true, false, List, [], ◌∷◌, ◌++◌, length, take, Some, refl, ap, ◌∙◌, arith, slice_index}
 use Rattle.std.specs.Char.{is_ascii_alphanumeric}
 use Rattle.std.specs.Fmt.{digit_glyph}
@@ -22,7 +22,7 @@ use Rattle.m51_text.specs.Said.{is_character}
 use Rattle.m51_disasm.specs.Texts.{byte_text, word_text}
 use Rattle.m51_disasm_proof.proofs.CutLines.{Stands}
 
--- no name and no number goes on with these bytes
+-- these bytes continue no name and no number
 abbrev pub Ends : List ℕ → Type 0
 Ends rest = is_name_byte (slice_index rest 0) ≡ false
 
@@ -41,7 +41,7 @@ of_name b h = grind (arith, common_steps, h)
 name_character : (b : ℕ) → is_name_byte b ≡ true → is_character b ≡ true
 name_character b h = grind (arith, common_steps, h)
 
--- the word stands as a token before this rest
+-- the word is cut as a token before this rest
 abbrev IsToken : Word → List ℕ → Type 0
 IsToken w rest = (at : ℕ) (go : ℕ → Cut) → after_lexeme at (lexeme_of (w.text ++ rest)) go ≡ put_front (token_at at w ∷ []) (go (length w.text - 1))
 
@@ -71,7 +71,7 @@ has_some : (text : List ℕ) → is_name text ≡ true → 0 < length text
 has_some [] h = absurd (cc h)
 has_some (c ∷ more) h = omega arith
 
--- a written name stands
+-- a written name is cut as a token
 pub name_stands : (text rest : List ℕ) → name_of text ≡ Some text → Ends rest → Stands (name_word text) rest
 name_stands text rest h ends =
     let is = named_is_name text text h in

@@ -53,7 +53,7 @@ pub record IsReadBody (text : List ℕ) (b : BodyTree) : Type 0 where
   pub symbols : map symbol words ≡ map symbol (body_words b)
   pub cut : IsCutInto text words
 
--- a text that is read as this statement, and which characters alone stand in
+-- a text that is read as this statement, and that has only characters allowed in a line
 pub record IsRead (text : List ℕ) (s : StmtTree) : Type 0 where
   pub says : any_line text ≡ Ok s
   pub characters : list_all is_character text ≡ true

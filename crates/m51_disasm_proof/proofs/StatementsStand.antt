@@ -1,4 +1,4 @@
--- Each statement of a disassembly stands at its address.
+-- Each statement of a disassembly is at its address.
 use Rattle.std.proofs.Common.{◌≡◌, ℕ, zero, suc, ◌+◌, ◌-◌, ◌<◌, ◌≤◌, nat_le, Bool, true, false, cond, List, [], ◌∷◌, ◌++◌, append_assoc, length, map, flat_map, Option, Some, None, refl, ap, sym, ◌∙◌, subst, arith, slice_get, slice_index}
 use Rattle.std.proofs.lemmas.Bool.{leb-true}
 use Rattle.m51_cells.specs.declared.kind.Kind.TheVariants as kind
@@ -84,7 +84,7 @@ statement_spots begin led (x ∷ statements) rest k seg from to f zero s e =
 statement_spots begin led (x ∷ statements) rest k seg from to f (suc j) s e =
     statement_spots begin led statements rest (suc k) seg (from + length_in x.content) to f.1 j s e
 
--- where a line stands after others
+-- the spots of lines after other lines
 record IsAfter (ys : List Line) (k : ℕ) (spots : List Spot) (count : ℕ) : Type 0 where
   segment : TextSegment
   place : ℕ

@@ -75,7 +75,7 @@ lines_are : (ls : List Line) → AllByRecursion IsSound ls → lines (text_of_li
 lines_are [] is = refl
 lines_are (l ∷ ls) is = first_line (line_text l) (text_of_lines ls) (line_read l is.0).characters ∙ ap (λ rest. line_text l ∷ rest) (lines_are ls is.1)
 
--- ---- the lines are those of the source alone
+-- ---- the lines are only those of the source
 
 nothing_asked_of : (t : Target) (c : Content) → include_name (body_of t c) ≡ None
 nothing_asked_of t (content.Byte byte) = refl
@@ -149,7 +149,7 @@ has_end n [] is e = absurd e
 has_end n (l ∷ []) is e = ap (λ b. b || false) (ends_said n l is.0 ∙ ap (λ l. is_end_body (meant l).body) e)
 has_end n (l ∷ m ∷ ls) is e = or_true (ends_source (record { file = 0; line = n; levels = 8; bytes = line_text l })) (list_any ends_source (numbered (n + 1) (m ∷ ls))) (has_end (n + 1) (m ∷ ls) is.1 e.1)
 
--- a line above which END does not stand, and which is not line 65,536
+-- a line without an END above it, before line 65,536
 no_fault : (above : List TextLine) (n : ℕ) (l : Line) → IsSound l → list_any ends_source above ≡ false → length above < 65535
     → fault_of [] above (record { file = 0; line = n; levels = 8; bytes = line_text l }) false ≡ None
 no_fault above n l is none few =

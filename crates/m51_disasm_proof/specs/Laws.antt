@@ -37,8 +37,8 @@ TextsReadBack =
     → IsSoundLayout l → AreBytes image → disassembled l image ≡ Ok text → source.bytes ≡ text
     → text_of source [] ≡ Lines (read_from 1 (lines_of image (parts_of l)))
 
--- Under each assignment that fits the lines of a disassembly, each of them stands in its spot: CSEG begins a segment of
--- CODE at its base, and a statement stands after the bytes of those before it.
+-- Under each assignment that fits the lines of a disassembly, each of them is in its spot: CSEG begins a segment of
+-- CODE at its base, and a statement is after the bytes of those before it.
 abbrev pub LinesStand : Type 0
 LinesStand =
     (l : LayoutParts) (image text : List ℕ)
@@ -47,8 +47,8 @@ LinesStand =
     → (k : ℕ) (spot : Spot) → slice_get (spots_from 0 opening 0 (lines_of image (parts_of l))) k ≡ Some spot
     → IsSpot a k spot
 
--- Under each assignment that fits them, the statement of a part stands at its address, in the segment that the CSEG of
--- the part begins.
+-- Under each assignment that fits them, the statement of a part is at its address, in the segment that the CSEG of the
+-- part begins.
 abbrev pub StatementsStand : Type 0
 StatementsStand =
     (l : LayoutParts) (image text : List ℕ)
@@ -59,8 +59,8 @@ StatementsStand =
     → IsSpot a (lines_before image before + suc j)
     (record { segment = absolute (lines_before image before + 2) kind.Code part.base; place = s.at })
 
--- The statement at an address, where it stands in an absolute segment of CODE and the label that it names has the value
--- of its address there, gives the bytes of the image at that address. So what is decoded is coded to the same bytes.
+-- The statement at an address, where it is in an absolute segment of CODE and the label that it names has the value of
+-- its address there, gives the bytes of the image at that address. So what is decoded is coded to the same bytes.
 abbrev pub StatementsCodeBack : Type 0
 StatementsCodeBack =
     (image : List ℕ) (end at : ℕ) → AreBytes image
@@ -94,8 +94,8 @@ StatementsGiveBytes =
     → LineGives (read_from 1 (lines_of image (parts_of l))) a image (lines_before image before + suc j) s.at
     (length_in s.content)
 
--- Under each assignment that fits them, no line has a fault by what stands above it, nor one in its content: there are
--- no more segments than a module may have, each is within its size, and no definition is repeated.
+-- Under each assignment that fits them, no line has a fault by the lines above it, nor one in its content: there are no
+-- more segments than a module may have, each is within its size, and no definition is repeated.
 abbrev pub NoLineHasFault : Type 0
 NoLineHasFault =
     (l : LayoutParts) (image text : List ℕ)

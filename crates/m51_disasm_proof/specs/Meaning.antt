@@ -19,7 +19,7 @@ use Rattle.m51_disasm.specs.declared.statement.Content.{Content}
 use Rattle.m51_disasm.specs.declared.statement.Content.TheVariants as content
 use Rattle.m51_disasm.specs.Texts.{label_text}
 
--- the number that stands after #: of two bytes where the field has two
+-- the number after #: of two bytes if the field has two
 abbrev pub data_number : Field → ℕ → ℕ
 data_number field.Data16 number = number
 data_number other number = number % 256

@@ -1,4 +1,4 @@
--- Where the lines of a disassembly stand: CSEG begins a segment at its base, and a statement stands after the bytes of
+-- The spots of the lines of a disassembly: CSEG begins a segment at its base, and a statement is after the bytes of
 -- those before it.
 use Rattle.std.specs.Prelude.{◌≡◌, ℕ, suc, ◌+◌, List, [], ◌∷◌, length, flat_map}
 use Rattle.m51_cells.specs.declared.kind.Kind.TheVariants as kind
@@ -14,7 +14,7 @@ pub record Spot : Type 0 where
   pub segment : TextSegment
   pub place : ℕ
 
--- the segment after line k, which stands in this one
+-- the segment after line k, which is in this one
 abbrev pub segment_after : ℕ → TextSegment → Line → TextSegment
 segment_after k segment (line.Segment base) = absolute (k + 2) kind.Code base
 segment_after k segment other = segment
@@ -29,18 +29,18 @@ abbrev pub place_after : ℕ → Line → ℕ
 place_after place (line.Segment base) = base
 place_after place other = place + line_size other
 
--- where these lines stand, from line k on, which stands there
+-- the spots of these lines, the first of which is line k in this segment, at this place
 abbrev pub spots_from : ℕ → TextSegment → ℕ → List Line → List Spot
 spots_from k segment place [] = []
 spots_from k segment place (l ∷ lines) =
     record { segment = segment; place = place }
     ∷ spots_from (suc k) (segment_after k segment l) (place_after place l) lines
 
--- how many lines stand before the CSEG of a part, before which these parts stand
+-- how many lines are before the CSEG of a part, from the parts before it
 abbrev pub lines_before : List ℕ → List Part → ℕ
 lines_before image before = suc (length (flat_map (part_lines image) before))
 
--- line k stands there
+-- line k is in this spot
 pub record IsSpot (a : Assignment) (k : ℕ) (spot : Spot) : Type 0 where
   pub segment : a.segment k ≡ spot.segment
   pub place : a.place k ≡ spot.place

@@ -1,4 +1,4 @@
--- Lines that can be written: each number has room where it is written, and each target of an instruction is there.
+-- Lines that can be written: each number has room where it is written, and each target of an instruction exists.
 use Rattle.std.specs.Prelude.{ℕ, ◌<◌, List, Option, Some, None, slice_index}
 use Rattle.m51_isa.specs.declared.slot.Field.{Field}
 use Rattle.m51_isa.specs.declared.slot.Field.TheVariants as field
@@ -26,7 +26,7 @@ IsTarget target.Nowhere = ⊥
 IsTarget (target.Label address) = address < 65536
 IsTarget (target.Number address) = address < 65536
 
--- the field of an address is one of a byte, or the target is there
+-- the field of an address is one of a byte, or the target exists
 abbrev pub IsAddress : Target → Field → Type 0
 IsAddress target field.Direct = Unit {0}
 IsAddress target field.Bit = Unit {0}

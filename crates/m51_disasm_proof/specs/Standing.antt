@@ -1,4 +1,4 @@
--- What a statement of a disassembly stands on: its place, the labels that it names, and the bytes of the image there.
+-- What a statement of a disassembly depends on: its place, the labels that it names, and the bytes of the image there.
 use Rattle.std.specs.Prelude.{◌≡◌, ℕ, true, List, [], length, map, Some, slice_index}
 use Rattle.std.specs.List.{AllByRecursion, range_with_len}
 use Rattle.m51_cells.specs.declared.kind.Base.TheVariants as base
@@ -24,7 +24,7 @@ use Rattle.m51_disasm.specs.Texts.{label_text}
 abbrev pub code_value : ℕ → ℕ → Value
 code_value segment address = whole address kind.Code (base.Segment segment)
 
--- the statement stands at this address of a segment of CODE, which is absolute
+-- the statement is at this address of an absolute segment of CODE
 pub record StandsAt (names : Meanings) (segment address : ℕ) : Type 0 where
   pub here : names.here ≡ code_value segment address
   pub absolute : names.fixed segment ≡ true
@@ -34,7 +34,7 @@ abbrev pub IsNamed : Meanings → ℕ → Target → Type 0
 IsNamed names segment (target.Label address) = names.value (label_text address) ≡ Some (code_value segment address)
 IsNamed names segment other = Unit {0}
 
--- so many bytes of an image, from an address on
+-- `count` bytes of an image, from an address on
 abbrev pub bytes_at : List ℕ → ℕ → ℕ → List ℕ
 bytes_at image address count = map (slice_index image) (range_with_len address count)
 
@@ -47,13 +47,13 @@ pub record GivesBytes (names : Meanings) (form : Jump) (body : BodyTree) (bytes 
   pub content : content_by names form body ≡ only_bytes bytes
   pub stand : AllByRecursion (λ outcome. outcome ≡ Stands) (outcomes_by names form body)
 
--- Line k gives so many bytes of an image, from an address on: no operand or item of it has a fault, and none is left to
+-- Line k gives `count` bytes of an image, from an address on: no operand or item of it has a fault, and none is left to
 -- the linker.
 pub record LineGives (lines : List LineTree) (a : Assignment) (image : List ℕ) (k address count : ℕ) : Type 0 where
   pub content : content_at lines a k ≡ only_bytes (bytes_at image address count)
   pub stand : AllByRecursion (λ outcome. outcome ≡ Stands) (line_outcomes lines a k)
 
--- no line has a fault by what stands above it, nor one in its content
+-- no line has a fault by the lines above it, nor one in its content
 pub record AreFaultless (lines : List LineTree) (a : Assignment) : Type 0 where
   pub placed : AreFree lines a (length lines)
   pub content : content_faults lines a ≡ []

@@ -18,15 +18,15 @@ pub fn texts_read_back()
     ensures { TextsReadBack }
 {}
 
-/// Under each assignment that fits the lines of a disassembly, each line stands in its spot: `CSEG` begins a segment of
-/// `CODE` at its base, and a statement stands after the bytes of those before it.
+/// Under each assignment that fits the lines of a disassembly, each line is in its spot: `CSEG` begins a segment of
+/// `CODE` at its base, and a statement is after the bytes of those before it.
 ///
 /// Source: own choice ("Disassembly").
 pub fn lines_stand()
     ensures { LinesStand }
 {}
 
-/// Under each assignment that fits them, each statement of a part stands at its address, in the segment of `CODE` that
+/// Under each assignment that fits them, each statement of a part is at its address, in the segment of `CODE` that
 /// begins at the base of the part.
 ///
 /// Source: own choice ("Disassembly").
@@ -58,7 +58,7 @@ pub fn statements_give_bytes()
     ensures { StatementsGiveBytes }
 {}
 
-/// Under each assignment that fits the lines of a disassembly, no line has a fault by what stands above it, nor one in
+/// Under each assignment that fits the lines of a disassembly, no line has a fault by the lines above it, nor one in
 /// its content.
 ///
 /// Source: own choice ("Disassembly").

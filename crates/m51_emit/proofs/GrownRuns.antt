@@ -12,7 +12,7 @@ pub pushed_after_last : (run : Run) (more : List Run) (last x : Run) → pushed_
 pushed_after_last run [] last x = refl
 pushed_after_last run (next ∷ more) last x = ap (λ (runs : List Run). run ∷ runs) (pushed_after_last next more last x)
 
--- a run after runs is joined with the last of them, or stands after it
+-- a run after runs is joined with the last of them, or follows it
 pub pushed_last : (runs : List Run) (last x : Run) → pushed (runs ++ last ∷ []) x ≡ runs ++ before_runs last.0 last.1 (x ∷ [])
 pushed_last [] last x = refl
 pushed_last (run ∷ more) last x = pushed_after_last run more last x
@@ -57,7 +57,7 @@ if_pushed : (at : ℕ) (bytes : List ℕ) (runs : List Run) (x : Run) → if_byt
 if_pushed at [] runs x = refl
 if_pushed at (byte ∷ bytes) runs x = before_pushed at (byte ∷ bytes) runs x
 
--- runs with bytes more after them
+-- runs with additional bytes after them
 pub runs_grow : (xs : List Run) (at : ℕ) (bytes : List ℕ) → runs_of (xs ++ (at, bytes) ∷ []) ≡ with_run (runs_of xs) at bytes
 runs_grow [] at [] = refl
 runs_grow (x ∷ xs) at [] = ap (if_bytes x.0 x.1) (runs_grow xs at [])

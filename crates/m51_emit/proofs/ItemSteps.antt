@@ -27,7 +27,7 @@ first_left items n item below is =
     ∙ (ap (λ (x : ItemTree). x ∷ drop (suc n) (map item_tree items)) same
     ∙ ap (λ (m : ℕ). item_tree item ∷ drop m (map item_tree items)) (sym (add-one n)))
 
--- an item more is done, and fewer are left
+-- one more item is done, and fewer are left
 pub content_step : (f : ItemTree → Content) (old new whole : Content) (items : List Item) (n : ℕ) (item : Item) → n < length items → item ≡ get_or items n item → new ≡ followed_by old (f (item_tree item))
     → followed_by old (joined (map f (drop n (map item_tree items)))) ≡ whole → followed_by new (joined (map f (drop (n + 1) (map item_tree items)))) ≡ whole
 content_step f old new whole items n item below is done so_far =

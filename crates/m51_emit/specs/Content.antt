@@ -24,13 +24,13 @@ ReferenceAt = ℕ × Reference
 abbrev pub nothing : Content
 nothing = record { bytes = []; references = [] }
 
--- what an item comes to
+-- the outcome of an item
 abbrev pub item_outcome : Answer (Option FieldValue) → Outcome
 item_outcome (Ok (Some (Linked reference))) = Fixes
 item_outcome (Ok held) = Stands
 item_outcome (Err e) = Faulty e.number
 
--- What the operands and items of a line come to. A text of DW is read as a number, so no item of DW is a text.
+-- The outcomes of the operands and items of a line. A text of DW is read as a number, so no item of DW is a text.
 abbrev pub outcomes_by : Meanings → Jump → BodyTree → List Outcome
 outcomes_by names jump (Code mnemonic operands) = outcomes names mnemonic operands jump
 outcomes_by names jump (Db items) = map (λ item. item_outcome (item_field names Byte item)) items
@@ -62,7 +62,7 @@ item_given width item (Err e) = nothing
 abbrev pub item_content : Meanings → Width → ItemTree → Content
 item_content names width item = item_given width item (item_field names width item)
 
--- a reference so many bytes further on
+-- a reference `bytes` bytes further on
 abbrev pub later : ℕ → ReferenceAt → ReferenceAt
 later bytes r = (bytes + r.0, r.1)
 

@@ -19,7 +19,7 @@ ReferencesLie =
     (names : Meanings) (jump : Jump) (body : BodyTree)
     → LieInside (length (content_by names jump body).bytes) (content_by names jump body).references
 
--- no part of a line has a fault, where so many fixups are made before it
+-- no part of a line has a fault, with `made` fixups before it
 pub record HasNoFault (names : Meanings) (jump : Jump) (body : BodyTree) (made : ℕ) : Type 0 where
   pub is : leftmost_fault made (outcomes_by names jump body) ≡ None
 

@@ -4,15 +4,15 @@ use Rattle.m51_encode.specs.declared.outcome.Outcome.{Outcome}
 use Rattle.m51_emit.specs.declared.counting.Count.{Count}
 use Rattle.m51_emit.specs.Outcomes.{made_with, part_fault, made_with_all, or_next, leftmost_fault}
 
--- a part more
+-- with one more part
 abbrev pub counted : Count → Outcome → Count
 counted c part = record { made = made_with c.made part; fault = or_next c.fault (part_fault c.made part) }
 
--- these parts more
+-- with these additional parts
 abbrev pub counted_all : Count → List Outcome → Count
 counted_all c parts =
     record { made = made_with_all c.made parts; fault = or_next c.fault (leftmost_fault c.made parts) }
 
--- the fixups that are made before a line
+-- the count before a line, with `made` fixups
 abbrev pub none_of : ℕ → Count
 none_of made = record { made = made; fault = None }

@@ -47,7 +47,7 @@ abbrev pub with_run : List Run → ℕ → List ℕ → List Run
 with_run runs at [] = runs
 with_run runs at (byte ∷ bytes) = pushed runs (at, byte ∷ bytes)
 
--- what is gathered, with a line more
+-- what is gathered, with one additional line
 abbrev pub with_line : List Segment → Gathered → PlacedContent → Gathered
 with_line segments g x = record {
   segment = g.segment;

@@ -8,10 +8,10 @@ use Rattle.m51_emit.specs.declared.content.LineContent.{LineContent}
 use Rattle.m51_emit.specs.Outcomes.{made_with_all, leftmost_fault}
 use Rattle.m51_emit.specs.Content.{Content, outcomes_by, content_by}
 
--- this content, and the fault of the parts that it comes from, where so many fixups are made before them
+-- this content, and the fault of the parts that it is made of, with `made` fixups before them
 abbrev pub given : Content → ℕ → List Outcome → LineContent
 given c made parts = record { content = c; fault = leftmost_fault made parts; made = made_with_all made parts }
 
--- what a line gives, where so many fixups are made before it
+-- what a line gives, with `made` fixups before it
 abbrev pub line_given : Meanings → Jump → BodyTree → ℕ → LineContent
 line_given names jump body made = given (content_by names jump body) made (outcomes_by names jump body)

@@ -7,18 +7,18 @@ use Rattle.m51_cells.specs.declared.limits.TheConstants.{MOST_FIXUPS}
 use Rattle.m51_encode.specs.declared.outcome.Outcome.{Outcome}
 use Rattle.m51_encode.specs.declared.outcome.Outcome.TheVariants.{Faulty, Fixes, Stands}
 
--- how many fixups are made with a part, where so many are made before it
+-- how many fixups are made up to the end of a part, with `made` before it
 abbrev pub made_with : ℕ → Outcome → ℕ
 made_with made Fixes = if nat_lt made MOST_FIXUPS then suc made else made
 made_with made other = made
 
--- the fault of a part, where so many fixups are made before it
+-- the fault of a part, with `made` fixups before it
 abbrev pub part_fault : ℕ → Outcome → Option ℕ
 part_fault made (Faulty number) = Some number
 part_fault made Fixes = if nat_lt made MOST_FIXUPS then None else Some TOO_MANY
 part_fault made Stands = None
 
--- how many fixups are made with these parts
+-- how many fixups are made up to the end of these parts, with `made` before them
 abbrev pub made_with_all : ℕ → List Outcome → ℕ
 made_with_all made [] = made
 made_with_all made (part ∷ parts) = made_with_all (made_with made part) parts

@@ -26,7 +26,7 @@ abbrev pub if_bytes : ℕ → List ℕ → List Run → List Run
 if_bytes at [] runs = runs
 if_bytes at (byte ∷ bytes) runs = before_runs at (byte ∷ bytes) runs
 
--- the part of a run that begins so many times that many bytes after its first
+-- part `index` of a run that is cut into parts of `most` bytes
 abbrev pub part_at : ℕ → ℕ → Run → ℕ → Piece
 part_at most segment run index = record {
   segment = segment;
@@ -34,11 +34,11 @@ part_at most segment run index = record {
   bytes = take most (drop (most * index) run.1);
 }
 
--- the piece of a run that begins 1,024 times so many bytes after its first
+-- piece `index` of a run: it begins 1,024 * `index` bytes after the first byte
 abbrev pub piece_at : ℕ → Run → ℕ → Piece
 piece_at segment run index = part_at MOST_PIECE_BYTES segment run index
 
--- how many parts of so many bytes a run has
+-- how many parts of `most` bytes a run of `bytes` bytes has; the last may be shorter
 abbrev pub part_count : ℕ → ℕ → ℕ
 part_count most bytes = (bytes + (most - 1)) / most
 

@@ -26,7 +26,7 @@ abbrev pub is_any : List ReferenceAt → Bool
 is_any [] = false
 is_any (r ∷ more) = true
 
--- the row of a line of a file that stands at this place and gives this content
+-- the row of a line of a file, at this place and with this content
 abbrev pub row_in : ℕ → ℕ → Option ℕ → Content → Row
 row_in file line place c = record {
   file = file;

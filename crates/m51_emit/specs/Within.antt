@@ -11,7 +11,7 @@ abbrev pub LieFrom : ℕ → ℕ → List ReferenceAt → Type 0
 LieFrom from to [] = from ≤ to
 LieFrom from to (r ∷ more) = (from ≤ r.0) × LieFrom (r.0 + field_len r.1.form) to more
 
--- the references lie in so many bytes
+-- the references lie in the first `bytes` bytes
 pub record LieInside (bytes : ℕ) (references : List ReferenceAt) : Type 0 where
   pub lie : LieFrom 0 bytes references
 

@@ -14,21 +14,21 @@ pub(crate) struct Count {
     pub(crate) fault: Option<u8>,
 }
 
-/// So many fixups before a line.
+/// The count at the beginning of a line, with `made` fixups before it.
 pub(crate) fn none_of(made: usize) -> Count
     ensures { result ≡ none_of made }
 {
     Count { made, fault: None }
 }
 
-// Whether a fixup more can be made.
+// Whether one more fixup can be made.
 fn has_room(made: usize) -> bool
     ensures { result ≡ nat_lt made MOST_FIXUPS }
 {
     made < MOST_FIXUPS
 }
 
-// How many fixups are made with the part.
+// How many fixups are made up to the end of the part, with `made` before it.
 fn made_with(made: usize, part: Outcome) -> usize
     ensures { result ≡ made_with made part }
 {
@@ -38,7 +38,7 @@ fn made_with(made: usize, part: Outcome) -> usize
     }
 }
 
-// The fault of the part.
+// The fault of the part, with `made` fixups before it.
 fn part_fault(made: usize, part: Outcome) -> Option<u8>
     ensures { result ≡ part_fault made part }
 {
@@ -49,7 +49,7 @@ fn part_fault(made: usize, part: Outcome) -> Option<u8>
     }
 }
 
-/// A part more.
+/// Counts one more part.
 pub(crate) fn counted(count: Count, part: Outcome) -> Count
     ensures { result ≡ counted count part }
 {
@@ -59,7 +59,7 @@ pub(crate) fn counted(count: Count, part: Outcome) -> Count
     }
 }
 
-/// The three operands of an instruction more.
+/// Counts the three operands of an instruction.
 pub(crate) fn counted_operands(count: Count, operands: [Outcome; 3]) -> Count
     ensures { result ≡ counted_all count operands }
 {

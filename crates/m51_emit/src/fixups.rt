@@ -56,7 +56,7 @@ fn fixup_of(
     }
 }
 
-/// The fixups of a line more, whose references lie in so many bytes.
+/// Appends the fixups of one more line, whose references lie within its `len` bytes.
 pub(crate) fn push_fixups(
     fixups: &mut Vec<Fixup>,
     segments: &[Segment],

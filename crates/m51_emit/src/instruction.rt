@@ -68,7 +68,7 @@ fn coded_content(alloc: Global, coded: Result<Coded, CodingError>) -> Result<Con
     }
 }
 
-/// What an instruction gives, where so many fixups are made before it.
+/// What an instruction gives, with `made` fixups before it.
 pub(crate) fn instruction_content<L: Lookup>(
     alloc: Global,
     names: &L,

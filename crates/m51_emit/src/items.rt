@@ -23,7 +23,7 @@ pub(crate) struct Growing {
     count: Count,
 }
 
-// What an item with this field comes to.
+// The outcome of an item with this field.
 fn item_outcome(field: &Result<Option<FieldValue>, CodingError>) -> Outcome
     ensures { result ≡ item_outcome field.now }
 {
@@ -66,7 +66,7 @@ fn push_given(
     Ok(())
 }
 
-// An item more.
+// Appends what one more item gives.
 fn push<L: Lookup>(
     growing: &mut Growing,
     names: &L,
@@ -83,7 +83,7 @@ fn push<L: Lookup>(
     push_given(growing, width, item, field)
 }
 
-// What a line gives that has grown so far.
+// What the line gives with the items so far.
 fn line_of(growing: Growing) -> LineContent
     ensures { result ≡ record {
       content = content_in growing;
@@ -106,7 +106,7 @@ fn line_of(growing: Growing) -> LineContent
     }
 }
 
-/// What the items of DB or DW give, where so many fixups are made before them.
+/// What the items of DB or DW give, with `made` fixups before them.
 pub(crate) fn items_content<L: Lookup>(
     alloc: Global,
     names: &L,

@@ -28,9 +28,9 @@ fn nothing_more(alloc: Global, made: usize) -> LineContent
     }
 }
 
-/// What a line gives, where so many fixups are made before it in its text: the bytes and references of its instruction,
-/// DB or DW, the fault of the leftmost operand or item that has one, and how many fixups are made with it. An
-/// instruction with a fault gives nothing, and so does an item. A generic jump takes the form that is handed in.
+/// What a line gives, with `made` fixups before it in its text: the bytes and references of its instruction, DB or DW,
+/// the fault of the leftmost operand or item that has one, and how many fixups are made up to its end. An instruction
+/// with a fault gives nothing, and so does an item. A generic jump has the form `jump`.
 ///
 /// Fixups are counted from left to right, also past a fault. Fixup 65,536 and each later one is not made, and is
 /// fault 19 of its operand or item. PUBLIC gives nothing here: `public_of` says what becomes of its names.

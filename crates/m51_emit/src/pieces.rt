@@ -18,7 +18,7 @@ fn front(bytes: &[u8]) -> &[u8]
     }
 }
 
-// The piece of a run that begins 1,024 times so many bytes after its first.
+// Piece `index` of a run: it begins 1,024 * `index` bytes after the first byte.
 fn piece_at(
     alloc: Global,
     segment: u8,
@@ -39,7 +39,7 @@ fn piece_at(
     })
 }
 
-/// The pieces of a run more: 1,024 bytes each, but for the last.
+/// Appends the pieces of one more run: 1,024 bytes each, but for the last.
 pub(crate) fn push_pieces(
     alloc: Global,
     pieces: &mut Vec<Piece>,

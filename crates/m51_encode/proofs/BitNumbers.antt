@@ -1,4 +1,4 @@
--- References name bits for CONV alone.
+-- References name bits only for CONV.
 use Rattle.std.proofs.Common.{◌≡◌, ℕ, ◌%◌, Bool, true, false, ◌&&◌, ◌||◌, cond, Some, refl, subst}
 use Rattle.m51_expr.specs.declared.value.Part.{Part}
 use Rattle.m51_expr.specs.declared.value.Part.TheVariants.{Whole, High, Low, Bit}
@@ -19,7 +19,7 @@ use Rattle.m51_cells.proofs.Passing.{guarded}
 use Rattle.std.proofs.lemmas.Bool.{and_parts}
 use Rattle.m51_encode.proofs.TakenFields.{referred, no_reference}
 
--- the form and the bit of what stands at a place fit one another
+-- the form and the bit of a part in a field fit one another
 bit_fits : (at : Field) (part : Part) → takes_part at part ≡ true → IsBitOf part → IsBitNumber (form_of at part) (bit_of part)
 bit_fits field.Data Whole h is = refl
 bit_fits field.Data High h is = refl

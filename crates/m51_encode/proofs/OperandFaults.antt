@@ -1,4 +1,4 @@
--- An operand has E7 to E10 or E14, so no instruction that may stand has E11.
+-- An operand has E7 to E10 or E14, so no instruction of a mnemonic that may have its operands has E11.
 use Rattle.std.proofs.Common.{ℕ, Option, Some, None, Ok, Err, refl, subst, sym, inl, inr}
 use Rattle.m51_isa.specs.declared.instr.Instr.{Instr}
 use Rattle.m51_isa.specs.declared.slot.Field.{Field}

@@ -1,4 +1,4 @@
--- What is coded stands for its line.
+-- The bytes that are coded are those of an instruction that the line means.
 use Rattle.std.proofs.Common.{◌≡◌, ℕ, Bool, true, false, cond, List, Option, Some, None, Ok, Err, refl, subst, sym, ◌∙◌, ◌⊎◌, inl, inr}
 use Rattle.std.specs.Prelude.{IfOk, IfSome, nat_lt, slice_get}
 use borrow.Author.Tests.{ltb-true}
@@ -75,7 +75,7 @@ field_fills names next rs s f t held is lies e = record {
   kind = kind_is names next f.byte f.field (value_of names t) held e;
 }
 
--- an operand that gave a number, and looks like the operand of a row, stands as that with the number
+-- an operand that gave a number, and looks like the operand of a row, means that operand with the number
 operand_fills : (names : Meanings) (next : ℕ) (rs : List (Option Reference)) (o : Option OperandTree) (s : Slot) (held : Held) → Lies rs s held → filled names next (field_in s) o ≡ Ok held → Shows (look_in o) s → Fills names next rs o (numbered s held.number)
 operand_fills names next rs None Nothing held lies e h = tt
 operand_fills names next rs (Some line.A) A held lies e h = tt
@@ -106,7 +106,7 @@ renumbered byte m n k s t u (inl h) = inl (sym (same_byte s m) ∙ h)
 renumbered byte m n k s t u (inr (inl h)) = inr (inl (sym (same_byte t n) ∙ h))
 renumbered byte m n k s t u (inr (inr h)) = inr (inr (sym (same_byte u k) ∙ h))
 
--- the row with the numbers that the operands gave stands for the line
+-- the line means the row with the numbers that the operands gave
 numbered_stands : (names : Meanings) (l : Line) (row : Instr) (a b c : Held) → line_row l ≡ Some row
     → first_of names row l.first ≡ Ok a → second_of names row l.second ≡ Ok b → third_of names row l.third ≡ Ok c
     → StandsFor names l (coded_as row a b c)

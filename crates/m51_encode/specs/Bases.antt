@@ -1,4 +1,4 @@
--- How the base of a value stands to the segment of the statement.
+-- How the base of a value is related to the segment of the statement.
 use Rattle.std.specs.Prelude.{◌==◌, Bool, false, not, ◌&&◌, ◌||◌}
 use Rattle.m51_cells.specs.declared.kind.Base.{Base}
 use Rattle.m51_cells.specs.declared.kind.Base.TheVariants.{Segment}
@@ -9,11 +9,11 @@ abbrev pub same_segment : Base → Base → Bool
 same_segment (Segment s) (Segment t) = s == t
 same_segment a b = false
 
--- the segment that the statement stands in
+-- the segment of the statement
 abbrev pub is_current : Meanings → Base → Bool
 is_current names base = same_segment base names.here.base
 
--- the statement stands in an absolute segment
+-- the statement is in an absolute segment
 abbrev pub stands_absolute : Meanings → Bool
 stands_absolute names = is_absolute names names.here.base
 

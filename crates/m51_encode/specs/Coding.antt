@@ -98,11 +98,11 @@ coded_line names None = fault NO_INSTRUCTION
 unfoldable pub coded : Meanings → List ℕ → List OperandTree → Jump → Answer Coded
 coded names mnemonic operands jump = coded_line names (line_of mnemonic operands jump)
 
--- what three operands come to
+-- the outcomes of three operands
 abbrev pub three_outcomes : Answer Held → Answer Held → Answer Held → List Outcome
 three_outcomes a b c = outcome_of a ∷ outcome_of b ∷ outcome_of c ∷ []
 
--- what the operands come to in the fields of the row
+-- the outcomes of the operands in the fields of the row
 abbrev pub outcomes_in : Meanings → Option OperandTree → Option OperandTree → Option OperandTree → Instr → List Outcome
 outcomes_in names a b c row = three_outcomes (first_of names row a) (second_of names row b) (third_of names row c)
 
@@ -116,7 +116,7 @@ abbrev pub outcomes_line : Meanings → Option Line → List Outcome
 outcomes_line names (Some l) = outcomes_by names l (line_row l)
 outcomes_line names None = Stands ∷ Stands ∷ Stands ∷ []
 
--- What the operands of an instruction of a source come to, from left to right; one that is not there stands.
+-- The outcomes of the operands of an instruction of a source, from left to right; `Stands` for one that is missing.
 unfoldable pub outcomes : Meanings → List ℕ → List OperandTree → Jump → List Outcome
 outcomes names mnemonic operands jump = outcomes_line names (line_of mnemonic operands jump)
 

@@ -35,7 +35,7 @@ relative_of names next v =
     else if stands_absolute names then rel_of next (counted v)
     else None
 
--- A target within a block is computed where it counts as a number and the statement stands in an absolute segment.
+-- A target within a block is computed if it counts as a number and the statement is in an absolute segment.
 abbrev pub block_of : Meanings → ℕ → Value → Option FieldValue
 block_of names next v =
     if is_linked names v.base then Some (Linked (reference_of Addr11 v))
@@ -59,7 +59,7 @@ abbrev pub stored_of : Meanings → Field → Value → FieldValue
 stored_of names at v =
     if is_linked names v.base then Linked (reference_of at v) else Number (held_of at (counted v))
 
--- what is taken in the field gives this field
+-- what a value gives in a field that allows it
 abbrev pub taken_of : Meanings → Field → ℕ → Value → Option FieldValue
 taken_of names Rel next v = relative_of names next v
 taken_of names Addr11 next v = block_of names next v

@@ -33,7 +33,7 @@ abbrev pub field_bytes : Width → FieldValue → List ℕ
 field_bytes width (Number n) = number_bytes width n
 field_bytes width (Linked r) = number_bytes width 0
 
--- the bytes of an item that gives this in its field: the characters of a text stand as they are
+-- the bytes of an item that gives this in its field: the characters of a text as they are
 abbrev pub item_bytes : Width → ItemTree → Option FieldValue → List ℕ
 item_bytes width (Text characters) held = characters
 item_bytes width (Value e) (Some held) = field_bytes width held

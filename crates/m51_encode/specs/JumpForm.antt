@@ -1,4 +1,4 @@
--- What a generic JMP or CALL stands for.
+-- The form of a generic JMP or CALL.
 use Rattle.std.specs.Prelude.{ℕ, ◌+◌, ◌%◌, Bool, true, false, not, ◌&&◌, if◌then◌else◌, Ok, Err}
 use Rattle.m51_cells.specs.declared.kind.Base.{Base}
 use Rattle.m51_cells.specs.declared.kind.Base.TheVariants.{None}
@@ -14,7 +14,7 @@ use Rattle.m51_isa.specs.declared.generics.Verb.TheVariants.{Jmp, Call}
 use Rattle.m51_encode.specs.Bases.{is_current, stands_absolute}
 use Rattle.m51_encode.specs.FieldValues.{distance, is_near, same_block}
 
--- the address after a statement of so many bytes
+-- the address after a statement of `length` bytes
 abbrev pub address_after : Meanings → ℕ → ℕ
 address_after names length = (names.here.number + length) % 65536
 
@@ -34,7 +34,7 @@ abbrev pub is_short : Verb → ℕ → ℕ → Bool
 is_short Jmp next target = is_near (distance next target)
 is_short Call next target = false
 
--- the first form that serves for a target in the current segment; that of a block is taken only in an absolute one
+-- the first form that reaches a target in the current segment; that of a block is chosen only in an absolute one
 abbrev pub shortest : Meanings → Verb → ℕ → ℕ → Jump
 shortest names verb next target =
     if is_short verb next target then Short

@@ -1,4 +1,4 @@
--- That each instruction that can be read has a row, whatever form a generic jump takes, and the length of that row.
+-- Each instruction that can be read has a row, and the length of the row, in any form of a generic jump.
 use Rattle.std.specs.Prelude.{◌≡◌, ℕ, IsTrue, IfOk, List, Some}
 use Rattle.m51_isa.specs.declared.instr.Instr.{Instr}
 use Rattle.m51_isa.specs.declared.generics.Jump.{Jump}
@@ -8,8 +8,8 @@ use Rattle.m51_expr.specs.Operand.{OperandTree}
 use Rattle.m51_expr.specs.Looks.{has_form}
 use Rattle.m51_encode.specs.Coding.{Line, line_of, coded_in, coded, outcomes_in, outcomes, length_of}
 
--- An instruction has the length of a row. Its code and what its operands come to are those of the row, so it is not E11
--- for want of one, and it has as many bytes.
+-- An instruction has the length of a row. Its code and the outcomes of its operands are those of the row, so it is not
+-- E11 for lack of one, and it has as many bytes.
 pub record HasRow (mnemonic : List ℕ) (operands : List OperandTree) (form : Jump) : Type 0 where
   pub line : Line
   pub is : line_of mnemonic operands form ≡ Some line

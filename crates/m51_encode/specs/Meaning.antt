@@ -1,4 +1,4 @@
--- What it means that an instruction stands for a line of a source.
+-- The instruction that a line of a source means.
 use Rattle.std.specs.Prelude.{◌≡◌, ℕ, ◌<◌, ◌⊎◌, List, slice_get, Option, Some, None, IfSome, option_map, Ok, Err}
 use Rattle.std.specs.Prelude.{IfOk}
 use Rattle.m51_isa.specs.declared.instr.Instr.{Instr}
@@ -26,7 +26,7 @@ use Rattle.m51_encode.specs.Reference.{reference_of}
 use Rattle.m51_encode.specs.Filling.{valued}
 use Rattle.m51_encode.specs.Coding.{Line, look_in, coded_line}
 
--- the same register, of so many
+-- the same register, one of `count`
 pub record IsRegister (count n m : ℕ) : Type 0 where
   pub same : n ≡ m
   pub there : n < count
@@ -49,7 +49,7 @@ pub record GivesField (names : Meanings) (next : ℕ) (references : References) 
   pub lies : slice_get references f.byte ≡ Some held.reference
   pub kind : IfSome held.reference (IsReferenceOf f.field (value_of names e))
 
--- an operand of a line stands as the operand of a row
+-- an operand of a line means the operand of a row
 abbrev pub Fills : Meanings → ℕ → References → Option OperandTree → Slot → Type 0
 Fills names next references None Nothing = Unit {0}
 Fills names next references (Some line.A) A = Unit {0}
@@ -70,7 +70,7 @@ Fills names next references operand slot = ⊥
 abbrev pub meant : Line → List ℕ
 meant l = meant_by l.mnemonic l.jump (generic l.mnemonic (look_in l.first) (look_in l.second) (look_in l.third))
 
--- the text stands for the line: its mnemonic is what the line means, and each operand of the line stands as its operand
+-- the text is what the line means: its mnemonic, and each of its operands
 pub record TextStands (names : Meanings) (next : ℕ) (references : References) (l : Line) (t : Text) : Type 0 where
   pub mnemonic : meant l ≡ t.mnemonic
   pub first : Fills names next references l.first t.first
@@ -87,13 +87,13 @@ BeginsAt t byte =
     (byte_of (field_in t.first) ≡ Some byte) ⊎ ((byte_of (field_in t.second) ≡ Some byte)
     ⊎ (byte_of (field_in t.third) ≡ Some byte))
 
--- the bytes are those of an instruction whose text stands for the line, and no reference lies but where a field begins
+-- the bytes are those of an instruction that the line means, and a reference lies only where a field begins
 pub record StandsFor (names : Meanings) (l : Line) (c : Coded) : Type 0 where
   pub instr : Instr
   pub text : TextStands names (address_after names (row_length instr)) c.references l (text_of instr)
   pub code : c.code ≡ code_of (encoded instr)
   pub only : (byte : ℕ) (r : Reference) → slice_get c.references byte ≡ Some (Some r) → BeginsAt (text_of instr) byte
 
--- What is coded stands for its line.
+-- The bytes that are coded are those of an instruction that the line means.
 abbrev pub CodedStandsForLine : Type 0
 CodedStandsForLine = (names : Meanings) (l : Line) → IfOk (coded_line names (Some l)) (StandsFor names l)

@@ -16,7 +16,7 @@ abbrev pub IsTold : Option ℕ → Answer Coded → Type 0
 IsTold (Some number) answer = answer ≡ fault number
 IsTold None answer = IsOk answer
 
--- A mnemonic with operands that it may have has a fault exactly where one of them has, and that of the leftmost.
+-- A mnemonic with operands that it may have has a fault exactly if one of them has, and that of the leftmost.
 abbrev pub OutcomesTell : Type 0
 OutcomesTell =
     (names : Meanings) (mnemonic : List ℕ) (operands : List OperandTree) → IsTrue (has_form mnemonic operands)

@@ -1,4 +1,4 @@
--- What the operands and items of a statement come to: a fault, a reference, or neither.
+-- The outcomes of the operands and items of a statement: a fault, a reference, or neither.
 use Rattle.std.specs.Prelude.{ℕ, List, [], ◌∷◌, Option, Some, None, Ok, Err}
 use Rattle.m51_encode.specs.declared.reference.Reference.{Reference}
 use Rattle.m51_encode.specs.declared.filling.Held.{Held}
@@ -11,7 +11,7 @@ abbrev pub linked : Option Reference → Outcome
 linked (Some reference) = Fixes
 linked None = Stands
 
--- what an operand comes to
+-- the outcome of an operand
 abbrev pub outcome_of : Answer Held → Outcome
 outcome_of (Ok held) = linked held.reference
 outcome_of (Err error) = Faulty error.number

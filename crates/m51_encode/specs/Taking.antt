@@ -1,5 +1,4 @@
--- What stands in a field of a statement: classes, operators over a base, and numbers (this project's rules of
--- operands).
+-- What a field of a statement may hold: classes, operators over a base, and numbers (this project's rules of operands).
 use Rattle.std.specs.Prelude.{ℕ, ◌%◌, Bool, true, false, nat_le}
 use Rattle.m51_cells.specs.declared.kind.Kind.{Kind}
 use Rattle.m51_cells.specs.declared.kind.Kind.TheVariants as kind
@@ -9,7 +8,8 @@ use Rattle.m51_isa.specs.declared.slot.Field.{Field}
 use Rattle.m51_isa.specs.declared.slot.Field.TheVariants as field
 use Rattle.m51_isa.specs.Targets.{fits_byte}
 
--- A value without a class stands anywhere, and any value in data and words; else the class is that of the field.
+-- A value without a class is allowed in any field, and any value in data and words; else the class is that of the
+-- field.
 abbrev pub takes_class : Field → Kind → Bool
 takes_class at kind.Number = true
 takes_class field.Data class = true
@@ -21,8 +21,8 @@ takes_class field.Addr11 kind.Code = true
 takes_class field.Rel kind.Code = true
 takes_class at class = false
 
--- HIGH and LOW of a base stand only in 8 bits of data or of an address; the dot of a base there, and where a bit
--- stands.
+-- HIGH and LOW of a base are allowed only in 8 bits of data or of an address; the dot of a base there, and in a bit
+-- address.
 abbrev pub takes_part : Field → Part → Bool
 takes_part at Whole = true
 takes_part field.Data part = true

@@ -7,7 +7,7 @@ use m51_cells::Base;
 use m51_expr::{ExprError, Lookup, Part, Value, counted};
 use m51_isa::{Jump, Verb, distance, in_one_block, is_near};
 
-/// The address after a statement of so many bytes, modulo 65,536.
+/// The address after a statement of `length` bytes, modulo 65,536.
 pub(crate) fn address_after<L: Lookup>(names: &L, length: u16) -> u16
     ensures { result ≡ address_after (L.meanings names.now) length }
 {
@@ -44,7 +44,7 @@ fn is_short(verb: Verb, next: u16, target: u16) -> bool
     }
 }
 
-// The first form that serves for a target in the current segment.
+// The first form that reaches a target in the current segment.
 fn shortest<L: Lookup>(names: &L, verb: Verb, next: u16, target: u16) -> Jump
     ensures { result ≡ shortest (L.meanings names.now) verb next target }
 {
@@ -59,7 +59,8 @@ fn shortest<L: Lookup>(names: &L, verb: Verb, next: u16, target: u16) -> Jump
 
 /// The form of a generic jump or call at the place of the statement. It is long where the target has a fault, or
 /// another base than the current segment, or is `HIGH` or `LOW` of a base, or has no base in a relocatable segment.
-/// Else it is the first that serves: the short one for `JMP`, that of a block in an absolute segment, the long one.
+/// Else it is the first that reaches the target: the short one for `JMP`, that of a block in an absolute segment, the
+/// long one.
 ///
 /// Source: own choice ("Generic jumps").
 #[tactic(auto, unfolding(crate::specs::JumpForm::jump_form_of))]

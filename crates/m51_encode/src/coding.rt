@@ -32,7 +32,7 @@ pub struct Coded {
 /// Source: own choice ("Instructions of a source").
 #[derive(Clone, Copy, Debug, PartialEq, Eq)]
 pub struct Coding {
-    /// What each operand comes to, from left to right; one that is not there comes to nothing.
+    /// The outcome of each operand, from left to right; `Outcome::Stands` for one that is missing.
     pub outcomes: [Outcome; 3],
     /// Its bytes and references, or its fault.
     pub coded: Result<Coded, CodingError>,
@@ -156,9 +156,9 @@ fn coding_line<L: Lookup>(
     }
 }
 
-/// The bytes and references of an instruction at the place of the statement, and what each of its operands comes to.
-/// `jump` is looked at for `JMP` and `CALL` with only a code address, which mean the jump and the call of that
-/// form; a short `CALL` means `ACALL`. It allocates nothing.
+/// The bytes and references of an instruction at the place of the statement, and the outcome of each of its operands.
+/// `jump` is looked at for `JMP` and `CALL` with only a code address, which mean the jump and the call of that form; a
+/// short `CALL` means `ACALL`. It allocates nothing.
 ///
 /// Errors, in `coded`: E11 where the instruction table has no row of this mnemonic with such operands; else the fault
 /// of the leftmost operand that has one: E7 to E10 where it has no value, E14 where its value is out of range or class.

@@ -80,7 +80,7 @@ fn stored_of<L: Lookup>(names: &L, field: Field, value: Value) -> FieldValue
     }
 }
 
-// What is taken gives this.
+// What a value gives in a field that allows it.
 fn taken_of<L: Lookup>(names: &L, field: Field, next: u16, value: Value) -> Option<FieldValue>
     ensures { result ≡ taken_of (L.meanings names.now) field next value }
 {

@@ -3,25 +3,25 @@ ghost use Rattle.m51_encode.specs.Meaning.{CodedStandsForLine};
 ghost use Rattle.m51_encode.specs.Lengths.{FormsHaveRows};
 ghost use Rattle.m51_encode.specs.OutcomeLaws.{OutcomesTell, OperandsFailByFive};
 
-/// The bytes that are coded are those of an instruction that the line means: with its mnemonic, the same
-/// registers, and in its fields the numbers that the values of the operands give there. What a value leaves to the
-/// linker lies at the byte where its field begins, in the form of the field, and no other reference is there.
+/// The bytes that are coded are those of an instruction that the line means: with its mnemonic, the same registers, and
+/// in its fields the numbers that the values of the operands give there. What a value leaves to the linker lies at the
+/// byte where its field begins, in the form of the field, and there is no other reference.
 ///
 /// Source: family manual.
 pub fn coded_stands_for_line()
     ensures { CodedStandsForLine }
 {}
 
-/// Each mnemonic with operands that it may have has the length of a row of the instruction table, whichever form a
-/// generic jump takes; its code is that of the row with its operands, so none is E11 for want of a row, and has as many
-/// bytes as the row.
+/// Each mnemonic with operands that it may have has the length of a row of the instruction table, in any form of a
+/// generic jump; its code is that of the row with its operands, so none is E11 for lack of a row, and has as many bytes
+/// as the row.
 ///
 /// Source: own choice ("Instructions of a source").
 pub fn forms_have_rows()
     ensures { FormsHaveRows }
 {}
 
-/// Each mnemonic with operands that it may have has a fault exactly where one of them has, and that of the leftmost.
+/// Each mnemonic with operands that it may have has a fault exactly if one of them has, and that of the leftmost.
 ///
 /// Source: own choice ("Faults of instructions").
 pub fn outcomes_tell()

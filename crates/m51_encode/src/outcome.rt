@@ -1,11 +1,11 @@
-//! What the operands and items of a statement come to.
+//! The outcomes of the operands and items of a statement.
 ghost use Rattle.std.specs.Prelude.{◌≡◌};
 ghost use Rattle.m51_encode.specs.Outcomes.{linked, outcome_of};
 
 use crate::filling::{CodingError, Held};
 use crate::reference::Reference;
 
-/// What an operand or an item of a statement comes to.
+/// The outcome of an operand or an item of a statement.
 ///
 /// Source: own choice ("Faults of instructions").
 #[derive(Clone, Copy, Debug, PartialEq, Eq)]
@@ -18,7 +18,7 @@ pub enum Outcome {
     Stands,
 }
 
-// What an operand with this reference, or none, comes to.
+// The outcome of an operand with this reference, or none.
 fn linked(reference: Option<Reference>) -> Outcome
     ensures { result ≡ linked reference }
 {
@@ -28,7 +28,7 @@ fn linked(reference: Option<Reference>) -> Outcome
     }
 }
 
-/// What an operand comes to.
+/// The outcome of an operand.
 pub(crate) fn outcome_of(filled: &Result<Held, CodingError>) -> Outcome
     ensures { result ≡ outcome_of filled.now }
 {

@@ -1,4 +1,4 @@
--- What is in the grammar, and does not go on, is read.
+-- Each whole expression of the grammar is read.
 use Rattle.std.proofs.Common.{◌≡◌, ℕ, ◌+◌, ◌-◌, ◌*◌, ◌<◌, ◌≤◌, ◌==◌, cond, true, List, length, Option, Some, None, refl, sym, ap, ◌∙◌, arith, subst, ⊎_elim, slice_get}
 use Rattle.std.proofs.str.Laws.{order}
 use Rattle.std.proofs.lemmas.Option.{slice_get_within}
@@ -120,7 +120,7 @@ complete {line} {rank} {at} {e} {to} (Tighter low inner) n some ends =
           ∙ sym (reach_low (n - 1) line rank e to low);
     }
 
--- what is in the grammar, and does not go on, is read
+-- each whole expression of the grammar is read
 pub complete_at : (n : ℕ) (line : Line) (at : ℕ) (e : Tree) (to : ℕ) → IsExpression line 0 at e to → enough (to - at) 0 ≤ n → read n line 0 at ≡ Some (e, to)
 complete_at n line at e to found some = finish n line 0 at e to (omega arith) some found.ends (complete found.writes n some (ends_above line 0 (0 + 1) to (omega arith) found.ends))
 

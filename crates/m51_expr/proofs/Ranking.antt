@@ -118,7 +118,7 @@ close_no_operator s h = refl
 pub close_no_infix : (s : Option Symbol) (r : ℕ) → is_close s ≡ true → infix_of s r ≡ None
 close_no_infix s r h = ap (of_rank infix_rank r) (close_no_operator s h)
 
--- where no operator of a rank goes on, nor one of a tighter rank
+-- no operator of a rank follows, nor one of a tighter rank
 pub ends_at : (line : Line) (rank to : ℕ) → infix_of (line to) rank ≡ None → Ends line (rank + 1) to → Ends line rank to
 ends_at line rank to none ends r le =
     ⊎_elim (λ lt. ends r (omega (arith, lt))) (λ ge. let same : rank ≡ r = omega (arith, le, ge) in ap (infix_of (line to)) (sym same) ∙ none) (order rank r)

@@ -111,7 +111,7 @@ sound_at (suc n) line =
       goes = λ rank at left mid e to low writes ends h. infix_found n line rank at left mid e to (infix_of (line mid) rank) below.reads below.goes low writes ends refl h;
     }
 
--- what is read is in the grammar, and does not go on
+-- what is read is a whole expression of the grammar
 pub sound : (n : ℕ) (line : Line) (at : ℕ) (e : Tree) (to : ℕ) → read n line 0 at ≡ Some (e, to) → IsExpression line 0 at e to
 sound n line at e to h = (sound_at n line).reads 0 at e to (omega arith) h
 

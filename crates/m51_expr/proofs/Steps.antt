@@ -49,11 +49,11 @@ err_step (Fault k) None whole go h is = ap or_no_expression is ∙ h
 err_step (Fault k) (Some r) whole go h is = absurd (cc h)
 err_step Memory part whole go h is = tt
 
--- what a function gave is what is wanted, by another name
+-- what a function gave, by another name for what is read
 pub gives_same : (r : Result (Expr × ℕ) ReadError) (part whole : Reads) → GivesTree r part → whole ≡ part → GivesTree r whole
 gives_same r part whole h is = subst (GivesTree r) (sym is) h
 
--- a tree that a function handed out is read
+-- a tree that a function returned is read
 pub gives_ok : (x : Expr × ℕ) (reads : Reads) → GivesTree (Ok x) reads → reads ≡ Some (tree_of x.0, x.1)
 gives_ok x None h = absurd (cc h)
 gives_ok x (Some r) h = ap read_in h

@@ -26,11 +26,11 @@ pub data Writes (line : Line) : ℕ → ℕ → Tree → ℕ → Type 0 where
   Tighter : {rank from to : ℕ} {e : Tree}
       → rank < 8 → Writes line (rank + 1) from e to → Writes line rank from e to
 
--- no operator of this rank or a tighter one goes on at a place
+-- no operator of this rank or a tighter one is at a place
 abbrev pub Ends : Line → ℕ → ℕ → Type 0
 Ends line rank at = (r : ℕ) → rank ≤ r → infix_of (line at) r ≡ None
 
--- the whole expression of a rank that begins at a place: the line writes it, and it does not go on after its end
+-- the whole expression of a rank that begins at a place: the line writes it, and it does not continue after its end
 pub record IsExpression (line : Line) (rank from : ℕ) (e : Tree) (to : ℕ) : Type 0 where
   pub writes : Writes line rank from e to
   pub ends : Ends line rank to

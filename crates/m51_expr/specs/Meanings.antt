@@ -1,4 +1,4 @@
--- What names and the place of a statement stand for.
+-- The values of names, and the place of a statement.
 use Rattle.std.specs.Prelude.{ℕ, Bool, true, false, not, if◌then◌else◌, List, Option, Ok}
 use Rattle.m51_cells.specs.declared.kind.Base.{Base}
 use Rattle.m51_cells.specs.declared.kind.Base.TheVariants as base
@@ -6,7 +6,7 @@ use Rattle.m51_expr.specs.declared.value.Value.{Value}
 use Rattle.m51_cells.specs.declared.fault.TheConstants.{BASE_NOT_ALLOWED}
 use Rattle.m51_expr.specs.Value.{Valued, fault, counted}
 
--- what names stand for, the place of the statement, and which segments are absolute or bit-addressable
+-- the values of names, the place of the statement, and which segments are absolute or bit-addressable
 pub record Meanings : Type 0 where
   pub value : List ℕ → Option Value
   pub here : Value
@@ -24,6 +24,6 @@ is_unplaced names base.None = false
 is_unplaced names (base.Segment s) = not (names.fixed s)
 is_unplaced names (base.External n) = true
 
--- what an operand counts as where no base may stand but an absolute one
+-- what an operand counts as where no base is allowed but an absolute one
 abbrev pub as_number : Meanings → Value → Valued ℕ
 as_number names v = if is_unplaced names v.base then fault BASE_NOT_ALLOWED else Ok (counted v)

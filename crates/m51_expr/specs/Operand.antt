@@ -1,4 +1,4 @@
--- Operands and items without where their expressions lie in memory.
+-- Operands and items, apart from the memory that holds their expressions.
 use Rattle.std.specs.Prelude.{ℕ, List}
 use Rattle.m51_expr.specs.Tree.{Tree, tree_of}
 use Rattle.m51_expr.specs.declared.operand.Operand.{Operand}

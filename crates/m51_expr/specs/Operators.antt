@@ -59,7 +59,7 @@ same_base a b = false
 abbrev pub truth : Bool → ℕ
 truth b = if b then 65535 else 0
 
--- an operator between two numbers, unsigned and modulo 65,536; never asked of the dot, which is no operator between
+-- an operator between two numbers, unsigned and modulo 65,536; never applied to the dot, which is no operator between
 -- numbers
 abbrev pub arithmetic : Binary → ℕ → ℕ → Valued ℕ
 arithmetic op2.Mul a b = Ok (a * b % 65536)
@@ -87,7 +87,7 @@ class_of op2.Add kind.Number y = y
 class_of op2.Sub x kind.Number = x
 class_of op x y = kind.Number
 
--- The base of a sum or a difference, where the rules give one: it is kept, or falls away between values of one base.
+-- The base of a sum or a difference, where the rules give one: it is kept, or cancelled between values of one base.
 abbrev pub base_of : Binary → Base → Base → Option Base
 base_of op2.Add x base.None = Some x
 base_of op2.Sub x base.None = Some x
@@ -110,7 +110,7 @@ abbrev pub of_wholes : Meanings → Binary → Kind → Value → Value → Valu
 of_wholes names op class x y =
     on_base class (base_of op x.base y.base) (arithmetic op x.number y.number) (of_numbers names op x y)
 
--- the same between two values that may be under one; then no base may stand
+-- the same between any two settled values: one that is still under HIGH, LOW or the dot has a base, which is a fault
 abbrev pub of_settled : Meanings → Binary → Kind → Value → Value → Valued Value
 of_settled names op class x y =
     if is_whole x.part && is_whole y.part then of_wholes names op class (beside names y.base x) (beside names x.base y)

@@ -20,7 +20,7 @@ Line = ℕ → Option Symbol
 abbrev pub Reads : Type 0
 Reads = Option (Tree × ℕ)
 
--- goes on with a tree and the place after it
+-- continues with the tree and the place after it, if there is one
 abbrev pub and_on : Reads → (Tree → ℕ → Reads) → Reads
 and_on None go = None
 and_on (Some (e, at)) go = go e at
@@ -62,14 +62,14 @@ unfoldable mutual
       else prefixed (prefix_of (line at) rank) (read n line rank (at + 1))
       (and_on (read n line (rank + 1) at) (λ left next. more n line rank left next))
 
-  -- an expression of this rank goes on, from left to right, as long as operators of the rank come
+  -- an expression of this rank continues, from left to right, as long as operators of the rank follow
   pub more : ℕ → Line → ℕ → Tree → ℕ → Reads
   more zero line rank left at = None
   more (suc n) line rank left at =
       followed (infix_of (line at) rank) left at
       (λ op. and_on (read n line (rank + 1) (at + 1)) (λ right next. more n line rank (Two op left right) next))
 
--- how many steps are enough for an expression of this rank before the end of so many symbols
+-- how many steps are enough for an expression of this rank that ends within `left` symbols
 abbrev pub enough : ℕ → ℕ → ℕ
 enough left rank = 10 * left + (9 - rank)
 
@@ -85,7 +85,7 @@ expression_in symbols = read (enough (length symbols) 0) (line_of symbols) 0 0
 abbrev pub expression_from : ℕ → List Symbol → Reads
 expression_from from symbols = read (enough (length symbols - from) 0) (line_of symbols) 0 from
 
--- the tree and the place that a function handed out
+-- the tree and the place that a function returned
 abbrev pub tree_and_place : Expr × ℕ → Tree × ℕ
 tree_and_place r = (tree_of r.0, r.1)
 
@@ -94,7 +94,7 @@ abbrev pub fault_of : ReadError → Option ℕ
 fault_of (Fault k) = Some k
 fault_of Memory = None
 
--- what is read, or the fault that no expression stands there
+-- what is read, or the fault that there is no expression
 abbrev pub or_no_expression : Reads → Result (Tree × ℕ) ℕ
 or_no_expression (Some r) = Ok r
 or_no_expression None = Err NO_EXPRESSION

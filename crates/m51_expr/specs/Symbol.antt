@@ -15,17 +15,17 @@ use Rattle.m51_expr.specs.declared.tree.Unary.TheVariants as unary
 use Rattle.m51_expr.specs.declared.tree.Binary.TheVariants as binary
 use Rattle.m51_expr.specs.Words.{is_language_word}
 
--- The characters of what stands between quotes. Two quotes stand for one.
+-- The characters between the quotes of a text. Two quotes mean one.
 abbrev pub characters : List ℕ → List ℕ
 characters [] = []
 characters (c ∷ []) = c ∷ []
 characters (c ∷ d ∷ more) = if c == quote then c ∷ characters more else c ∷ characters (d ∷ more)
 
--- what stands between the quotes of a text
+-- what is between the quotes of a text
 abbrev pub between_quotes : List ℕ → List ℕ
 between_quotes text = slice_range text 1 (max (length text) 2 - 1)
 
--- what a sign is, by its character, which stands after it; no other character is a sign
+-- what a sign is, by its character, which is written after it; no other character is a sign
 abbrev pub sign_symbol : ℕ → Symbol
 sign_symbol sign =
     if sign == 0x24 then Here  -- $
@@ -85,7 +85,7 @@ operator_or_word word None = if is_language_word word then Word word else Name w
 abbrev pub word_symbol : List ℕ → Symbol
 word_symbol word = operator_or_word word (operator_of word)
 
--- a word, where its bytes are a name; never asked of others, since a name has at most 31 bytes
+-- a word, where its bytes are a name; never applied to others, since a name has at most 31 bytes
 abbrev pub word_or_other : Option (List ℕ) → Symbol
 word_or_other (Some word) = word_symbol word
 word_or_other None = Other

@@ -26,12 +26,12 @@ whole n class b = record { number = n; class = class; base = b; part = Whole }
 abbrev pub plain : ℕ → Kind → Value
 plain n class = whole n class base.None
 
--- neither HIGH, LOW nor the dot stands over the number
+-- the number is under no HIGH, LOW or dot
 abbrev pub is_whole : Part → Bool
 is_whole Whole = true
 is_whole part = false
 
--- A number under HIGH, LOW or the dot. A byte without a bit address is never asked: a value under the dot that has no
+-- A number under HIGH, LOW or the dot. A byte without a bit address does not occur: a value under the dot that has no
 -- base, or an absolute one, was made of a byte with bits.
 abbrev pub part_of : ℕ → Part → ℕ
 part_of n Whole = n

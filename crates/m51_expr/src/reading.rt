@@ -55,7 +55,7 @@ fn read(alloc: Global, symbols: &[Symbol], rank: u8, at: usize) -> Result<(Expr,
     }
 }
 
-// An expression of this rank goes on, as long as operators of the rank come.
+// An expression of this rank continues, as long as operators of the rank follow.
 #[cycle(reader)]
 fn more(
     alloc: Global,

@@ -1,4 +1,4 @@
--- What a device that stores a register keeps, and what stands on the stack after a call.
+-- What a device that stores a register keeps, and what is on the stack after a call.
 use Rattle.std.proofs.Common.{◌≡◌, ◌≢◌, ◌+◌, ◌-◌, ◌%◌, ◌≤◌, ℕ, Bool, true, false, cond, length, slice_set, length-set, ap, sym, ◌∙◌, refl, lit≤}
 use Rattle.m51_flat.specs.declared.state.Cpu.{Cpu}
 use Rattle.m51_flat.specs.declared.state.Effect.{Effect}

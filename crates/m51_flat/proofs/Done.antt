@@ -1,4 +1,5 @@
--- Where an instruction comes to an effect its puts are open, and over each map that agrees with the store it is the same.
+-- Where the outcome of an instruction is an effect, its puts are open, and over each map that agrees with the store the
+-- effect is the same.
 use Rattle.std.proofs.Common.{◌≡◌, ℕ, Bool, true, false, List, [], ◌∷◌, Option, Some, None, refl, sym, ap, ◌∙◌}
 use Rattle.std.specs.Prelude.{if◌then◌else◌}
 use Rattle.m51_cells.specs.declared.cell.Cell.{Cell}

@@ -30,11 +30,11 @@ use Rattle.m51_flat.specs.Meaning.{plan, plan_of, started}
 use Rattle.m51_flat.specs.Laws.{Always, FlowIsKept, Follows, GoesOn, IsCall, next_address}
 use Rattle.m51_alu.specs.declared.sum.Sum.{Sum}
 
--- control goes on to the next instruction, whatever is read
+-- control continues with the next instruction, whatever is read
 abbrev AlwaysNext : ℕ → Reads Effect → Type 0
 AlwaysNext n p = Always (λ e. (e.transfer ≡ Next) × (e.cpu.pc ≡ n)) p
 
--- control goes on to the next instruction or jumps, whatever is read
+-- control continues with the next instruction or jumps, whatever is read
 abbrev AlwaysBranches : ℕ → Reads Effect → Type 0
 AlwaysBranches n p = Always (λ e. ((e.transfer ≡ Next) × (e.cpu.pc ≡ n)) ⊎ (e.transfer ≡ Jump)) p
 

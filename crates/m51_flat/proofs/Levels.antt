@@ -1,4 +1,5 @@
--- Every action but the return from an interrupt keeps both levels in progress, and holds interrupts off where it writes IE or IP.
+-- Every action but the return from an interrupt keeps both levels in progress, and holds interrupts off where it writes
+-- IE or IP.
 use Rattle.std.proofs.Common.{◌≡◌, ℕ, Bool, true, false, cond, List, refl, rules, subst, sym, ap, ◌∙◌, ◌<◌, arith}
 use Rattle.std.proofs.lemmas.Bool.{cond_both, eqb-true, ltb-true, ne_eqb}
 use Rattle.std.specs.Prelude.{◌+◌, ◌%◌, ◌==◌, ◌&&◌, ◌||◌, nat_lt}
@@ -314,7 +315,7 @@ plan_levels old image ext e (CallTo target) h = called_keeps _ old e _ h
 plan_levels old image ext e (CallNear address) h = called_keeps _ old e _ h
 plan_levels old image ext e (Return from) h = returned_levels _ old e from h
 
--- what an action writes depends on the registers alone
+-- what an action writes depends only on the registers
 same_writes : (cpu : Cpu) (pc : ℕ) (held : Bool) (action : Action) → writes_by (record cpu { pc = pc; held = held }) action ≡ writes_by cpu action
 unfolding flag latch
 same_writes cpu pc held action = refl

@@ -23,7 +23,7 @@ use Rattle.m51_flat.proofs.Flows.{flow_is_kept}
 use Rattle.m51_flat.proofs.Levels.{levels_are_kept}
 use Rattle.m51_isa.specs.Table.{flow_of}
 
--- what an instruction comes to over a store, it comes to over every map that agrees with it
+-- the outcome of an instruction over a store is its outcome over every map that agrees with the store
 pub outcomes_agree : (m : CellMap) (cpu : Cpu) (s : States) (barred : Cell → Bool) (instr : Instr) (image : List ℕ) (ext : Pins) → Agrees s m → outcome_of cpu s barred instr image ext ≡ outcome_over m cpu s barred instr image ext
 unfolding outcome_of outcome_over
 outcomes_agree m cpu s barred instr image ext g = ap (concluded barred) (readings (plan_of cpu instr image ext) s m g)
@@ -69,7 +69,7 @@ outcome_parity cpu s barred instr image ext len h =
     (λ e r. parity_of_right e.cpu r)
     (always_done (λ e. IsRight e.cpu) barred s (plan_of cpu instr image ext) (plan_right image ext (started cpu instr) (action_of instr) start))
 
--- control goes on by the flow of the instruction
+-- control continues by the flow of the instruction
 pub outcome_control : (cpu : Cpu) (s : States) (barred : Cell → Bool) (instr : Instr) (image : List ℕ) (ext : Pins) → length cpu.regs ≡ 128 → IfDone (outcome_of cpu s barred instr image ext) (λ e. Follows (flow_of instr) (next_address cpu instr) (latch cpu sp) e)
 unfolding outcome_of
 outcome_control cpu s barred instr image ext len =

@@ -6,7 +6,7 @@ use Rattle.m51_flat.specs.declared.state.Cpu.{Cpu}
 use Rattle.m51_flat.specs.DeviceLaws.{RegistersAreWritten}
 use Rattle.m51_flat.specs.Sfr.{has_register, latch, with_latch}
 
--- a register that is there is replaced in the list
+-- a register that exists is replaced in the list
 store_is : (cpu : Cpu) (a v : ℕ) → has_register a ≡ true
     → ◌≡◌ {A = Cpu} (with_latch cpu a v) (record cpu { regs = slice_set cpu.regs (a - 128) v })
 unfolding with_latch

@@ -98,7 +98,7 @@ concluded_whole : (s : States) (barred : Cell → Bool) (m : CellMap) → IsWhol
 concluded_whole s barred m w q e h (inl is) = ap (concluded barred) is ∙ allowed_open barred w.open_ e
 concluded_whole s barred m w q e h (inr (f, is)) = absurd (never_missing s barred m w f (subst (λ q. IsCause s barred (concluded barred q)) is h))
 
--- what an instruction comes to over such a store
+-- the outcome of an instruction over such a store
 pub whole_outcome : (m : CellMap) (cpu : Cpu) (s : States) (barred : Cell → Bool) (instr : Instr) (image : List ℕ) (ext : Pins) → AreCells s → IsWhole s barred m
     → IsCause s barred (outcome_of cpu s barred instr image ext) → outcome_of cpu s barred instr image ext ≡ unless_down (result_over m (plan_of cpu instr image ext))
 unfolding outcome_over

@@ -1,4 +1,4 @@
--- Flags and rotations bit by bit, as the family manual tells them.
+-- Flags and rotations bit by bit, by the family manual.
 use Rattle.std.specs.Prelude.{◌≡◌, ◌≢◌, ℕ, ◌+◌, ◌%◌, ◌<◌, Bool, nat_eq, if◌then◌else◌}
 use Rattle.std.specs.Int.{bit_at}
 use Rattle.m51_alu.specs.declared.sum.Sum.{Sum}

@@ -37,7 +37,7 @@ abbrev pub FlagsKeepTheRest : Type 0
 FlagsKeepTheRest =
     (cpu : Cpu) (a k : ℕ) (b : Bool) → length cpu.regs ≡ 128 → 128 ≤ a → KeepsTheRest a cpu (with_flag cpu a k b)
 
--- PC stands above the stack, low byte first, SP is two more, and all else that concerns control is as before
+-- PC is stored above the stack, low byte first, SP is two more, and all else that concerns control is as before
 pub record IsStacked (old new : Effect) : Type 0 where
   pub registers : length new.cpu.regs ≡ 128
   pub control : SameControl old.cpu new.cpu

@@ -34,7 +34,7 @@ abbrev pub Always : (Effect → Type 0) → Reads Effect → Type 0
 Always P (Ends e) = P e
 Always P (Read x go) = (v : ℕ) → Always P (go v)
 
--- control goes on to the next instruction
+-- control continues with the next instruction
 abbrev pub GoesOn : ℕ → Effect → Type 0
 GoesOn next e = (e.transfer ≡ Next) × (e.cpu.pc ≡ next)
 
@@ -50,7 +50,7 @@ pub record IsReturn (by : Transfer) (top : ℕ) (e : Effect) : Type 0 where
   pub transfer : e.transfer ≡ by
   pub stack : latch e.cpu sp ≡ (top + 254) % 256
 
--- how control goes on after an instruction of each flow, with the address of the next instruction and SP before
+-- how control continues after an instruction of each flow, with the address of the next instruction and SP before
 abbrev pub Follows : Flow → ℕ → ℕ → Effect → Type 0
 Follows FlowNext next top e = GoesOn next e
 Follows Branch next top e = GoesOn next e ⊎ (e.transfer ≡ Jump)
@@ -62,13 +62,14 @@ Follows FlowReti next top e = IsReturn Reti top e
 abbrev pub next_address : Cpu → Instr → ℕ
 next_address cpu instr = (cpu.pc + length_of instr) % 65536
 
--- whatever is read, control goes on by the flow of the instruction
+-- whatever is read, control continues by the flow of the instruction
 abbrev pub FlowIsKept : Type 0
 FlowIsKept =
     (cpu : Cpu) (instr : Instr) (image : List ℕ) (ext : Pins) → length cpu.regs ≡ 128
     → Always (λ e. Follows (flow_of instr) (next_address cpu instr) (latch cpu sp) e) (plan_of cpu instr image ext)
 
--- over a store, reads come to their result over any map that agrees with it, or to the first of them that has no value
+-- over a store, the answer of reads is their result over any map that agrees with it, or that of the first of them that
+-- has no value
 abbrev pub ReadingsAgree : Type 0
 ReadingsAgree =
     (p : Reads Effect) (s : States) (m : CellMap)

@@ -44,7 +44,7 @@ writes_by cpu _ = false
 abbrev pub writes_ie_or_ip : Cpu → Instr → Bool
 writes_ie_or_ip cpu instr = writes_by cpu (action_of instr)
 
--- both levels are as before, and interrupts are held off exactly where IE or IP was written
+-- both levels are as before, and interrupts are held off exactly if IE or IP was written
 pub record KeepsLevels (writes : Bool) (old : Cpu) (e : Effect) : Type 0 where
   pub low : e.cpu.low ≡ old.low
   pub high : e.cpu.high ≡ old.high

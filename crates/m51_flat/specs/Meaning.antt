@@ -1,4 +1,4 @@
--- What each instruction means: its reads in order, its effect, and what it comes to over a store and over a map.
+-- What each instruction means: its reads in order, its effect, and its outcome over a store and over a map.
 use Rattle.std.specs.Prelude.{ℕ, ◌+◌, ◌%◌, Bool, true, false, if◌then◌else◌, Option, Some, None, Result, Ok, Err, List}
 use Rattle.m51_alu.specs.Arithmetic.{product_of, quotient_of}
 use Rattle.m51_isa.specs.declared.instr.Instr.{Instr}
@@ -32,7 +32,7 @@ use Rattle.m51_flat.specs.Moves.{code_loaded, external_loaded, external_stored, 
 use Rattle.m51_flat.specs.Bits.{bit_flipped, bit_from, branched_on_bit, carry_merged, changed_carry, tested_and_cleared}
 use Rattle.m51_flat.specs.Transfers.{called, compared, counted_down, is_met, returned}
 
--- what an action does, from the effect of an instruction that only goes on to the next
+-- what an action does, from the effect of an instruction that only continues with the next
 abbrev pub plan : List ℕ → Pins → Effect → Action → Reads Effect
 plan image ext e Skip = Ends e
 plan image ext e (Assign place from) = assigned ext e place from
@@ -68,7 +68,7 @@ plan image ext e (CallTo target) = Ends (called e target)
 plan image ext e (CallNear address) = Ends (called e (near e.cpu.pc address))
 plan image ext e (Return from) = returned e from
 
--- the effect of a step of so many cycles that changes nothing, and after which interrupts are not held off
+-- the effect of a step of `cycles` machine cycles that changes nothing, and after which interrupts are not held off
 abbrev pub still : Cpu → ℕ → Effect
 still cpu cycles = record {
   cpu = record cpu { held = false };
@@ -80,7 +80,7 @@ still cpu cycles = record {
   cycles = cycles;
 }
 
--- the effect of an instruction that only goes on to the next
+-- the effect of an instruction that only continues with the next
 abbrev pub started : Cpu → Instr → Effect
 started cpu instr = record {
   cpu = record cpu { pc = (cpu.pc + length_of instr) % 65536; held = false };

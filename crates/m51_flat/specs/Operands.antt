@@ -25,7 +25,7 @@ location_of cpu (Direct a) = Ends (if nat_lt a 0x80 then Ram a else Sfr a)
 location_of cpu (Indirect i) = Read (ByteAt (bank cpu + i)) (λ p. Ends (Ram p))
 location_of cpu (Bank n) = Ends (Ram (bank cpu + n))
 
--- what stands there, for an operand that is changed: of a port its latch
+-- the value at a location, for an operand that is changed: of a port its latch
 unfoldable pub latch_at : Cpu → Location → Reads ℕ
 latch_at cpu (Ram a) = Read (ByteAt a) (λ v. Ends v)
 latch_at cpu (Sfr a) = Ends (latch cpu a)

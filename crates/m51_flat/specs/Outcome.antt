@@ -1,4 +1,4 @@
--- What a step comes to over a store: its effect, or why it has none.
+-- The outcome of a step over a store: its effect, or why it has none.
 use Rattle.std.specs.Prelude.{Result, Ok, Err}
 use Rattle.m51_cells.specs.declared.cell.Cell.{Cell}
 use Rattle.m51_flat.specs.declared.state.Effect.{Effect}
@@ -13,7 +13,7 @@ pub data Outcome : Type 0 where
   Unset : Cell → Outcome
   PowerDown : Outcome
 
--- what the answer of a function says whose effect stands in a place of its caller
+-- the outcome of a function that answers this and leaves its effect in a variable of its caller
 abbrev pub outcome_by : {A : Type 0} → Result A NoEffect → Effect → Outcome
 outcome_by (Ok a) e = Done e
 outcome_by (Err (lacks.Outside c)) e = Outside c

@@ -1,4 +1,4 @@
--- What is known where an instruction comes to an effect, or to power-down.
+-- What is known where the outcome of an instruction is an effect, or power-down.
 use Rattle.std.specs.Prelude.{◌≡◌, ℕ, Bool, true, false, None, List}
 use Rattle.m51_cells.specs.declared.cell.Cell.{Cell}
 use Rattle.m51_isa.specs.declared.instr.Instr.{Instr}
@@ -25,7 +25,7 @@ EffectsAreDone =
     (cpu : Cpu) (cells : States) (barred : Cell → Bool) (instr : Instr) (image : List ℕ) (ext : Pins) (e : Effect)
     → outcome_of cpu cells barred instr image ext ≡ Done e → IsDone barred cells cpu instr image ext e
 
--- an instruction that comes to power-down sets bit 1 of PCON, over each map that agrees with the store
+-- an instruction whose outcome is power-down sets bit 1 of PCON, over each map that agrees with the store
 abbrev pub PowerGoesDown : Type 0
 PowerGoesDown =
     (cpu : Cpu) (cells : States) (barred : Cell → Bool) (instr : Instr) (image : List ℕ) (ext : Pins) (m : CellMap)

@@ -1,4 +1,4 @@
--- What an instruction reads, in order, and what it comes to: a tree of reads, over a store and over a map.
+-- What an instruction reads, in order, and its result: a tree of reads, over a store and over a map.
 use Rattle.std.specs.Prelude.{◌≡◌, ℕ, zero, suc, ◌+◌, ◌*◌, List, [], ◌∷◌, Result, Ok, Err}
 use Rattle.m51_cells.specs.Outcome.{and_then}
 use Rattle.m51_flat.specs.declared.state.Seen.{Seen}
@@ -50,7 +50,7 @@ pub record CellMap : Type 0 where
   pub ram : ℕ → ℕ
   pub xram : ℕ → ℕ
 
--- the number whose bits so many cells have from this one on, the lowest first
+-- the number whose bits this many cells have from cell `n` on, the lowest first
 abbrev pub bits_in : CellMap → ℕ → ℕ → ℕ
 bits_in m zero n = 0
 bits_in m (suc k) n = m.ram n + 2 * bits_in m k (n + 1)

@@ -16,13 +16,13 @@ pub use Rattle.m51_sfr.specs.declared.addresses.TheConstants.{TL2 as tl2, TH2 as
 unfoldable pub use Rattle.m51_sfr.specs.Registers.{has_register}
 pub use Rattle.m51_sfr.specs.Registers.{is_one_of}
 
--- the number of the port whose latch stands there
+-- the number of the port whose latch is at this address
 unfoldable pub port_of : ℕ → Option ℕ
 port_of a =
     if a == p0 then Some 0 else (if a == p1 then Some 1 else (
     if a == p2 then Some 2 else (if a == p3 then Some 3 else None)))
 
--- what stands in a register; an address without one reads 0
+-- the value of a register; an address without one reads 0
 unfoldable pub latch : Cpu → ℕ → ℕ
 latch cpu a = if has_register a then slice_index cpu.regs (a - 0x80) else 0
 
@@ -43,7 +43,7 @@ unfoldable pub with_bit : ℕ → ℕ → Bool → ℕ
 with_bit byte k true = bit_or byte (2 ^ k)
 with_bit byte k false = bit_and byte (255 - 2 ^ k)
 
--- a device stores a value in a register: no port is told, and no interrupt is held off
+-- a device stores a value in a register: no port is reported as written, and interrupts are not held off
 unfoldable pub with_latch : Cpu → ℕ → ℕ → Cpu
 with_latch cpu a v = if has_register a then record cpu { regs = slice_set cpu.regs (a - 0x80) v } else cpu
 
@@ -56,9 +56,9 @@ unfoldable pub with_parity : List ℕ → List ℕ
 with_parity regs =
     slice_set regs (psw - 0x80) (with_bit (slice_index regs (psw - 0x80)) 0 (parity_of (slice_index regs (acc - 0x80))))
 
--- a register is written: SBUF hands on the byte to be sent and keeps the received one, and an address without a
--- register ignores it; a port that was written is told by its number, and a write of IE or IP holds interrupts off for
--- a step
+-- a register is written: a byte for SBUF is to be sent, and the received one is kept; an address without a register
+-- ignores the write; the number of a port that was written is reported, and a write of IE or IP holds interrupts off
+-- for a step
 unfoldable pub with_sfr : ℕ → ℕ → Effect → Effect
 with_sfr a v e =
     if a == sbuf then record e { sbuf = Some v } else (

@@ -46,13 +46,13 @@ bit_seen s n = answered (ram_cell n) (s.ram n)
 abbrev pub xbyte_seen : States → ℕ → Seen
 xbyte_seen s n = answered (xram_cell n) (s.xram n)
 
--- goes on with the value that is seen, or answers why there is none
+-- continues with the value that is seen, or answers why there is none
 abbrev pub on_value : Seen → (ℕ → Seen) → Seen
 on_value (Value v) go = go v
 on_value (Outside c) go = Outside c
 on_value (Unset c) go = Unset c
 
--- the number whose bits so many cells hold from this one on, the lowest first; or the answer of the lowest that holds
+-- the number whose bits this many cells hold from cell `n` on, the lowest first; or the answer of the lowest that holds
 -- none
 abbrev pub bits_seen : States → ℕ → ℕ → Seen
 bits_seen s zero n = Value 0
@@ -96,7 +96,7 @@ states_after put s = record {
   xram = λ n. state_over (xram_written put n) (s.xram n);
 }
 
--- the lowest barred cell of internal RAM among so many from this one on
+-- the lowest barred cell of internal RAM among this many from cell `n` on
 abbrev pub first_barred : (Cell → Bool) → ℕ → ℕ → Option Cell
 first_barred barred zero n = None
 first_barred barred (suc k) n = if barred (ram_cell n) then Some (ram_cell n) else first_barred barred k (n + 1)

@@ -168,7 +168,7 @@ pub(crate) enum ReturnFrom {
     Interrupt,
 }
 
-/// What an instruction does beside going on to the next.
+/// What an instruction does besides continuing with the next.
 #[derive(Clone, Copy)]
 pub(crate) enum Action {
     /// NOP.

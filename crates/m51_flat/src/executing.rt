@@ -50,8 +50,8 @@ pub fn reset() -> Cpu
     }
 }
 
-/// Makes an effect that of a step of so many machine cycles that changes nothing, and after which interrupts are not held
-/// off.
+/// Makes an effect that of a step of `cycles` machine cycles that changes nothing, and after which interrupts are not
+/// held off.
 ///
 /// Source: own choice ("Effects").
 #[inline(always)]
@@ -68,7 +68,7 @@ pub fn begin(effect: &mut Effect, cpu: &Cpu, cycles: u8)
     effect.cycles = cycles;
 }
 
-/// Makes an effect that of an instruction that only goes on to the next.
+/// Makes an effect that of an instruction that only continues with the next.
 #[inline(always)]
 fn start(effect: &mut Effect, cpu: &Cpu, instr: &Instr)
     ensures { effect.new ≡ started cpu.now instr.now }
@@ -111,8 +111,8 @@ fn unless_shut<M: CellStore>(
     answer
 }
 
-/// Whether an effect that is no instruction's may be performed over a store: `Outside` with the lowest cell of the first
-/// put, then of the second, that may not be written. PCON is not asked.
+/// Whether an effect that is no instruction's may be performed over a store: `Outside` with the lowest cell of the
+/// first put, then of the second, that may not be written. PCON is not asked.
 ///
 /// Source: own choice ("Effects").
 #[inline(always)]
@@ -136,7 +136,7 @@ fn allow<M: CellStore>(store: &M, effect: &Effect) -> Result<(), NoEffect>
     }
 }
 
-// What an instruction comes to over a store.
+// The outcome of an instruction over a store.
 #[tactic(auto, unfolding(crate::specs::Meaning::outcome_of))]
 #[inline(always)]
 fn run<M: CellStore>(
@@ -160,8 +160,8 @@ fn run<M: CellStore>(
     }
 }
 
-/// What an instruction comes to over a store, where `image` has 65,536 bytes. It changes the effect alone, which is of
-/// no meaning after an error; the caller puts `first` and then `second`.
+/// The outcome of an instruction over a store, where `image` has 65,536 bytes. It changes only the effect, which has no
+/// meaning after an error; the caller puts `first` and then `second`.
 ///
 /// - `Outside` and `Unset`: the first read that the store does not answer, in the order of the operands.
 /// - `Outside`, else: the lowest cell of the first put, then of the second, that may not be written.
@@ -196,7 +196,8 @@ pub fn exec<M: CellStore>(
     // PSW bit 0 stays the parity of ACC.
     ensures parity { HasParity cpu.now → IfDone (outcome_by result effect.new) (λ e. HasParity e.cpu) }
 
-    // Control goes on by the flow of the instruction: PC of the next, a call's two bytes, SP after a call or a return.
+    // Control continues by the flow of the instruction: PC of the next, a call's two bytes, SP after a call or a
+    // return.
     ensures control { IfDone (outcome_by result effect.new) (λ e.
         Follows (flow_of instr.now) (next_address cpu.now instr.now) (latch cpu.now sp) e) }
 

@@ -6,7 +6,7 @@ ghost use Rattle.m51_flat.specs.Laws.{AccessesAgree, FlowIsKept, ReadingsAgree};
 ghost use Rattle.m51_flat.specs.LevelLaws.{LevelsAreKept};
 ghost use Rattle.m51_flat.specs.OutcomeLaws.{EffectsAreDone, PowerGoesDown};
 
-/// Whatever is read, control goes on by the flow of the instruction: a branch jumps or does not, a call calls, and so
+/// Whatever is read, control continues by the flow of the instruction: a branch jumps or does not, a call calls, and so
 /// on.
 ///
 /// Source: family manual.
@@ -14,8 +14,8 @@ pub fn flow_is_kept()
     ensures { FlowIsKept }
 {}
 
-/// Over a store, reads come to their result over any map that agrees with it, or to the first of them that has no
-/// value.
+/// Over a store, the answer of reads is their result over any map that agrees with it, or that of the first of them
+/// that has no value.
 ///
 /// Source: own choice ("Two readings of an instruction").
 pub fn readings_agree()
@@ -96,15 +96,15 @@ pub fn levels_are_kept()
     ensures { LevelsAreKept }
 {}
 
-/// Where an instruction comes to an effect, both puts may be written, PCON bit 1 is 0, and over each map that agrees
-/// with the store the effect is the same.
+/// Where the outcome of an instruction is an effect, both puts may be written, PCON bit 1 is 0, and over each map that
+/// agrees with the store the effect is the same.
 ///
 /// Source: own choice ("Two readings of an instruction").
 pub fn effects_are_done()
     ensures { EffectsAreDone }
 {}
 
-/// Where an instruction comes to power-down, it does so over each map that agrees with the store.
+/// Where the outcome of an instruction is power-down, it is so over each map that agrees with the store.
 ///
 /// Source: own choice ("Two readings of an instruction").
 pub fn power_goes_down()

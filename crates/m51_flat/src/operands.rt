@@ -74,7 +74,7 @@ pub(crate) fn locate<M: CellStore>(store: &M, cpu: &Cpu, place: Place) -> Result
     }
 }
 
-/// What is there, for an operand that is changed: of a port its latch.
+/// The value at a location, for an operand that is changed: of a port its latch.
 #[tactic(auto, unfolding(crate::specs::Operands::latch_at))]
 #[inline(always)]
 pub(crate) fn read_latch_at<M: CellStore>(

@@ -1,4 +1,4 @@
-//! What each action comes to.
+//! The outcome of each action.
 ghost use Rattle.std.specs.Prelude.{◌≡◌, length, IfErr};
 ghost use Rattle.m51_flat.specs.Causes.{IsMissing};
 ghost use Rattle.m51_flat.specs.Reads.{answer, with_effect};
@@ -19,8 +19,8 @@ use m51_alu::{div, mul};
 use m51_isa::block_target;
 use m51_sfr::addresses::{ACC, B};
 
-/// What an action comes to over a store, from the effect of an instruction that only goes on to the next. An effect
-/// after a read without a value is of no meaning.
+/// The outcome of an action over a store, from the effect of an instruction that only continues with the next. An
+/// effect after a read without a value has no meaning.
 #[inline(always)]
 pub(crate) fn perform<M: CellStore>(
     store: &M,

@@ -30,7 +30,7 @@ impl Model for FlatRam {
     ghost invariant = { λ r. (vec_len r.ram ≡ 256) × (vec_len r.xram ≡ 65536) };
 }
 
-// So many bytes, and each of them the fill.
+// A list of `count` bytes, each of them the fill.
 fn bytes(alloc: Global, fill: u8, count: usize) -> Result<Vec<u8>, NoMemory>
     ensures len { IfOk result (λ v. length v.items ≡ count) }
     ensures each { IfOk result (λ v. (n : ℕ) → n < count → slice_index v.items n ≡ fill) }

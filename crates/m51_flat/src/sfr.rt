@@ -16,7 +16,7 @@ pub(crate) fn index(address: u8) -> usize
     usize::from(address - 0x80)
 }
 
-/// The number of the port whose latch is there.
+/// The number of the port whose latch is at this address.
 #[tactic(auto, unfolding(crate::specs::Sfr::port_of))]
 pub(crate) fn port_at(address: u8) -> Option<u8>
     ensures value { result ≡ port_of address }

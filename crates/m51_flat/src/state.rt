@@ -1,4 +1,4 @@
-//! The processor's state, what an instruction changes, and what it comes to.
+//! The processor's state, what an instruction changes, and its outcome.
 ghost use Rattle.std.specs.Prelude.{◌≡◌};
 ghost use Rattle.m51_flat.specs.Vectors.{vector_of};
 
@@ -116,7 +116,7 @@ impl Source {
     }
 }
 
-/// How control goes on.
+/// How control continues.
 ///
 /// Source: own choice ("Effects").
 #[derive(Clone, Copy, Debug, PartialEq, Eq)]
@@ -146,7 +146,7 @@ pub struct Effect {
     pub first: Put,
     /// The write that comes second.
     pub second: Put,
-    /// How control goes on.
+    /// How control continues.
     pub transfer: Transfer,
     /// The number of the port whose latch was written, 0 to 3.
     pub port: Option<u8>,

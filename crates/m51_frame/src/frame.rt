@@ -1,4 +1,4 @@
-//! What is round the contents of a record: type, length and checksum.
+//! The frame of a record around its contents: type, length and checksum.
 ghost use Rattle.std.specs.Prelude.{◌≡◌, ◌<◌, ◌++◌, ◌∷◌, ◌+◌, ◌*◌, [], length, OnOk, IfOk};
 ghost use Rattle.m51_frame.specs.Fields.{Reads};
 ghost use Rattle.m51_frame.specs.Frame.{checksum_of, record_of, begins, summed, closed, lengthed, record_at};
@@ -31,7 +31,7 @@ pub fn begins(record_type: u8, bytes: &[u8]) -> bool
     }
 }
 
-// The contents and what follows the record: its front, and what follows that, are given.
+// The contents, and the bytes after the record. `front` is the record without its checksum, `rest` what follows that.
 fn summed<'a>(
     total: u32,
     number: u32,
@@ -93,8 +93,8 @@ fn lengthed(total: u32, number: u32, bytes: &[u8]) -> Result<(&[u8], &[u8]), Obj
     }
 }
 
-/// The contents of the record of that type at the front of the bytes, and the bytes after it. They end with the file,
-/// at its total length; the record has that number.
+/// The contents of the record of that type at the beginning of the bytes, and the bytes after it. They end with the
+/// file, at its total length; the record has that number.
 ///
 /// Errors, in this order: O1 where there is no byte, O3 where the type is another, O1 where the length is cut off, O4
 /// where it is 0, O1 where a later byte is missing, O2 where the checksum is wrong.
@@ -134,7 +134,7 @@ pub fn checksum_place(total: u32, after: &[u8]) -> u32
 }
 
 /// Appends a record of the type with these contents, which must be less than 65,535 bytes. Error: out of memory;
-/// nothing is said of the bytes then.
+/// the bytes are unspecified then.
 ///
 /// Source: OMF-51.
 pub fn put_record(out: &mut Vec<u8>, record_type: u8, contents: &[u8]) -> Result<(), NoMemory>
@@ -151,7 +151,7 @@ pub fn put_record(out: &mut Vec<u8>, record_type: u8, contents: &[u8]) -> Result
 }
 
 /// The bytes of a record of the type with these contents, which must be less than 65,535 bytes: the type, the length of
-/// what follows it in two bytes, the contents and the checksum. Out of memory is the one error.
+/// what follows it in two bytes, the contents and the checksum. Error: out of memory.
 ///
 /// Source: OMF-51.
 pub fn record_bytes(alloc: Global, record_type: u8, contents: &[u8]) -> Result<Vec<u8>, NoMemory>

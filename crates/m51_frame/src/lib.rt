@@ -1,4 +1,4 @@
-//! Records of object files: what is round their contents, and their fields from left to right.
+//! Records of object files: the frame around their contents, and their fields from left to right.
 #![tactic(auto)]
 
 mod fields;

@@ -5,8 +5,8 @@ ghost use Rattle.m51_frame.specs.Pieces.{ends_before};
 use m51_cells::MOST_PIECE_BYTES;
 use m51_module::Piece;
 
-/// Whether the piece ends below the offset, or at it with the most bytes: then another piece of its segment may begin
-/// there. Both offsets count from the beginning of the segment.
+/// Whether the piece ends below the offset, or has the most bytes of a piece and ends at it: then another piece of its
+/// segment may begin there. Both offsets count from the beginning of the segment.
 ///
 /// Source: own choice ("Object records").
 pub fn ends_before(piece: &Piece, offset: u16) -> bool

@@ -4,18 +4,18 @@ use Rattle.std.specs.Prelude.{slice_get}
 use Rattle.std.specs.Option.{option_map_or}
 use Rattle.m51_generator.specs.declared.unit.DrawnUnit.{DrawnUnit}
 
--- A draw takes the seed to the next one, and gives one of so many numbers by it.
+-- A draw changes the seed to the next one, and gives a number below `many` by it.
 abbrev pub next_seed : ℕ → ℕ
 next_seed seed = (1664525 * seed + 1013904223) % 4294967296
 
 abbrev pub draw : ℕ → ℕ → ℕ
 draw many seed = (seed / 65536) % many
 
--- the depth of a unit among these; that of 0, which stands for the loop of MAIN, is 0
+-- the depth of a unit, by its number from 1; 0, the loop of MAIN, has depth 0
 abbrev pub depth_of : List DrawnUnit → ℕ → ℕ
 depth_of units number = if number == 0 then 0 else option_map_or (λ unit. unit.depth) (slice_get units (number - 1)) 0
 
--- The parent of the unit of this number is drawn among 0 and the units before it. That of the first is 0, without a draw.
+-- The parent of the unit of this number is drawn among 0 and the units before it; the first has 0, without a draw.
 abbrev pub seed_of_parent : ℕ → ℕ → ℕ
 seed_of_parent number seed = if number == 1 then seed else next_seed seed
 
@@ -45,7 +45,7 @@ with_unit number before =
       seed = next_seed seed;
     }
 
--- so many units, from this start
+-- the units 1 to the given number, drawn from the start, and the seed after their draws
 abbrev pub drawn : ℕ → ℕ → Drawn
 drawn zero start = record { units = []; seed = start }
 drawn (suc before) start = with_unit (suc before) (drawn before start)

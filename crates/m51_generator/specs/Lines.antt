@@ -124,6 +124,6 @@ program_text units =
     ++ text_of (calls 0 units)
     ++ text_of closing
 
--- the source with so many units, from this start
+-- the source with `units` units, drawn from this start
 abbrev pub generated : ℕ → ℕ → SourceFile
 generated units start = record { name = codes "gen.a51"; bytes = program_text (drawn units start).units }

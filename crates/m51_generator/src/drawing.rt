@@ -17,7 +17,7 @@ fn next_seed(seed: u32) -> u32
     ((1_664_525 * u64::from(seed) + 1_013_904_223) % 4_294_967_296) as u32
 }
 
-// One of so many numbers, by this seed.
+// A number below `many`, by this seed.
 fn draw(many: usize, seed: u32) -> usize
     requires { 0 < many }
     ensures { result ≡ draw many seed }
@@ -92,7 +92,7 @@ fn add_unit(units: &mut Vec<DrawnUnit>, number: usize, seed: u32) -> Result<u32,
     Ok(seed)
 }
 
-// So many units, from this start.
+// `count` units, drawn from this start.
 pub(crate) fn draw_units(alloc: Global, count: u8, start: u32) -> Result<Vec<DrawnUnit>, NoMemory>
     ensures { IfOk result (λ units. units.items ≡ (drawn count start).units) }
 {

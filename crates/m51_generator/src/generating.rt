@@ -27,7 +27,7 @@ fn program_text(alloc: Global, units: &[DrawnUnit]) -> Result<Vec<u8>, NoMemory>
     Ok(text)
 }
 
-/// The source `gen.a51` of a program with so many units, 1 to 100, by draws from this start. Each unit has a procedure
+/// The source `gen.a51` of a program with `units` units, 1 to 100, by draws from this start. Each unit has a procedure
 /// and overlayable data. The loop of MAIN calls the first unit; the caller of each other one is drawn, and no unit is
 /// deeper than 8 calls. Two timer interrupts run beside them.
 ///

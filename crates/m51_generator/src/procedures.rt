@@ -22,7 +22,7 @@ fn data_line(alloc: Global, unit: &str) -> Result<String, NoMemory>
     Ok(format!(in alloc; "?DT?{unit} SEGMENT DATA OVERLAYABLE")?)
 }
 
-// The line that goes on with a segment of a unit.
+// The line that continues a segment of a unit.
 fn segment_line(alloc: Global, segment: &str, unit: &str) -> Result<String, NoMemory>
     ensures { IfOk result (λ line. string_bytes line ≡ codes "RSEG " ++ segment.now ++ unit.now) }
 {

@@ -14,7 +14,7 @@ use Rattle.m51_graph.specs.Leading.{leads}
 use Rattle.m51_relations.proofs.BitLaws.{same_pairs}
 use Rattle.m51_graph.proofs.Deciding.{and_decides, leads_is, or_decides, reach_trans}
 
--- the test of edges tells of them
+-- the test for an edge is true exactly if the edge exists
 pub edge_tells : (edges : Edges) (u v : ℕ) → Decides (edge_test edges u v) (HasEdge edges u v)
 edge_tells edges u v =
     let same : (edge : ℕ × ℕ) → Decides (same_edge (u, v) edge) ((u ≡ edge.0) × (v ≡ edge.1)) =

@@ -44,7 +44,7 @@ names_more test names i d old now new below is before =
     ∙ swap_or (list_any test (take i names)) (test (get_or names i d)) old
     ∙ ap (λ b. old || b) (sym (list_any_more test names i d below))
 
--- one line more
+-- one more control line
 pub lines_more : (titles : List (List ℕ)) (controls : List (ℕ × Control)) (i : ℕ) (d : ℕ × Control) (u v : ℕ) (now new : Bool) → i < length controls
     → new ≡ (now || cuts titles (u, v) (get_or controls i d).1) → now ≡ is_cut titles (take i controls) (u, v) → new ≡ is_cut titles (take (i + 1) controls) (u, v)
 lines_more titles controls i d u v now new below is before =

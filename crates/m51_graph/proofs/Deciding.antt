@@ -29,11 +29,11 @@ reach_more edge edges u v r = record { next = r.next; more = r.more; walk = walk
 abbrev Leads : Edges → ℕ → ℕ → Type 0
 Leads edges u v = (u ≡ v) ⊎ Reaches edges u v
 
--- a walk does without the first edge, or comes to it and goes on from it
+-- a walk does without the first edge, or consists of a part to it, the edge, and a part from it
 abbrev Splits : ℕ × ℕ → Edges → ℕ → ℕ → Type 0
 Splits edge edges u w = Reaches edges u w ⊎ (Leads edges u edge.0 × Leads edges edge.1 w)
 
--- behind an edge from u to v
+-- an edge from u to v, and then a walk from v or nothing
 leads_on : (edges : Edges) (u v w : ℕ) → HasEdge edges u v → Leads edges v w → Reaches edges u w
 leads_on edges u v w e (inl same) = subst (λ x. Reaches edges u x) same (reach_edge edges u v e)
 leads_on edges u v w e (inr r) = reach_from edges u v w e r
@@ -86,7 +86,7 @@ pub and_decides : {P Q : Type 0} → (a b : Bool) → Decides a P → Decides b 
 and_decides true b d e = (λ h. (d.0 refl, e.0 h), λ h. e.1 h.1)
 and_decides false b d e = (λ h. absurd (false≢true h), λ h. absurd (false≢true (d.1 h.0)))
 
--- the decision is true exactly where there is a walk
+-- the decision is true exactly if a walk exists
 pub leads_tells : (edges : Edges) (u w : ℕ) → Decides (leads edges u w) (Reaches edges u w)
 unfolding leads
 leads_tells [] u w = (λ h. absurd (false≢true h), λ r. absurd (none_in_empty (u, r.next) r.walk.0))
@@ -98,6 +98,6 @@ leads_tells (edge ∷ edges) u w =
     (or_decides (nat_eq edge.1 w) (leads edges edge.1 w) (Decides-eqb edge.1 w) (leads_tells edges edge.1 w))) in
     (λ h. join_reach edge edges u w (split.0 h), λ r. split.1 (split_reach edge edges u w r))
 
--- what tells of a walk is the decision
+-- a value that is true exactly if a walk exists is that of the decision
 pub leads_is : (edges : Edges) (u w : ℕ) (r : Bool) → Decides r (Reaches edges u w) → r ≡ leads edges u w
 leads_is edges u w r d = same_from_decides r (leads edges u w) d (leads_tells edges u w)

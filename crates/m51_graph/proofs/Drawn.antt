@@ -45,7 +45,7 @@ added_step titles controls i d old new below is =
     ∙ sym (with_append old here (lines (drop (i + 1) controls)))
     ∙ ap (λ cs. with_edges old (lines cs)) (sym (drop_rest controls i d below))
 
--- with one more, if it is there
+-- with the first of them, if it was found
 found_first : (now rest : Edges) (found : Option (ℕ × ℕ)) → with_edges (with_found now found) rest ≡ with_edges now (cons_option found rest)
 found_first now rest None = refl
 found_first now rest (Some e) = refl
@@ -122,7 +122,7 @@ base_in parts kind NoBase h = tt
 base_in parts kind (InSegment s) h = ap is_some h.1
 base_in parts kind (OfExternal e) h = tt
 
--- the base of a public of a valid module is there
+-- the base of a public of a valid module exists
 pub base_there : (parts : ModuleParts) (publics : List Public) (place : ℕ) (p : Public) → IsValid parts → publics ≡ parts.publics
     → true ≡ ltb place (length publics) → p ≡ get_or publics place p → IsBaseIn parts p.base
 base_there parts publics place p valid are within is =

@@ -22,7 +22,7 @@ use Rattle.m51_graph.specs.Laws.{EdgesAre, IsAdded, IsCut, RefersTo}
 use Rattle.m51_graph.specs.Units.{named, unit_titles}
 use Rattle.m51_graph.proofs.Closed.{edge_tells}
 
--- an edge that is drawn is there, as those before it are
+-- an edge of the longer list is one of those before, or the one that was added
 drawn_in : (edges : Edges) (one e : ℕ × ℕ) → Contains (with_edge edges one) e → Contains edges e ⊎ (one ≡ e)
 drawn_in edges one e h = elim (cases_Bool (has_edge edges one)) as (λ _. Contains edges e ⊎ (one ≡ e)) [
   | inl there ↦ inl (subst (λ b. Contains (cond b edges (edges ++ one ∷ [])) e) there h)

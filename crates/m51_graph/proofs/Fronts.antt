@@ -7,7 +7,7 @@ use Rattle.std.proofs.lemmas.Bool.{and_from, and_parts}
 use Rattle.std.proofs.lemmas.Bool.Decides.{Decides-eqb, same_from_decides}
 use Rattle.std.proofs.lemmas.Slice.Eq.{bytes_eq-Decides, starts_is}
 
--- it begins with the front, and then goes on alike
+-- a text is that of two parts exactly if it begins with the first, and the second is what follows
 pub front_split : (title front rest : List ℕ) → bytes_eq title (front ++ rest) ≡ (starts_with nat_eq title front && bytes_eq (drop (length front) title) rest)
 front_split title front rest =
     let starts = starts_is {A = ℕ} {E = nat_eq} Decides-eqb title front (starts_with nat_eq title front) refl in

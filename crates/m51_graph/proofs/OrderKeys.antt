@@ -1,4 +1,4 @@
--- Which names may stand in an order of which class.
+-- Which names are allowed in an order of which class.
 use Rattle.std.proofs.Common.{◌≡◌, ℕ, ◌+◌, ◌<◌, true, false, Bool, cond, ◌||◌, ◌&&◌, nat_eq, List, [], ◌∷◌, length, map, drop, get_or, Option, Some, None, refl, sym, ap, subst, ◌∙◌, arith}
 use Rattle.std.specs.Prelude.{is_none, option_map}
 use Rattle.std.specs.List.{list_any}
@@ -15,7 +15,7 @@ use Rattle.m51_graph.specs.Locals.{overlaid_by, own_units}
 use Rattle.m51_graph.specs.Ordering.{adds_order, class_number, order_has, order_key, orders_have, same_key}
 use Rattle.m51_graph.proofs.Drawn.{drop_rest}
 
--- classes are one exactly where their numbers are
+-- two classes are the same exactly if their numbers are
 same_number : (one two : Class) → nat_eq (class_number two) (class_number one) ≡ same_class one two
 same_number Bitaddressable Bitaddressable = refl
 same_number Bits Bits = refl
@@ -48,7 +48,7 @@ plain_adds None class title name = and_false (bytes_eq title name)
 plain_adds (Some c) class title name =
     ap (λ b. b && bytes_eq title name) (same_number class c) ∙ and_swap (same_class class c) (bytes_eq title name)
 
--- a segment adds the classes and names for which it may stand
+-- a segment adds the class and the name with which it is allowed in an order
 adds_is : (own : Option ℕ) (j : JoinedSegment) (class : Class) (name : List ℕ)
     → adds_order own j class name ≡ (bytes_eq j.title name && (option_map_or (same_class class) (class_of j.kind j.reloc) false && is_none own))
 adds_is None j class name = plain_adds (class_of j.kind j.reloc) class j.title name

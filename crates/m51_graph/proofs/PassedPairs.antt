@@ -82,6 +82,6 @@ module _ (g : GraphParts) (t : Tables) (are : AreTables g t) where
   pair_is u v true true below below' =
       are.owners.both u v below ∙ any_owner (pairs t.owners.second) u v true below (λ k inside. second_is k v inside below')
 
-  -- the set of pairs tells whether owners of the two are related
+  -- the set of pairs gives whether owners of the two are related
   pub owners_are : (one two : Owned) → one.own < count → two.own < count → owner_pair t.owners one.argument two.argument one.own two.own ≡ owners_related t one two
   owners_are one two below below' = pair_is one.own two.own one.argument two.argument below below'

@@ -38,7 +38,7 @@ module _ (g : GraphParts) where
   test_tells vector unit root = and_decides (nat_eq root.0 vector) (nat_eq root.1 unit || leads g.edges root.1 unit) (Decides-eqb root.0 vector)
       (or_decides (nat_eq root.1 unit) (leads g.edges root.1 unit) (Decides-eqb root.1 unit) (leads_tells g.edges root.1 unit))
 
-  -- the decision is true exactly where the unit lies under a root at the vector
+  -- the decision is true exactly if the unit lies under a root at the vector
   pub above_tells : (vector unit : ℕ) → Decides (lies_under (leads g.edges) g.roots vector unit) (UnitLiesUnder g vector unit)
   above_tells vector unit = (
     λ h.

@@ -24,7 +24,7 @@ seen_more edges edge seen is =
     ∙ swap_last (nat_eq u edge.0 && nat_eq v edge.1) (edge_test edges u v)
     ∙ sym (list_any-append (same_edge (u, v)) edges (edge ∷ [])))
 
--- an edge that is there changes nothing, and one that is not comes last
+-- an edge that is present already changes nothing, and a new one comes last
 pub with_old : (edges : Edges) (edge : ℕ × ℕ) → has_edge edges edge ≡ true → with_edge edges edge ≡ edges
 with_old edges edge h = ap (λ b. cond b edges (edges ++ edge ∷ [])) h
 

@@ -19,7 +19,7 @@ pub record IsClimbing (edges done : Edges) (old new : List ℕ) (rose : Bool) : 
   pub not_less : sum old ≤ sum new
   pub more : rose ≡ true → sum old < sum new
 
--- one level rises above another, unless it stands above it
+-- the upper level is raised to one above the lower, unless it is above the lower already
 abbrev pub Lifts : ℕ → ℕ → List ℕ → List ℕ → Bool → Type 0
 Lifts lower upper old new true =
     (slice_index old upper < slice_index old lower + 1) × (new ≡ slice_set old upper (slice_index old lower + 1))

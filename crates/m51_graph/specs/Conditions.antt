@@ -7,13 +7,13 @@ use Rattle.m51_module.specs.Validity.{numbered}
 use Rattle.m51_resolve.specs.Joining.{segment_at}
 use Rattle.m51_resolve.specs.Publics.{external_at}
 
--- the base of a public of the module is there
+-- the base of a public of the module, if it is a segment, exists
 abbrev pub IsBaseIn : ModuleParts → Base → Type 0
 IsBaseIn parts NoBase = Unit {0}
 IsBaseIn parts (InSegment s) = IsSome (numbered parts.segments s)
 IsBaseIn parts (OfExternal e) = Unit {0}
 
--- the base of a public, or the target of a fixup, of the module of that number is there
+-- the same of the module of that number, and that the target of a fixup of it exists
 abbrev pub IsBaseThere : List ModuleParts → ℕ → Base → Type 0
 IsBaseThere modules m NoBase = Unit {0}
 IsBaseThere modules m (InSegment s) = IsSome (segment_at modules m s)
@@ -24,7 +24,7 @@ IsTargetThere modules m NoBase = Unit {0}
 IsTargetThere modules m (InSegment s) = IsSome (segment_at modules m s)
 IsTargetThere modules m (OfExternal e) = IsSome (external_at modules m e)
 
--- both ends of an edge are among so many units
+-- both units of an edge are below `count`
 pub record IsWithin (count : ℕ) (edge : ℕ × ℕ) : Type 0 where
   pub from : edge.0 < count
   pub to : edge.1 < count

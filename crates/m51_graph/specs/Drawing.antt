@@ -33,7 +33,7 @@ has_edge edges edge = list_any (same_edge edge) edges
 abbrev pub edge_test : Edges → ℕ → ℕ → Bool
 edge_test edges from to = has_edge edges (from, to)
 
--- with one more edge, unless it is there; with more, in their order
+-- with one more edge, unless it is present already; with more, in their order
 abbrev pub with_edge : Edges → ℕ × ℕ → Edges
 with_edge edges edge = if has_edge edges edge then edges else edges ++ edge ∷ []
 
@@ -75,6 +75,6 @@ is_cut titles controls edge = list_any (λ line. cuts titles edge line.1) contro
 abbrev pub with_added : List (List ℕ) → List (ℕ × Control) → Edges → Edges
 with_added titles controls made = with_edges made (flat_map (λ line. added_by titles line.1) controls)
 
--- The edges that fixups make or lines add, without those that a line cuts: a cut wins wherever it stands.
+-- The edges that fixups make or lines add, without those that a line cuts: a cut wins, whatever the order of the lines.
 abbrev pub edges_of : List (List ℕ) → List (ℕ × Control) → Edges → Edges
 edges_of titles controls made = filter (λ edge. not (is_cut titles controls edge)) (with_added titles controls made)

@@ -4,11 +4,11 @@ use Rattle.std.specs.Option.{option_map_or}
 use Rattle.m51_module.specs.Walks.{Edges}
 use Rattle.m51_graph.specs.Drawing.{with_edge}
 
--- edges between units, of which there are so many
+-- edges between `count` units
 pub record DrawnEdges : Type 0 where
   pub count : ℕ
   pub list : Edges
 
--- with that edge, if there is one, unless it is there
+-- with that edge, if one was found, unless it is present already
 abbrev pub with_found : Edges → Option (ℕ × ℕ) → Edges
 with_found edges found = option_map_or (with_edge edges) found edges

@@ -8,7 +8,7 @@ use Rattle.m51_module.specs.Roots.{vectors, LiesUnder}
 use Rattle.m51_module.specs.Walks.{Edges, HasEdge, Reaches}
 use Rattle.m51_graph.specs.declared.parts.GraphParts.{GraphParts}
 
--- edges lead from units to units, of which there are so many
+-- both units of each edge are below `count`
 pub record LeadWithin (count : ℕ) (edges : Edges) : Type 0 where
   pub within : (u v : ℕ) → HasEdge edges u v → (u < count) × (v < count)
 
@@ -47,8 +47,8 @@ UnitLiesUnder g vector unit = LiesUnder (joined_graph g) vector unit
 abbrev pub SegmentsConflict : GraphParts → ℕ → ℕ → Type 0
 SegmentsConflict g s t = InConflict (joined_graph g) s t
 
--- The lowest bit is set exactly where the unit lies under a root at the first of these vectors, the next bit where it
--- lies under one at the next, and so on; no further bit is set.
+-- The lowest bit is set exactly if the unit lies under a root at the first of these vectors, the next bit if it lies
+-- under one at the next, and so on; no further bit is set.
 abbrev pub AreBits : GraphParts → ℕ → List ℕ → ℕ → Type 0
 AreBits g unit [] bits = bits ≡ 0
 AreBits g unit (vector ∷ more) bits = (bits % 2 ≡ 1 ↔ UnitLiesUnder g vector unit) × AreBits g unit more (bits / 2)

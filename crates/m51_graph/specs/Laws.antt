@@ -16,11 +16,11 @@ use Rattle.m51_graph.specs.Leading.{leads}
 use Rattle.m51_graph.specs.Levels.{IsLevel, level_of}
 use Rattle.m51_graph.specs.Units.{named, unit_titles}
 
--- over any edges one unit leads to another exactly where it reaches it
+-- over any edges one unit leads to another exactly if it reaches it
 abbrev pub LeadingIsReaching : Type 0
 LeadingIsReaching = (edges : Edges) (from to : ℕ) → (leads edges from to ≡ true) ↔ Reaches edges from to
 
--- in any parts a unit is decided to lie under a vector exactly where it lies under a root there
+-- in any parts a unit is decided to lie under a vector exactly if it lies under a root there
 abbrev pub AboveIsUnder : Type 0
 AboveIsUnder = (g : GraphParts) (vector unit : ℕ)
     → (lies_under (leads g.edges) g.roots vector unit ≡ true) ↔ UnitLiesUnder g vector unit

@@ -2,8 +2,8 @@
 use Rattle.std.specs.Prelude.{ℕ, Bool, false, ◌||◌, ◌&&◌, nat_eq, List, [], ◌∷◌}
 use Rattle.m51_module.specs.Walks.{Edges}
 
--- A walk leads from the one to the other: one that takes none of the edges, or one that takes the first of them, which
--- it comes to and goes on from without it, or does not have to.
+-- A walk leads from the one unit to the other: either without the first edge, or by a part to that edge, the edge, and
+-- a part from it, where each part is empty or a walk without the first edge.
 unfoldable pub leads : Edges → ℕ → ℕ → Bool
 leads [] from to = false
 leads (edge ∷ more) from to =

@@ -3,7 +3,7 @@ use Rattle.std.specs.Prelude.{◌≡◌, ℕ, zero, suc, ◌<◌, ◌≤◌, Boo
 use Rattle.std.specs.List.{list_any, range_with_len}
 use Rattle.m51_module.specs.Walks.{Edges, IsWalk, last_of}
 
--- a walk of so many edges ends in the unit
+-- a walk of `count` edges ends in the unit
 pub record EndsWalk (edges : Edges) (unit count : ℕ) : Type 0 where
   pub first : ℕ
   pub more : List ℕ
@@ -16,7 +16,8 @@ pub record IsLevel (edges : Edges) (unit level : ℕ) : Type 0 where
   pub longest : EndsWalk edges unit level
   pub most : (count : ℕ) → EndsWalk edges unit count → count ≤ level
 
--- whether a walk of so many edges ends in the unit, decided along the list of edges by the last edge of the walk
+-- whether a walk of the given number of edges ends in the unit, decided along the list of edges by the last edge of the
+-- walk
 unfoldable pub ends_walk : Edges → ℕ → ℕ → Bool
 ends_walk edges zero unit = true
 ends_walk edges (suc count) unit = list_any (λ (edge : ℕ × ℕ). nat_eq edge.1 unit && ends_walk edges count edge.0) edges

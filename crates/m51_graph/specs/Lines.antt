@@ -22,17 +22,17 @@ abbrev pub may_stand : List (List ℕ) → List (ℕ × Control) → Class → L
 may_stand titles controls class name j =
     bytes_eq j.title name && (is_of_class class j && is_none (overlaid_by titles controls j))
 
--- the edge is there, and fixups make it
+-- the edge exists, and fixups make it
 abbrev pub is_made : Edges → Option (ℕ × ℕ) → Bool
 is_made made None = false
 is_made made (Some edge) = has_edge made edge
 
--- a segment that has the name may stand in an order of the class
+-- a segment that has the name is allowed in an order of the class
 abbrev pub stands : List (List ℕ) → List JoinedSegment → List (ℕ × Control) → Class → List ℕ → Bool
 stands titles segments controls class name = list_any (may_stand titles controls class name) segments
 
--- A line names units that are there; it adds edges between different units, and cuts edges that fixups make; it orders
--- segments that may stand in an order of its class.
+-- A line names units that exist; it adds edges between different units, and cuts edges that fixups make; it orders
+-- segments that are allowed in an order of its class.
 abbrev pub fits_by : (Class → List ℕ → Bool) → List (List ℕ) → Edges → Control → Bool
 fits_by may titles made (Add from names) =
     is_some (named titles from) && list_all (λ name. is_some (edge_named titles from name)) names

@@ -29,7 +29,7 @@ unit_front = 0x3F ∷ 0x50 ∷ 0x52 ∷ 0x3F ∷ []
 abbrev pub front_of : JoinedSegment → Option (List ℕ)
 front_of j = if j.argument then Some argument_front else local_front j.kind
 
--- the name with ?PR? in place of this front, if it begins with that
+-- the name with ?PR? in place of this prefix of four bytes, if it begins with that
 abbrev pub unit_name : List ℕ → List ℕ → Option (List ℕ)
 unit_name title front = if starts_with nat_eq title front then Some (unit_front ++ drop 4 title) else None
 

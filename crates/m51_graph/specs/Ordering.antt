@@ -1,4 +1,4 @@
--- Of the code: which names may stand in an order of which class, as a set of numbers of classes with names.
+-- Of the code: which names are allowed in an order of which class, as a set of numbers of classes with names.
 use Rattle.std.specs.Prelude.{◌≡◌, ℕ, Bool, false, ◌||◌, ◌&&◌, nat_eq, if◌then◌else◌, is_none, List, [], ◌∷◌, Option}
 use Rattle.std.specs.Prelude.{None, option_map}
 use Rattle.std.specs.List.{list_any}

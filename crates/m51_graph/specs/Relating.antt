@@ -11,7 +11,7 @@ use Rattle.m51_graph.specs.declared.tables.Tables.{Tables}
 use Rattle.m51_graph.specs.Graph.{IsOwn}
 use Rattle.m51_graph.specs.Graphs.{lies_under}
 
--- a number whose lowest bit tells whether the first of these passes the test, and the next bit the next, and so on
+-- a number whose lowest bit is set if the first of these passes the test, the next bit if the next does, and so on
 abbrev pub bits_of : (ℕ → Bool) → List ℕ → ℕ
 bits_of test [] = 0
 bits_of test (x ∷ more) = (if test x then 1 else 0) + 2 * bits_of test more

@@ -32,7 +32,7 @@ impl Model for EdgeList {
 }
 
 impl EdgeList {
-    // No edge between units, of which there are so many.
+    // No edge between `count` units.
     pub(crate) fn none(alloc: Global, count: usize) -> Result<EdgeList, NoMemory>
         requires { count ≤ MOST_UNITS }
         ensures { IfOk result (λ edges. edges ≡ record { count = count; list = [] }) }
@@ -43,7 +43,7 @@ impl EdgeList {
         })
     }
 
-    // The edges, lent.
+    // The edges, borrowed.
     pub(crate) fn list(&self) -> &[(u16, u16)]
         ensures { result.now ≡ self.now.list }
     {
@@ -57,7 +57,7 @@ impl EdgeList {
         self.seen.has(edge.0, edge.1)
     }
 
-    // Draws one more edge, unless it is there.
+    // Adds the edge unless it is already present.
     fn draw(&mut self, edge: (u16, u16)) -> Result<(), NoMemory>
         requires { IsWithin self.old.count edge }
         ensures count { self.new.count ≡ self.old.count }
@@ -70,7 +70,7 @@ impl EdgeList {
         Ok(())
     }
 
-    // Draws that edge, if there is one, unless it is there.
+    // Adds the edge that was found, if one was, unless it is already present.
     pub(crate) fn draw_found(&mut self, found: Option<(u16, u16)>) -> Result<(), NoMemory>
         requires { IfSome found (λ edge. IsWithin self.old.count edge) }
         ensures count { self.new.count ≡ self.old.count }

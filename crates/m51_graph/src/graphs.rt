@@ -50,7 +50,7 @@ impl Graph {
         Ok(Graph { parts, tables })
     }
 
-    /// The parts, lent.
+    /// The parts, borrowed.
     ///
     /// Source: RL51 guide.
     pub fn parts(&self) -> &GraphParts
@@ -71,7 +71,7 @@ impl Graph {
         self.tables.edges.has(from, to)
     }
 
-    /// The row of a unit of the graph: bits, 64 to a word, of which bit v modulo 64 of word v / 64 is set exactly where
+    /// The row of a unit of the graph: bits, 64 to a word, of which bit v modulo 64 of word v / 64 is set exactly if
     /// the unit reaches unit v by a walk of at least one edge. There are as many words as hold a bit for each unit, and
     /// no bit is set past the last unit.
     ///
@@ -118,7 +118,7 @@ impl Graph {
         self.tables.level(unit)
     }
 
-    /// Whether the joined segment of that number, which is there, is overlaid.
+    /// Whether the joined segment of that number, which must exist, is overlaid.
     ///
     /// Source: RL51 guide.
     pub fn overlaid(&self, segment: u16) -> bool
@@ -128,8 +128,8 @@ impl Graph {
         self.owner(segment).is_some()
     }
 
-    /// The own unit of a joined segment, which is there: the one whose local or argument segment it is; none where the
-    /// segment is not overlaid. An argument segment is owned by the units with an edge to that unit too.
+    /// The own unit of a joined segment, which must exist: the one whose local or argument segment it is; none where
+    /// the segment is not overlaid. An argument segment is owned by the units with an edge to that unit too.
     ///
     /// Source: own choice ("Owners").
     pub fn owner(&self, segment: u16) -> Option<u16>
@@ -158,7 +158,7 @@ impl Graph {
         self.tables.owners.are_related(one, two)
     }
 
-    /// Whether the two joined segments, which are there and different, must not share a cell: one of them is not
+    /// Whether two different joined segments, both of which exist, must not share a cell: one of them is not
     /// overlaid, or an owner of the one and an owner of the other are one unit, or one of these reaches the other, or
     /// one lies under no root, or they lie under different roots.
     ///

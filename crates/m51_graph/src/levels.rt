@@ -54,7 +54,7 @@ fn climb(edges: &[(u16, u16)], levels: &mut [u16])
     'climb: while raise(edges, levels) {}
 }
 
-// The level of each unit, of which there are so many: the number of edges of the longest walk that ends in it.
+// The level of each of `count` units: the number of edges of the longest walk that ends in it.
 pub(crate) fn levels(
     alloc: Global,
     edges: &[(u16, u16)],

@@ -31,7 +31,7 @@ fn are_others(titles: &UnitNames, from: &Name, names: &[Name]) -> bool
         .all(|name| edge_named(titles, from, name).is_some())
 }
 
-// Whether the edge is there, and fixups make it.
+// Whether the edge exists, and fixups make it.
 fn is_made(made: &EdgeList, edge: Option<(u16, u16)>) -> bool
     ensures { result ≡ is_made made.now.list edge }
 {
@@ -50,7 +50,7 @@ fn are_made(titles: &UnitNames, made: &EdgeList, from: &Name, names: &[Name]) ->
         .all(|name| is_made(made, edge_named(titles, from, name)))
 }
 
-// Whether the line fits: it names units that are there, adds edges between different ones, cuts edges that fixups make,
+// Whether the line fits: it names units that exist, adds edges between different ones, cuts edges that fixups make,
 // and orders segments of its class.
 fn fits(titles: &UnitNames, orders: &OrderNames, made: &EdgeList, control: &Control) -> bool
     ensures { result ≡ fits_by (order_has orders.now.keys) titles.now made.now.list control.now }

@@ -83,7 +83,7 @@ fn unit_of(titles: &[Name], rest: &[u8]) -> Option<u16>
     as_unit(place_of(titles, rest))
 }
 
-// The unit of which the name has that front.
+// The unit whose name is this one with `?PR?` in place of the prefix `front`.
 fn named_with(titles: &[Name], name: &[u8], front: [u8; 4]) -> Option<u16>
     requires { length titles.now ≤ MOST_UNITS }
     ensures { result ≡ option_and_then (named titles.now) (unit_name name.now front) }

@@ -67,7 +67,7 @@ fn root_byte(reach: &BitRows, roots: &[(u16, u16)], unit: u16) -> u8
     bits
 }
 
-// That byte of each unit, of which there are so many.
+// That byte of each of `count` units.
 fn each_byte(
     alloc: Global,
     reach: &BitRows,
@@ -82,7 +82,7 @@ fn each_byte(
         .collect(alloc)
 }
 
-// For each unit, of which there are so many, a byte whose bits say under which roots it lies, in order of their
+// For each of `count` units, a byte whose bits say under which roots it lies, in order of their
 // vectors, the lowest bit first.
 pub(crate) fn root_bytes(
     alloc: Global,

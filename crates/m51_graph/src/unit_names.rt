@@ -63,7 +63,7 @@ impl UnitNames {
         Ok(UnitNames { titles, numbers })
     }
 
-    // The titles, lent.
+    // The titles, borrowed.
     pub(crate) fn titles(&self) -> &[Name]
         ensures titles { result.now ≡ self.now }
         ensures few { length self.now ≤ MOST_UNITS }

@@ -8,7 +8,7 @@ use Rattle.m51_module.specs.declared.linked.Run.{Run}
 use Rattle.m51_hex.specs.Record.{line_of}
 use Rattle.m51_hex.specs.Writing.{record_at}
 
--- the lines of the first so many records of a run
+-- the lines of the first `count` records of a run
 abbrev pub first_lines : List ℕ → Run → ℕ → List ℕ
 first_lines image run count = flat_map line_of (map (record_at image run) (range_with_len 0 count))
 

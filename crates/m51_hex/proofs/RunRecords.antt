@@ -61,7 +61,7 @@ module _ (image : List ℕ) (run : Run) (whole : length image ≡ 65536) (within
             stored_after m (record_at image run number) address (omega (arith, len_at number))
       ]
 
-  -- a memory after the first so many records of the run, and where those end
+  -- a memory after the first `count` records of the run, and where those end
   abbrev after : Memory → ℕ → Memory
   after m count = fold stored m (map (record_at image run) (range_with_len 0 count))
 

@@ -19,7 +19,7 @@ memory_in-blank image blank = same_memory (memory_in image) erased (λ address.
       | inr past ↦ get_or_past image address 255 (omega (arith, blank.len))
     ])
 
--- the data stand from the address of the record on
+-- the data are stored from the address of the record on
 pub stored_inside : (m : Memory) (r : Record) (address : ℕ) → r.address ≤ address → address < r.address + length r.bytes → stored m r address ≡ slice_index r.bytes (address - r.address)
 unfolding stored
 stored_inside m r address from below = rw (le-leb r.address address from, lt-ltb address (r.address + length r.bytes) below) refl
@@ -43,7 +43,7 @@ stored_none m kind at = same_memory m (stored m (record { kind = kind; address =
       | inr from ↦ sym (stored_after m (record { kind = kind; address = at; bytes = [] }) address (omega arith))
     ])
 
--- the first so many bytes of some data
+-- the first `count` bytes of some data
 abbrev part : RecordType → ℕ → List ℕ → ℕ → Record
 part kind at bytes count = record { kind = kind; address = at; bytes = take count bytes }
 

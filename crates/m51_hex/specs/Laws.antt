@@ -31,7 +31,7 @@ WrittenIsRead =
     (image : List ℕ) (runs : List Run) → IsErasedOutside image runs
     → memory_from (hex_of image runs) ≡ Ok (memory_in image)
 
--- a line is accepted exactly where it is the text of a record in either case of letters, and then that is the record
+-- a line is accepted as a record exactly if it is the text of that record, in either case of letters
 abbrev pub LinesAreRecords : Type 0
 LinesAreRecords = (number : ℕ) (line : List ℕ) (r : Record)
     → (record_of number line ≡ Ok r) ↔ (IsRecord r × (map to_ascii_uppercase line ≡ text_of r))

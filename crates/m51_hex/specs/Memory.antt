@@ -15,7 +15,7 @@ memory_in image = λ address. slice_index_or image address 0xFF
 abbrev pub erased : Memory
 erased = λ address. 0xFF
 
--- the memory after the data of a record are put at its address, over what stood there
+-- the memory after the data of a record are put at its address, over what was there
 unfoldable pub stored : Memory → Record → Memory
 stored memory r = λ address.
     if nat_le r.address address && nat_lt address (r.address + length r.bytes)

@@ -1,7 +1,7 @@
 //! Two laws of the format, which hold of its definitions.
 ghost use Rattle.m51_hex.specs.Laws.{LinesAreRecords, WrittenIsRead};
 
-/// A line is accepted as a record exactly where it is the text of that record, whatever the case of its letters: what
+/// A line is accepted as a record exactly if it is the text of that record, whatever the case of its letters: what
 /// is read is what is written.
 ///
 /// Source: Intel HEX.

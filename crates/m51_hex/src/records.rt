@@ -15,7 +15,7 @@ pub(crate) enum RecordType {
     EndOfFile,
 }
 
-// A record: bytes of the image in a row, or the end of the file.
+// A record: consecutive bytes of the image, or the end of the file.
 #[derive(Clone, Copy)]
 pub(crate) struct Record<'a> {
     // Its type.

@@ -6,7 +6,7 @@ ghost use Rattle.m51_hex.specs.Record.{seen};
 use crate::records::Record;
 use m51_module::Image;
 
-// Puts the data of a record at its address, over the bytes that stood there.
+// Puts the data of a record at its address, over the bytes that were there.
 pub(crate) fn store(image: &mut Image, record: &Record<'_>)
     requires whole { length image.old ≡ 0x10000 }
     requires within { «record».now.address + length «record».now.bytes.now ≤ 0x10000 }

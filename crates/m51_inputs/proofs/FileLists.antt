@@ -1,4 +1,4 @@
--- Files of a kind, word by word.
+-- Files of a kind, argument by argument.
 use Rattle.std.proofs.Common.{◌≡◌, ◌∙◌, ℕ, suc, ◌+◌, ◌<◌, Bool, true, false, cond, List, [], ◌∷◌, ◌++◌, length, drop, get_or, length-append, append_assoc, add-one, drop-cons, count_by, filter, refl, ap, sym, arith}
 use Rattle.std.proofs.lemmas.List.Sums.{length-filter}
 use Rattle.m51_module.specs.declared.source.SourceFile.{SourceFile}
@@ -18,7 +18,7 @@ length-files_that is (name ∷ names) (bytes ∷ contents) h =
     let file : SourceFile = record { name = name; bytes = bytes } in
     one_of_both (is name) file name (files_that is names contents) (filter is names) (length-files_that is names contents (omega (arith, h)))
 
--- as many files of a kind as words of the kind
+-- as many files of a kind as arguments of the kind
 pub count-files_that : (is : List ℕ → Bool) (names contents : List (List ℕ)) → length contents ≡ length names → length (files_that is names contents) ≡ count_by is names
 count-files_that is names contents h = length-files_that is names contents h ∙ length-filter is names
 

@@ -1,4 +1,4 @@
--- Modules and libraries, word by word.
+-- Modules and libraries, argument by argument.
 use Rattle.std.proofs.Common.{◌≡◌, ◌∙◌, ℕ, suc, ◌+◌, ◌<◌, List, [], ◌∷◌, ◌++◌, length, map, drop, get_or, Some, None, Option, Result, Ok, Err, refl, ap, sym, append_assoc, add-one, drop-cons, arith}
 use Rattle.std.specs.Prelude.{IsErrAnd}
 use Rattle.m51_cells.specs.Outcome.{and_then, RefusesWith}
@@ -68,7 +68,7 @@ pub rest_refused : (refusal : Option InputError) (modules : List ModuleParts) (l
 rest_refused None modules libraries rest whole is h = tt
 rest_refused (Some why) modules libraries rest whole is h = sym is ∙ ap (linked_before modules libraries) h
 
--- the word at an index, and those after it
+-- the argument at an index, and those after it
 pub word_at : (kinds : List (Option Ending)) (contents : List (List ℕ)) (i : ℕ) (kind : Option Ending) (bytes : List ℕ) (sources : List ModuleParts)
     → i < length kinds → i < length contents → kind ≡ get_or kinds i None → bytes ≡ get_or contents i bytes
     → linked_kinds i (drop i kinds) (drop i contents) sources ≡ linked_by kind i bytes sources (linked_kinds (i + 1) (drop (i + 1) kinds) (drop (i + 1) contents))
@@ -90,7 +90,7 @@ same_by (Some ending.Object) word bytes sources one two h = ap (with_object word
 same_by (Some ending.Library) word bytes sources one two h = ap (with_archive word bytes) (h sources)
 same_by None word bytes sources one two h = h sources
 
--- words by what they are, and by their names
+-- arguments by what they are, and by their names
 pub kinds_linked : (names contents : List (List ℕ)) (word : ℕ) (sources : List ModuleParts)
     → linked_kinds word (map ending_of names) contents sources ≡ linked_from word names contents sources
 kinds_linked [] contents word sources = refl

@@ -11,7 +11,7 @@ use Rattle.m51_inputs.specs.Files.{files_that, includes_of, source_words, source
 use Rattle.m51_inputs.specs.Sorting.{IsSorted, files_in, with_file, words_in}
 use Rattle.m51_inputs.proofs.FileLists.{file_kept, file_passed}
 
--- The first so many files were sorted.
+-- The first `index` files were sorted.
 pub record IsSortedTo (index : ℕ) (names contents : List (List ℕ)) (sorted : Sorted) : Type 0 where
   pub endings : sorted.endings ++ map ending_of (drop index names) ≡ map ending_of names
   pub sources : files_in sorted.sources ++ sources_of (drop index names) (drop index contents) ≡ sources_of names contents
@@ -35,7 +35,7 @@ ending_more names i name found some at before =
     append_assoc found (ending_of name ∷ []) (map ending_of (drop (i + 1) names))
     ∙ ap (λ (ns : List (List ℕ)). found ++ map ending_of ns) (sym (cut names i name some at)) ∙ before
 
--- one more word of a source, and one of another file
+-- one more argument of a source, and one of another file
 word_more : (names : List (List ℕ)) (i : ℕ) (name : List ℕ) (found : List ℕ) (b : Bool) → i < length names → name ≡ get_or names i name → is_source name ≡ b
     → found ++ source_words i (drop i names) ≡ source_words 0 names
     → (cond b (found ++ i ∷ []) found) ++ source_words (i + 1) (drop (i + 1) names) ≡ source_words 0 names

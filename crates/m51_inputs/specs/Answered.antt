@@ -3,7 +3,7 @@ use Rattle.std.specs.Prelude.{ℕ, List, map}
 use Rattle.m51_asm.specs.Answer.{AnswerTree, tree_of}
 use Rattle.m51_inputs.specs.declared.sources.Answered.{Answered}
 
--- the answers, and the indices of the words of their sources
+-- the answers, and the indices of the arguments of their sources
 abbrev pub answers_of : List Answered → List AnswerTree
 answers_of all = map (λ (one : Answered). tree_of one.assembled) all
 

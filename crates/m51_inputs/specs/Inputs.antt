@@ -72,13 +72,13 @@ abbrev pub refusal_of : InputError → Option InputError
 refusal_of error.Memory = None
 refusal_of refusal = Some refusal
 
--- what a call tells: nothing where it runs out of memory
+-- what is specified of the result of a call: nothing if it runs out of memory
 abbrev pub told : Result Inputs InputError → Option (Result InputsTree InputError)
 told (Ok inputs) = Some (Ok (inputs_tree inputs))
 told (Err error.Memory) = None
 told (Err refusal) = Some (Err refusal)
 
--- what a call tells is the answer
+-- unless a call runs out of memory, its result is the answer for these files
 abbrev pub IsTold : List (List ℕ) → List (List ℕ) → Option (List ℕ) → Option (List ℕ) → Result Inputs InputError
     → Type 0
 IsTold files contents control script result =

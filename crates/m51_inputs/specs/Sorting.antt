@@ -8,14 +8,14 @@ use Rattle.m51_inputs.specs.declared.sorting.Sorted.{Sorted}
 use Rattle.m51_inputs.specs.declared.sorting.Source.{Source}
 use Rattle.m51_inputs.specs.Files.{includes_of, source_words, sources_of}
 
--- the files of sources, and the indices of their words
+-- the files of sources, and the indices of their arguments
 abbrev pub files_in : List Source → List SourceFile
 files_in sources = map (λ (source : Source). source.file) sources
 
 abbrev pub words_in : List Source → List ℕ
 words_in sources = map (λ (source : Source). source.word) sources
 
--- the file of a word, which is this, put to those before it
+-- the file of an argument, which is this, added to those before it
 abbrev pub with_file : Option Ending → ℕ → SourceFile → Sorted → Sorted
 with_file (Some ending.Source) word file sorted = record {
   endings = sorted.endings ++ Some ending.Source ∷ [];

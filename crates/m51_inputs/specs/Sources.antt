@@ -26,7 +26,7 @@ modules_in [] = []
 modules_in (Gives parts rows ∷ answers) = parts ∷ modules_in answers
 modules_in (Faults faults ∷ answers) = modules_in answers
 
--- the faults of answers that are faults, each with the index of the word of its source
+-- the faults of answers that are faults, each with the index of the argument of its source
 abbrev pub faults_in : List ℕ → List AnswerTree → List SourceFaults
 faults_in (word ∷ words) (Gives parts rows ∷ answers) = faults_in words answers
 faults_in (word ∷ words) (Faults faults ∷ answers) = record { file = word; faults = faults } ∷ faults_in words answers

@@ -1,4 +1,5 @@
--- The words of a program by what they are, and a step of the loop over them, which contracts of its functions cite.
+-- The file arguments of a program by what they are, and a step of the loop over them, which contracts of its functions
+-- cite.
 use Rattle.std.specs.Prelude.{◌≡◌, ℕ, ◌+◌, List, [], ◌∷◌, ◌++◌, Option, Result, Ok, Err}
 use Rattle.m51_cells.specs.Outcome.{◌>>=◌, RefusesWith}
 use Rattle.m51_asm.specs.Answer.{AnswerTree}
@@ -27,14 +28,14 @@ abbrev pub Steps : {A : Type 0} → LinkedFiles → LinkedFiles → Result A Inp
 Steps old new (Ok done) rest whole = files_before new rest ≡ files_before old whole
 Steps old new (Err error) rest whole = RefusesWith (refusal_of error) whole
 
--- what words of these endings give, as linked_from says it by their names
+-- what arguments of these endings give, as linked_from says it by their names
 abbrev pub linked_kinds : ℕ → List (Option Ending) → List (List ℕ) → List ModuleParts → Result Linked InputError
 linked_kinds word (kind ∷ kinds) (bytes ∷ contents) sources =
     linked_by kind word bytes sources (linked_kinds (word + 1) kinds contents)
 linked_kinds word kinds contents sources = Ok (record { modules = []; libraries = [] })
 
--- what files of these endings, a control file and a script give, where the sources of these words have these answers,
--- as inputs_of says it by names
+-- what files of these endings, a control file and a script give, where the sources of these arguments have these
+-- answers, as inputs_of says it by names
 unfoldable pub inputs_by : List (Option Ending) → List (List ℕ) → Option (List ℕ) → Option (List ℕ) → List ℕ
     → List AnswerTree → Result InputsTree InputError
 inputs_by kinds contents control script words answers = do

@@ -18,7 +18,7 @@ use m51_module::{LibError, Library, Module, ObjError};
 use std::alloc::Global;
 use std::collections::VecDeque;
 
-// The module of the object of this word.
+// The module of the object of this argument.
 fn object_at(alloc: Global, file: usize, bytes: &Bytes) -> Result<Module, InputError>
     requires { length bytes.now ≤ MOST_FILE_BYTES }
     ensures { Gives (λ m. m) refusal_of result (or_object file (module_in bytes.now)) }
@@ -30,7 +30,7 @@ fn object_at(alloc: Global, file: usize, bytes: &Bytes) -> Result<Module, InputE
     }
 }
 
-// The library of this word.
+// The library of this argument.
 fn library_at(alloc: Global, file: usize, bytes: &Bytes) -> Result<Library, InputError>
     requires { length bytes.now ≤ MOST_FILE_BYTES }
     ensures { Gives (λ l. l) refusal_of result (or_library file (library_of bytes.now)) }
@@ -42,7 +42,7 @@ fn library_at(alloc: Global, file: usize, bytes: &Bytes) -> Result<Library, Inpu
     }
 }
 
-// The given modules and the libraries, in word order.
+// The given modules and the libraries, in the order of the arguments.
 #[derive(Drop)]
 pub(crate) struct LinkedFiles {
     pub(crate) modules: ListOf<Module>,
@@ -61,7 +61,7 @@ fn add_source(sources: &mut VecDeque<Module>, linked: &mut LinkedFiles) -> Resul
     Ok(())
 }
 
-// Adds the module of the object of this word.
+// Adds the module of the object of this argument.
 fn add_object(
     alloc: Global,
     word: usize,
@@ -77,7 +77,7 @@ fn add_object(
     Ok(())
 }
 
-// Adds the library of this word.
+// Adds the library of this argument.
 fn add_library(
     alloc: Global,
     word: usize,
@@ -93,7 +93,7 @@ fn add_library(
     Ok(())
 }
 
-// Adds what the file of this word gives.
+// Adds what the file of this argument gives.
 fn add_word(
     alloc: Global,
     word: usize,

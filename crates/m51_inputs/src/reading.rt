@@ -78,7 +78,7 @@ fn inputs_with(
 /// contents. A file argument without one of the four endings gives nothing.
 ///
 /// Every source is assembled with all includes, each under its argument. Sources and objects are the given modules, in
-/// word order.
+/// the order of the arguments.
 ///
 /// Errors, the first of these:
 ///

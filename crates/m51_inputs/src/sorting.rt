@@ -8,14 +8,14 @@ use m51_jobs::{Ending, FileName, ending_of};
 use m51_module::SourceFile;
 use std::alloc::Global;
 
-// A source, and the index of its word, counted from 0.
+// A source, and the index of its argument, counted from 0.
 #[derive(Drop)]
 pub(crate) struct Source {
     pub(crate) word: usize,
     pub(crate) file: SourceFile,
 }
 
-// The files of a program by kind, each kind in word order.
+// The files of a program by kind, each kind in the order of the arguments.
 #[derive(Drop)]
 pub(crate) struct Sorted {
     // What each of the files is.
@@ -34,7 +34,7 @@ fn file_of(alloc: Global, name: &FileName, bytes: &Bytes) -> Result<SourceFile, 
     })
 }
 
-// Puts the file of this word to those that were sorted before.
+// Adds the file of this argument to those that were sorted before.
 fn put_file(
     alloc: Global,
     word: usize,

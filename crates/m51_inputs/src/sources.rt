@@ -18,7 +18,7 @@ use m51_module::{Faults, Module, SourceFile};
 use std::alloc::Global;
 use std::collections::VecDeque;
 
-// What a source gives, and the index of its word.
+// What a source gives, and the index of its argument.
 #[derive(Drop)]
 pub(crate) struct Answered {
     pub(crate) word: usize,

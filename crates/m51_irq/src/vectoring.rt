@@ -83,7 +83,7 @@ fn vector_effect(effect: &mut Effect, cpu: &Cpu, source: Source)
     effect.transfer = Transfer::Vector(source);
 }
 
-/// What taking an interrupt does over a store. It changes the effect alone: the caller puts `first` and then `second`.
+/// What taking an interrupt does over a store. It changes only the effect: the caller puts `first` and then `second`.
 /// After an error the effect has no meaning.
 ///
 /// - `Outside`: the lowest cell of the first put, then of the second, that may not be written.

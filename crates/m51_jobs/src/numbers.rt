@@ -43,7 +43,7 @@ impl Model for Steps {
 }
 
 impl Steps {
-    /// So many steps, 1 to 10,000,000.
+    /// `number` steps, 1 to 10,000,000.
     ///
     /// Source: own choice ("Words").
     pub fn of(number: u32) -> Steps

@@ -31,7 +31,7 @@ two_fronts : (a b : List Token) (r : Cut) → put_front a (put_front b r) ≡ pu
 two_fronts a b (Ok ts) = ap Ok (sym (append_assoc a b ts))
 two_fronts a b (Err k) = refl
 
--- what is left of a line, cut at its front
+-- the rest of a line, cut at its beginning
 at_place : (at : ℕ) (line rest : List ℕ) → at < length line → rest ≡ drop at line → tokens_at 0 at (drop at line) ≡ after_lexeme at (lexeme_of rest) (λ n. tokens_at 0 (at + (1 + n)) (drop (at + (1 + n)) line))
 at_place at line rest inside is =
     from_front at (drop at line) (omega (arith, length-drop at line, inside))

@@ -1,4 +1,4 @@
--- What stands at the front of the rest of a line (the assembler's rules of tokens).
+-- The lexeme at the beginning of the rest of a line (the assembler's rules of tokens).
 use Rattle.std.specs.Prelude.{ℕ, ◌+◌, ◌≤◌, ◌<◌, ◌||◌, ◌==◌, nat_lt, if◌then◌else◌, List, [], ◌∷◌, take, drop, Option}
 use Rattle.std.specs.Prelude.{Some, None, option_map, slice_index}
 use Rattle.std.specs.Char.{is_ascii_digit, is_ascii_alphanumeric}
@@ -10,7 +10,7 @@ use Rattle.m51_lex.specs.declared.fault.TheConstants.{BAD_CHARACTER, UNCLOSED_TE
 use Rattle.m51_lex.specs.Characters.{space, tab, quote, semicolon, is_name_byte, is_sign}
 use Rattle.m51_lex.specs.Number.{number_of}
 
--- How many bytes of a text follow its first quote, up to the quote that closes it. Two quotes stand for one inside.
+-- How many bytes of a text follow its first quote, up to the quote that closes it. Two quotes inside mean one.
 abbrev pub text_len : List ℕ → Option ℕ
 text_len [] = None
 text_len (c ∷ []) = if c == quote then Some 1 else None
@@ -38,7 +38,7 @@ text_or_fault (Some n) = Token Text (1 + n)
 abbrev pub text_lexeme : List ℕ → Lexeme
 text_lexeme rest = text_or_fault (text_len (drop 1 rest))
 
--- what stands at the front, by its first byte
+-- the lexeme at the beginning, by its first byte
 unfoldable pub lexeme_of : List ℕ → Lexeme
 lexeme_of rest =
     let first = slice_index rest 0 in

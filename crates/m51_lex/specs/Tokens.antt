@@ -16,7 +16,7 @@ abbrev pub put_front : List Token → Cut → Cut
 put_front front (Ok ts) = Ok (front ++ ts)
 put_front front (Err k) = Err k
 
--- what a lexeme at this place gives; `rest` goes on after so many more bytes
+-- what a lexeme at this place gives; `rest n` is what follows n bytes further on
 abbrev pub after_lexeme : ℕ → Lexeme → (ℕ → Cut) → Cut
 after_lexeme at lexeme.Blank rest = rest 0
 after_lexeme at lexeme.Comment rest = Ok []
@@ -40,6 +40,6 @@ abbrev pub AreSlices : ℕ → ℕ → List Token → Type 0
 AreSlices from to [] = from ≤ to
 AreSlices from to (t ∷ ts) = (from ≤ t.from) × (t.from < t.to) × AreSlices t.to to ts
 
--- a token of a line of so many bytes
+-- a token of a line of `len` bytes
 abbrev pub IsWithin : ℕ → Token → Type 0
 IsWithin len t = (t.from < t.to) × (t.to ≤ len)

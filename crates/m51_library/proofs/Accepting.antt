@@ -30,7 +30,7 @@ any_none p (x ∷ xs) h =
     let head : p x ≡ false = h 0 x (omega arith) in
     rw head (any_none p xs (λ k d lt. h (suc k) d (omega (arith, lt))))
 
--- what is said of a module that stands after those before it
+-- facts about a module of a library and the modules before it
 module _ (before after : List ModuleParts) (m : ModuleParts) (h : IsLibrary (before ++ m ∷ after)) where
   inside : length before < length (before ++ m ∷ after)
   inside = omega (arith, length-append before (m ∷ after))

@@ -20,8 +20,8 @@ count_in end contents = do
   few ← checked (nat_le count.0 MOST_MODULES) end contents count.0
   ended end count.1 few
 
--- So many modules, one after another, and the bytes after them. They end with the file, at its total length, and the
--- next record has that number.
+-- The given number of modules, one after another, and the bytes after them. They end with the file, at its total
+-- length, and the next record has that number.
 unfoldable pub modules_at : ℕ → ℕ → ℕ → List ℕ → Result (List ModuleParts × List ℕ) ObjError
 modules_at zero total number bytes = Ok ([], bytes)
 modules_at (suc more) total number bytes = do

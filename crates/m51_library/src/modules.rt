@@ -12,8 +12,8 @@ use m51_module::{Module, ObjError};
 use m51_records::{LIBRARY_HEADER, broken, checksum_place, module_at, pair_at, place, record_at};
 use std::alloc::Global;
 
-// The number of modules, from the contents of the first record: they end at that place. O4 where it is over 255, or
-// where the contents end before it or go on after it.
+// The number of modules, from the contents of the first record: they end at that offset. O4 where it is over 255, or
+// where the contents end before it or continue after it.
 #[tactic(auto, unfolding(crate::specs::Reading::count_in))]
 fn read_count(end: u32, contents: &[u8]) -> Result<u16, ObjError>
     ensures { Reads (λ count. count) result (count_in end contents.now) }
@@ -39,7 +39,7 @@ fn count_at(total: u32, bytes: &[u8]) -> Result<(u16, &[u8]), ObjError>
     Ok((count, rest))
 }
 
-// So many modules, one after another, and the bytes after them. They end with the file, at its total length, and the
+// `count` modules, one after another, and the bytes after them. They end with the file, at its total length, and the
 // next record has that number.
 fn modules_at(
     alloc: Global,

@@ -20,7 +20,7 @@ fn put_modules(alloc: Global, out: &mut Vec<u8>, modules: &[Module]) -> Result<(
     Ok(())
 }
 
-/// The bytes of the library: each has one spelling. Out of memory is the one error.
+/// The bytes of the library: each has one spelling. Error: out of memory.
 ///
 /// Source: own choice ("Library files").
 pub fn write_library(alloc: Global, library: &Library) -> Result<Vec<u8>, NoMemory>

@@ -18,7 +18,7 @@ pub data AddsByte (address : ℕ) (old new : List Run) : Type 0 where
       → new ≡ old ++ run_at address ∷ [] → AddsByte address old new
   First : old ≡ [] → new ≡ run_at address ∷ [] → AddsByte address old new
 
--- the same, if one is there
+-- the same if the memory has a byte there, else no change
 abbrev pub AddsIf : Bool → ℕ → List Run → List Run → Type 0
 AddsIf true address old new = AddsByte address old new
 AddsIf false address old new = new ≡ old

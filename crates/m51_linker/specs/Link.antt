@@ -54,8 +54,8 @@ pub record IsLinked (p : Program) (linked : Linked) : Type 0 where
   pub written : AreRuns (IsFilled p.modules p.placing) linked.written
   pub roots : AreRoots p.graph linked.roots
 
--- What linking answers where that is the program, or the rule that fails: this program linked, or that refusal. Want of
--- memory says nothing.
+-- The result of linking, where `program` is the program or the rule that fails: the program linked, or that refusal.
+-- Out of memory says nothing.
 abbrev pub Answers : Result Program Refusal → Result Linked Refusal → Type 0
 Answers program (Ok linked) = (p : Program) × (program ≡ Ok p) × IsLinked p linked
 Answers program (Err error) = RefusesWith (but_memory error) program

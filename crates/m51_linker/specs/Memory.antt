@@ -4,7 +4,7 @@ use Rattle.std.specs.Prelude.{unwrap_or, Option, Some, None}
 use Rattle.std.specs.Option.{option_or}
 use Rattle.m51_linker.specs.Stretches.{Stretch, byte_among}
 
--- the byte of the memory for the address, if one is there
+-- the byte of the memory for the address, if it has one
 abbrev pub held_at : List (Option ℕ) → ℕ → Option ℕ
 held_at memory address = slice_index_or memory address None
 
@@ -14,7 +14,7 @@ image_at image address = Some (slice_index image address)
 
 -- Below, old and new give the byte at an address before and after.
 
--- so many of these bytes are put from the address on, and nothing else
+-- the first `count` of these bytes are put from the address on, and nothing else
 pub record IsPut (at : ℕ) (bytes : List ℕ) (count : ℕ) (old new : ℕ → Option ℕ) : Type 0 where
   pub put : (k : ℕ) → k < count → new (at + k) ≡ Some (slice_index bytes k)
   pub before : (address : ℕ) → address < at → new address ≡ old address
@@ -29,7 +29,7 @@ pub record AreBytes (stretches : List Stretch) (memory : List (Option ℕ)) : Ty
   pub len : length memory ≡ 65536
   pub each : (address : ℕ) → held_at memory address ≡ byte_among stretches address
 
--- so many addresses of the image have the byte of the memory, and FFH where it has none
+-- the first `count` addresses of the image have the byte of the memory, and FFH where it has none
 pub record IsErasedBut (memory : List (Option ℕ)) (count : ℕ) (image : List ℕ) : Type 0 where
   pub len : length image ≡ 65536
   pub each : (address : ℕ) → address < count → slice_index image address ≡ unwrap_or (held_at memory address) 0xFF

@@ -18,7 +18,7 @@ pub record ArePlaced (modules : List ModuleParts) (placing : Placing) : Type 0 w
   pub resolved : AreResolved modules
   pub places : ArePlaces (segments_of modules) placing
 
--- a fixup of the module has its field in program memory, and its target is there
+-- a fixup of the module has its field in program memory, and its target exists
 pub record IsFixupPlaced (modules : List ModuleParts) (placing : Placing) (m : ℕ) (f : Fixup) : Type 0 where
   pub segment : IsSome (segment_at modules m f.segment)
   pub target : IsTargetThere modules m f.target

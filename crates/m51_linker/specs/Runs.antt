@@ -1,4 +1,4 @@
--- The runs of addresses that content fills. IsFilled address says that content stands there.
+-- The runs of addresses that content fills. IsFilled address: content fills the address.
 use Rattle.std.specs.Prelude.{◌≡◌, ℕ, ◌+◌, ◌<◌, ◌≤◌, List}
 use Rattle.std.specs.List.{All, AllPairs, Contains}
 use Rattle.m51_module.specs.declared.linked.Run.{Run}

@@ -1,10 +1,10 @@
--- Bytes in a row in program memory.
+-- Stretches: consecutive bytes of program memory.
 use Rattle.std.specs.Prelude.{ℕ, ◌-◌, nat_le, if◌then◌else◌, List, [], ◌∷◌, slice_get, Option, None}
 use Rattle.std.specs.Option.{option_or}
 use Rattle.m51_fields.specs.declared.fields.FieldBytes.{FieldBytes}
 use Rattle.m51_fields.specs.Fields.{bytes_of}
 
--- bytes in a row, from an address on
+-- consecutive bytes, from an address on
 pub record Stretch : Type 0 where
   pub at : ℕ
   pub bytes : List ℕ

@@ -68,7 +68,7 @@ fn link_graph(
     ensures answer { Answers (placed_of joined.now controls.now graph.now) result }
     ensures ready { IfOk result IsReady }
 {
-    // What modules keep is known where they are read.
+    // For the proof only: reading the modules exposes their invariant.
     let _modules = joined.modules();
     let placing = place_all(alloc, joined, graph, controls)?;
     let content = content_of(alloc, joined, &placing)?;
@@ -85,8 +85,8 @@ fn link_joined(alloc: Global, joined: &Joined, controls: &Controls) -> Result<Li
     link_graph(alloc, joined, &graph, controls)
 }
 
-/// Links modules, members of libraries that they want, and control lines: to the layout, the image, the runs of it that
-/// content fills, and the roots of each unit; or to the first rule that fails, in this order.
+/// Links modules, the members of libraries that they need, and control lines: to the layout, the image, the runs of it
+/// that content fills, and the roots of each unit; or to the first rule that fails, in this order.
 ///
 /// `Limit` of modules; `L1`, a public that two modules define; `L2`, an external that none defines; `L3`, an external
 /// of another kind than its public; `L4`, a segment whose parts differ; `Limit` of joined segments, and of units; `L5`,

@@ -10,7 +10,7 @@ use m51_fields::FieldBytes;
 use m51_module::{IMAGE_LEN, Image};
 use std::alloc::{AllocError, Global};
 
-// So many bytes, none of them there.
+// A memory of `count` addresses, none of them with a byte.
 fn nothing(alloc: Global, count: usize) -> Result<Vec<Option<u8>>, AllocError>
     ensures len { IfOk result (λ memory. vec_len memory ≡ count) }
     ensures none { IfOk result (λ memory. (address : ℕ) → slice_index_or memory.items address None ≡ None) }
@@ -35,7 +35,7 @@ pub(crate) fn put(memory: &mut [Option<u8>], at: usize, bytes: &[u8])
     }
 }
 
-// The byte at the address, FFH where none is there.
+// The byte at the address, FFH where the memory has none.
 pub(crate) fn byte_or_erased(memory: &[Option<u8>], address: usize) -> u8
     ensures { result ≡ unwrap_or (held_at memory.now address) 0xFF }
 {
@@ -45,7 +45,7 @@ pub(crate) fn byte_or_erased(memory: &[Option<u8>], address: usize) -> u8
     }
 }
 
-// The image of the memory: FFH where no byte is there.
+// The image of the memory: FFH where the memory has no byte.
 pub(crate) fn image_of(alloc: Global, memory: &[Option<u8>]) -> Result<Image, NoMemory>
     requires { length memory.now ≡ IMAGE_LEN }
     ensures { IfOk result (λ image. IsErasedBut memory.now IMAGE_LEN image) }

@@ -42,7 +42,7 @@ fn add_byte(runs: &mut Vec<Run>, address: u16) -> Result<(), NoMemory>
     Ok(())
 }
 
-// Adds the byte at the address, if one is there.
+// Adds the address to the runs, if the memory holds a byte there.
 fn add_if(runs: &mut Vec<Run>, held: bool, address: u16) -> Result<(), NoMemory>
     requires { All (λ run. run.first + run.len ≤ address) runs.old.items }
     ensures { OnOk result (AddsIf held address runs.old.items runs.new.items) }
@@ -53,7 +53,7 @@ fn add_if(runs: &mut Vec<Run>, held: bool, address: u16) -> Result<(), NoMemory>
     Ok(())
 }
 
-// The runs of the bytes that are there.
+// The runs of the addresses that have a byte.
 pub(crate) fn runs_of(alloc: Global, content: &[Option<u8>]) -> Result<Runs, NoMemory>
     requires { length content.now ≡ IMAGE_LEN }
     ensures { IfOk result (λ runs. AreRuns (IsHeldBelow content.now IMAGE_LEN) runs) }

@@ -1,4 +1,4 @@
--- Lists of which one element alone passes a test.
+-- Lists of which exactly one element passes a test.
 use Rattle.std.proofs.Common.{◌≡◌, ◌≢◌, ℕ, zero, suc, ◌<◌, ◌≤◌, nat_eq, nat_lt, Bool, true, false, not, cond, List, [], ◌∷◌, length, get_or, Option, Some, None, refl, ap, sym, subst, ◌∙◌, arith}
 use Rattle.std.specs.Prelude.{slice_set, filter, map, position, remove}
 use Rattle.std.specs.List.{AllPairs, find, position_or_len}

@@ -1,4 +1,4 @@
--- What the edits answer where the module of a name stands at a place, and where there is none.
+-- The results of the edits, where a module of the name is at an index, and where no module has the name.
 use Rattle.std.proofs.Common.{◌≡◌, ℕ, cond, List, map, get_or, Option, Some, None, ap, sym, ◌∙◌}
 use Rattle.std.specs.Prelude.{position, remove, slice_set, Result, Ok, Err}
 use Rattle.std.specs.Option.{ok_or}

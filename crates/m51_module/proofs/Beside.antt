@@ -66,7 +66,7 @@ names_lack modules others m old new publics beside are lacks is = record {
       ∙ others_by (defines others name) (has_public name m) (beside.apart name);
 }
 
--- the same of a table that is there
+-- the same where a table of names is kept
 pub names_less : {S : Type 0} (keys : S → List (List ℕ)) (modules others : List ModuleParts) (m : ModuleParts) (before : Option (List (List ℕ))) (old : List (List ℕ)) (publics : List Public) (found : S)
     → before ≡ Some old → LacksNames (λ (p : Public). p.name) old publics (keys found) → publics ≡ m.publics → IsBeside modules others m → AreNames modules before
     → AreNames others (option_map keys (Some found))

@@ -1,4 +1,4 @@
--- The test for an edge holds exactly where there is one.
+-- The test for an edge holds exactly if the edge exists.
 use Rattle.std.proofs.Common.{◌≡◌, ◌⊎◌, inl, inr, ℕ, Bool, true, false, slice_index_or, refl, sym, subst, ◌∙◌}
 use Rattle.std.specs.Prelude.{◌==◌, ◌&&◌, IsTrue, ◌↔◌}
 use Rattle.std.specs.Cmp.Derive.{both_true}
@@ -21,12 +21,12 @@ pub test_from_edge : (edges : Edges) (from to : ℕ) → HasEdge edges from to �
 test_from_edge edges from to h =
     list_any-from_Any _ edges (h.0, (from, to), h.1, h.2, both_true (eq-eqb from from refl) (eq-eqb to to refl))
 
--- so an answer that is true exactly where there is an edge is the test
+-- so a result that is true exactly if the edge exists is that of the test
 pub same_edge_test : (answer : Bool) (edges : Edges) (from to : ℕ) → (IsTrue answer ↔ HasEdge edges from to) → answer ≡ has_edge edges from to
 same_edge_test answer edges from to h =
     same_from_decides {P = HasEdge edges from to} answer (has_edge edges from to) h (edge_from_test edges from to, test_from_edge edges from to)
 
--- what the test tells
+-- the two cases of the test, each with what follows from it
 pub edge_tells : (edges : Edges) (from to : ℕ)
     → ((has_edge edges from to ≡ true) × HasEdge edges from to) ⊎ ((has_edge edges from to ≡ false) × (HasEdge edges from to → ⊥))
 edge_tells edges from to = elim (cases_Bool (has_edge edges from to)) as (λ _. ((has_edge edges from to ≡ true) × HasEdge edges from to) ⊎ ((has_edge edges from to ≡ false) × (HasEdge edges from to → ⊥))) [

@@ -28,7 +28,7 @@ same_bytes one two e = (bytes_eq-Decides one two).1 e
 equal_bytes : (one two : List ℕ) → bytes_eq one two ≡ true → one ≡ two
 equal_bytes one two h = (bytes_eq-Decides one two).0 h
 
--- the module of a name stands alone
+-- in a library, a name that a module has is the name of only that module
 pub named_alone : (name : List ℕ) (ms : List ModuleParts) (i : ℕ) (d : ModuleParts) → IsLibrary ms → position (is_named name) ms ≡ Some i → PassesAlone (is_named name) ms i
 named_alone name ms i d h found =
     let at : (e : ModuleParts) → (i < length ms) × (is_named name (get_or ms i e) ≡ true) × ((k : ℕ) → k < i → is_named name (get_or ms k e) ≡ false) =

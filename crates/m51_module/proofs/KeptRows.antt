@@ -66,7 +66,7 @@ owner_rows_more owners count rows pair h below = record {
   ];
 }
 
--- a row that is there does not depend on what stands for one that is not
+-- a row of the list does not depend on the default for one that is missing
 pub row_is : (rows : List (List ℕ)) (place : ℕ) (row : List ℕ) → place < length rows → row ≡ slice_index_or rows place row → slice_index_or rows place [] ≡ row
 row_is rows place row below is = get_or_default rows place [] row below ∙ sym is
 
@@ -119,7 +119,7 @@ segments_start rows unit = record {
   all = λ s below _. absurd (omega (arith, below));
 }
 
--- the unit does not stand in the next row
+-- the unit is not in the next row, so its segments stay the same
 segment_passed : (rows : List (List ℕ)) (unit count : ℕ) (segments : List ℕ) → AreSegmentsOf rows unit count segments
     → (Contains (slice_index_or rows count []) unit → ⊥) → AreSegmentsOf rows unit (count + 1) segments
 segment_passed rows unit count segments h without = record {

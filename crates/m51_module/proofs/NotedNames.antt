@@ -55,7 +55,7 @@ names_push ms m old new publics are noted is = record {
       ∙ or_last (defines ms name) (has_public name m) ∙ sym (list_any-append (has_public name) ms (m ∷ []));
 }
 
--- the same of a table that is there or not
+-- the same whether a table of names is kept or not
 pub names_more : {S : Type 0} (keys : S → List (List ℕ)) (ms : List ModuleParts) (m : ModuleParts) (before : Option (List (List ℕ))) (old : List (List ℕ)) (publics : List Public) (found : Option S)
     → before ≡ Some old → IfSome found (λ s. NotesNames (λ (p : Public). p.name) old publics (keys s)) → publics ≡ m.publics → AreNames ms before → AreNames (ms ++ m ∷ []) (option_map keys found)
 names_more keys ms m before old publics None is noted are names = tt

@@ -2,7 +2,7 @@
 use Rattle.std.specs.Prelude.{◌≡◌, ℕ, ◌<◌, List, length, slice_index}
 use Rattle.m51_module.specs.declared.image.TheConstants.{IMAGE_LEN}
 
--- so many bytes, all of them FFH
+-- `count` bytes, each FFH
 pub record IsErased (count : ℕ) (bytes : List ℕ) : Type 0 where
   pub len : length bytes ≡ count
   pub each : (address : ℕ) → address < count → slice_index bytes address ≡ 0xFF

@@ -18,12 +18,12 @@ pub record AreOwnerRows (owners : List (ℕ × ℕ)) (count : ℕ) (rows : List 
 abbrev pub HaveRows : ℕ → List (ℕ × ℕ) → Type 0
 HaveRows count owners = (s u : ℕ) → Contains owners (s, u) → s < count
 
--- so many rows with nothing in them
+-- `count` empty rows
 pub record AreEmptyRows (count : ℕ) (rows : List (List ℕ)) : Type 0 where
   pub len : length rows ≡ count
   pub each : (s : ℕ) → slice_index_or rows s [] ≡ []
 
--- no number stands twice
+-- no number occurs twice
 abbrev pub AreDifferent : List ℕ → Type 0
 AreDifferent units = AllPairs (λ one two. one ≢ two) units
 
@@ -38,13 +38,13 @@ pub record IsAddedAt (units : List ℕ) (segment : ℕ) (old new : List (List �
   pub added : (u : ℕ) → Contains units u → slice_index_or new u [] ≡ slice_index_or old u [] ++ segment ∷ []
   pub same : (u : ℕ) → (Contains units u → ⊥) → slice_index_or new u [] ≡ slice_index_or old u []
 
--- these are the segments below the count in whose rows the unit stands, ascending
+-- the segments below the count whose rows contain the unit, ascending
 pub record AreSegmentsOf (rows : List (List ℕ)) (unit count : ℕ) (segments : List ℕ) : Type 0 where
   pub rising : Rises segments
   pub listed : (s : ℕ) → Contains segments s → (s < count) × Contains (slice_index_or rows s []) unit
   pub all : (s : ℕ) → s < count → Contains (slice_index_or rows s []) unit → Contains segments s
 
--- a row for each unit: the segments below the count in whose rows it stands
+-- a row for each unit: the segments below the count whose rows contain it
 pub record AreLocalRows (owner_rows : List (List ℕ)) (units count : ℕ) (rows : List (List ℕ)) : Type 0 where
   pub len : length rows ≡ units
   pub each : (u : ℕ) → u < units → AreSegmentsOf owner_rows u count (slice_index_or rows u [])
@@ -60,17 +60,17 @@ pub record AreEdgeRows (edges : Edges) (units : ℕ) (rows : List (List Bool)) :
 abbrev pub LeadsWithin : ℕ → Edges → Type 0
 LeadsWithin count edges = (u v : ℕ) → HasEdge edges u v → (u < count) × (v < count)
 
--- so many rows of so many bits, none of them set
+-- a row of `wide` bits for each of `units` units, no bit of them set
 pub record AreClear (units wide : ℕ) (rows : List (List Bool)) : Type 0 where
   pub len : length rows ≡ units
   pub each : (u : ℕ) → u < units → slice_index_or rows u [] ≡ replicate wide false
 
--- a table of so many addresses with no unit
+-- a table of `count` addresses, none of them with a unit
 pub record IsEmptyTable (count : ℕ) (units_at : List (Option ℕ)) : Type 0 where
   pub len : length units_at ≡ count
   pub each : (address : ℕ) → slice_index_or units_at address None ≡ None
 
--- the unit is put at each of so many addresses from the base, and the others stay
+-- the unit is entered at each of `size` addresses from the base, and the other addresses stay the same
 pub record IsEntered (base size unit : ℕ) (old new : List (Option ℕ)) : Type 0 where
   pub len : length new ≡ length old
   pub within : (address : ℕ) → base ≤ address → address < base + size → slice_index_or new address None ≡ Some unit

@@ -63,13 +63,13 @@ IsVersion version = (version ≡ 1) ⊎ (version ≡ 2)
 abbrev pub Differ : List ℕ → List ℕ → Type 0
 Differ one two = one ≢ [] → one ≢ two
 
--- A public counts from nothing, or from a segment that is there and has its kind.
+-- The base of a public: none, or a segment of the module that has the kind of the public.
 abbrev pub IsPublicBase : List Segment → Kind → Base → Type 0
 IsPublicBase segments kind NoBase = Unit {0}
 IsPublicBase segments kind (InSegment number) = (s : Segment) × (numbered segments number ≡ Some s) × (s.kind ≡ kind)
 IsPublicBase segments kind (OfExternal number) = ⊥
 
--- a public has a name and such a base
+-- a public has a name and an allowed base
 pub record IsPublicValid (segments : List Segment) (p : Public) : Type 0 where
   pub name : IsWritten p.name
   pub base : IsPublicBase segments p.kind p.base
@@ -102,7 +102,7 @@ abbrev pub IsBitNumber : Form → ℕ → Type 0
 IsBitNumber Conv bit = bit ≤ 7
 IsBitNumber _ bit = bit ≡ 0
 
--- the target is a segment or an external that is there
+-- the target is a segment or an external of the module
 abbrev pub IsTarget : List Segment → List External → Base → Type 0
 IsTarget segments externals NoBase = ⊥
 IsTarget segments externals (InSegment number) = (s : Segment) × (numbered segments number ≡ Some s)
@@ -136,7 +136,7 @@ pub record IsValid (m : ModuleParts) : Type 0 where
   pub few_externals : length m.externals ≤ MOST_EXTERNALS
   pub few_fixups : length m.fixups ≤ MOST_FIXUPS
   pub segments : All IsSegmentValid m.segments
-  -- the argument mark stands in version 2 only
+  -- argument segments are in modules of version 2 only
   pub marks : All (λ s. s.argument ≡ true → m.version ≡ 2) m.segments
   -- segments without a name are absolute ones
   pub segment_names : AllPairs (λ s t. Differ s.name t.name) m.segments

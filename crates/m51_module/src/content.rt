@@ -1,7 +1,7 @@
 //! What segments of program memory hold, and the fields in it that the linker fills.
 use m51_cells::{Base, Bytes, ListOf};
 
-/// Bytes in a row in a segment.
+/// Consecutive bytes of a segment.
 ///
 /// Source: own choice ("Valid modules").
 #[derive(Drop)]

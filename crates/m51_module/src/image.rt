@@ -30,7 +30,7 @@ impl Model for Image {
     ghost invariant = { λ i. length i.bytes.items ≡ IMAGE_LEN };
 }
 
-// So many bytes, all FFH.
+// `count` bytes, each FFH.
 #[tactic(auto, using(crate::proofs::Erased::erased))]
 fn erased(alloc: Global, count: usize) -> Result<Vec<u8>, AllocError>
     ensures { IfOk result (λ bytes. IsErased count bytes.items) }

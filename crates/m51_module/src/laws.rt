@@ -10,7 +10,7 @@ pub fn conflict_is_mutual()
 
 /// Two layouts with the same edges and roots have the same conflicts. Of two extents of the one, let each have another
 /// number in the other, where it has the same owners and is overlaid exactly if it is here: then they are in conflict
-/// there exactly where they are here.
+/// there exactly if they are here.
 ///
 /// Source: own choice ("Conflicts").
 pub fn conflict_is_carried()

@@ -18,7 +18,7 @@ use std::marker::Model;
 #[derive(Drop)]
 pub struct Library {
     members: Vec<Module>,
-    // Those of the publics, which one addition hands to the next.
+    // The names of the publics, kept from one addition to the next.
     names: PublicNames,
 }
 
@@ -35,12 +35,12 @@ impl Model for Library {
 }
 
 /// The library of these modules. It is refused as if they were added one by one to none: at the first that can't be
-/// added, by `B1`, then `Full`, then `B3`. Where there is no memory for a table of names, it answers the same, only
-/// later.
+/// added, by `B1`, then `Full`, then `B3`. Without memory for a table of names the result is the same, but takes
+/// longer.
 ///
 /// Source: own choice ("Libraries").
 pub fn build(alloc: Global, modules: Vec<Module>) -> Result<Library, LibError>
-    // It needs no memory: each error is a refusal.
+    // Lack of memory is no error: each error is a refusal.
     ensures { Gives (λ l. l) Some result (built modules.items) }
 {
     let mut names = PublicNames::none(alloc);
@@ -104,12 +104,12 @@ impl Library {
         }
     }
 
-    /// Takes out the module of that name, and closes up the list. It is refused by `B2` where there is none, and the
-    /// library is then as before. It takes no memory.
+    /// Removes the module of that name, and returns it. It is refused by `B2` where there is none, and the
+    /// library is then as before. It allocates nothing.
     ///
     /// Source: own choice ("Libraries").
     pub fn delete(&mut self, name: &Name) -> Result<Module, LibError>
-        // It takes no memory: each error is a refusal.
+        // It allocates nothing: each error is a refusal.
         ensures answer { Gives (λ m. (m, self.new)) Some result (deleted self.old name.now) }
         ensures kept { OnErr result (self.new ≡ self.old) }
     {
@@ -122,13 +122,13 @@ impl Library {
         }
     }
 
-    /// Puts the module in the place of the one of its name. It is refused by `B2` where there is none, else by `B3`
-    /// with its first public that one of the others has. A module that is refused is dropped, and the library is as
-    /// before. Where there is no memory for a table of names, it answers the same, only later.
+    /// Replaces the module of its name by this one, at the same index. It is refused by `B2` where there is none, else
+    /// by `B3` with its first public that one of the others has. A module that is refused is dropped, and the library
+    /// is as before. Without memory for a table of names the result is the same, but takes longer.
     ///
     /// Source: own choice ("Libraries").
     pub fn replace(&mut self, incoming: Module) -> Result<(), LibError>
-        // It needs no memory: each error is a refusal.
+        // Lack of memory is no error: each error is a refusal.
         ensures answer { Gives (λ _. self.new) Some result (replaced self.old incoming) }
         ensures kept { OnErr result (self.new ≡ self.old) }
     {
@@ -139,12 +139,12 @@ impl Library {
         }
     }
 
-    /// Raises the module of that name to version 2, in its place. It is refused by `B2` where there is none, and the
-    /// library is then as before. It takes no memory.
+    /// Raises the module of that name to version 2, at its index. It is refused by `B2` where there is none, and the
+    /// library is then as before. It allocates nothing.
     ///
     /// Source: own choice ("Argument segments").
     pub fn raise(&mut self, name: &Name) -> Result<(), LibError>
-        // It takes no memory: each error is a refusal.
+        // It allocates nothing: each error is a refusal.
         ensures answer { Gives (λ _. self.new) Some result (raised_in self.old name.now) }
         ensures kept { OnErr result (self.new ≡ self.old) }
     {

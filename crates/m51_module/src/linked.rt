@@ -1,8 +1,8 @@
-//! What a link answers beside a layout and an image: runs, chains and refusals.
+//! What a link returns besides a layout and an image: runs, chains and refusals.
 use crate::Units;
 use m51_cells::{ListOf, Name, Names, NoMemory};
 
-/// Bytes of the image in a row that content fills.
+/// Consecutive bytes of the image, all of them filled by content.
 ///
 /// Source: own choice ("Runs").
 #[derive(Clone, Copy, Debug, PartialEq, Eq)]
@@ -73,8 +73,8 @@ pub enum Refusal {
     L4 { name: Name },
     /// The joined segment of this name is too large.
     L5 { name: Name },
-    /// The segment of this name is marked OVERLAYABLE, and is neither a local nor the argument segment of a unit that
-    /// is there.
+    /// The segment of this name is marked OVERLAYABLE, and is neither a local nor the argument segment of a unit of the
+    /// program.
     L6 { name: Name },
     /// The control line of this number does not fit the program.
     L7 { line: u32 },

@@ -90,7 +90,7 @@ pub(crate) fn clash_with_others(
     clash(names, before, after, incoming)
 }
 
-/// Takes out the module at that index, and closes up the list.
+/// Removes the module at that index, and returns it.
 ///
 /// Source: own choice ("Libraries").
 pub(crate) fn take_out(members: &mut Vec<Module>, index: usize) -> Module

@@ -141,7 +141,7 @@ impl Module {
     }
 }
 
-// Parts with nothing in them, which take no memory. They are of no module.
+// Empty parts, for which nothing is allocated. No module has them.
 fn no_parts(alloc: Global) -> ModuleParts {
     ModuleParts {
         name: Name::none(),

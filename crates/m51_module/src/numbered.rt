@@ -5,7 +5,7 @@ ghost use Rattle.m51_module.specs.Validity.{numbered};
 use crate::segment::Segment;
 use crate::symbol::External;
 
-/// The segment of that number, if it is there.
+/// The segment of that number, from 1; `None` if none has it.
 ///
 /// Source: own choice ("Object records").
 pub fn segment_numbered(segments: &[Segment], number: u8) -> Option<Segment>
@@ -17,7 +17,7 @@ pub fn segment_numbered(segments: &[Segment], number: u8) -> Option<Segment>
     segments.get(usize::from(number) - 1).copied()
 }
 
-/// The external of that number, if it is there.
+/// The external of that number, from 1; `None` if none has it.
 ///
 /// Source: own choice ("Object records").
 pub fn external_numbered(externals: &[External], number: u8) -> Option<External>

@@ -14,7 +14,7 @@ pub enum ObjError {
     O1 {
         at: u32,
     },
-    /// The checksum of the record of this number is wrong: the byte that is there, and the one that makes the sum 0.
+    /// The checksum of the record of this number is wrong: the byte that was found, and the one that makes the sum 0.
     #[error("a checksum is wrong")]
     O2 {
         record_no: u32,
@@ -31,7 +31,7 @@ pub enum ObjError {
     O4 {
         at: u32,
     },
-    /// The field at this offset numbers a segment or an external that is not there.
+    /// The field at this offset names a segment or an external that does not exist.
     #[error("a segment or an external is not there")]
     O5 {
         at: u32,

@@ -25,7 +25,7 @@ impl Model for PublicNames {
     ghost view = { λ n. option_map (λ s. s.keys) n.names };
 }
 
-// NotesNames the names of the publics. Out of memory is the one error.
+// Notes the names of the publics. Error: out of memory.
 fn note(names: &mut IndexSet<Name>, publics: &[Public]) -> Result<(), NoMemory>
     ensures { OnOk result (NotesNames (λ p. p.name) names.old.keys publics.now names.new.keys) }
 {
@@ -35,7 +35,7 @@ fn note(names: &mut IndexSet<Name>, publics: &[Public]) -> Result<(), NoMemory>
     Ok(())
 }
 
-// Takes the names of the publics out.
+// Removes the names of the publics.
 fn take_out(names: &mut IndexSet<Name>, publics: &[Public])
     ensures { LacksNames (λ p. p.name) names.old.keys publics.now names.new.keys }
 {
@@ -91,7 +91,7 @@ impl PublicNames {
         }
     }
 
-    // With those of one module more.
+    // With those of one more module.
     pub(crate) fn with(self, member: &Module) -> PublicNames
         ensures { (modules : List ModuleParts) → AreNames modules self → AreNames (modules ++ member.now ∷ []) result }
     {

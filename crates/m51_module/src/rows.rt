@@ -8,7 +8,7 @@ use crate::Units;
 use m51_cells::{ListOf, NoMemory};
 use std::alloc::Global;
 
-// So many rows with nothing in them.
+// `count` empty rows.
 fn empty_rows(alloc: Global, count: usize) -> Result<Vec<Units>, NoMemory>
     ensures { IfOk result (λ rows. AreEmptyRows count rows.items) }
 {
@@ -28,7 +28,7 @@ fn add_to(rows: &mut Vec<Units>, index: usize, number: u16) -> Result<(), NoMemo
     rows[index].push(number)
 }
 
-/// The owners of each of so many segments.
+/// The owners of each of `count` segments.
 pub(crate) fn owner_rows(
     alloc: Global,
     owners: &[(u16, u16)],
@@ -55,7 +55,7 @@ fn add_local(rows: &mut Vec<Units>, owners: &[u16], segment: u16) -> Result<(), 
     Ok(())
 }
 
-/// The segments of each of so many units.
+/// The segments of each of `count` units.
 pub(crate) fn local_rows(
     alloc: Global,
     rows: &[Units],

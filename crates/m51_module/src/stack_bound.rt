@@ -20,15 +20,15 @@ pub struct Proc {
 /// Source: own choice ("Lists in types").
 pub type Procs = ListOf<Proc>;
 
-/// A root, how deep the stack is under it, and the starts that make it so deep.
+/// A root, the depth of the stack under it, and the starts on a path of that depth.
 ///
 /// Source: own choice ("Stack bound").
 #[derive(Drop)]
 pub struct RootDepth {
     /// The unit that the root is.
     pub root: u16,
-    /// The most that all ways through the program give, also those that no run takes: for the reset of SP, for an
-    /// interrupt of the bytes above its return address.
+    /// The most over all paths through the program, those that no run takes among them: for the reset the value of SP,
+    /// for an interrupt the bytes above its return address.
     pub depth: u16,
     /// The starts from the root's own on, each of which calls the next.
     pub path: Starts,
@@ -47,7 +47,8 @@ pub struct StackBound {
     /// The starts other than the reset.
     pub procs: Procs,
     pub roots: RootDepths,
-    /// A value that SP does not pass before an event: the greatest that the reset and two handlers come to together.
+    /// A value that SP does not pass before an event: the depth of the reset, and the greatest sum of 2 and the depth
+    /// over at most two different handlers.
     pub total: u8,
 }
 

@@ -26,7 +26,7 @@ impl Model for Bits {
 }
 
 impl Bits {
-    // So many bits, none of them set.
+    // `count` bits, none of them set.
     fn clear(alloc: Global, count: usize) -> Result<Bits, NoMemory>
         ensures { IfOk result (λ row. row ≡ replicate count false) }
     {
@@ -51,7 +51,7 @@ impl Bits {
     }
 }
 
-// So many rows of as many bits, none of them set.
+// `count` rows of `count` bits each, none of them set.
 #[tactic(auto, using(crate::proofs::KeptTables::clear_more))]
 fn clear_rows(alloc: Global, count: usize) -> Result<Vec<Bits>, NoMemory>
     ensures { IfOk result (λ rows. AreClear count count rows.items) }
@@ -73,7 +73,7 @@ fn set_edge(rows: &mut Vec<Bits>, from: usize, to: usize)
     rows[from].set(to);
 }
 
-/// For each of so many units a row of bits, one for each unit: whether an edge leads from the first to the second.
+/// For each of `count` units a row of bits, one for each unit: whether an edge leads from the first to the second.
 pub(crate) fn edge_rows(
     alloc: Global,
     edges: &[(u16, u16)],
@@ -100,7 +100,7 @@ pub(crate) fn unit_of(parts: &LayoutParts, unit: usize) -> &Placed
     &parts.placed.as_slice()[usize::from(parts.units.as_slice()[unit])]
 }
 
-// No unit at any of so many addresses.
+// A table of `count` addresses, none of them with a unit.
 #[tactic(auto, using(crate::proofs::KeptTables::empty_table))]
 fn no_units(alloc: Global, count: usize) -> Result<Vec<Option<u16>>, AllocError>
     ensures { IfOk result (λ units. IsEmptyTable count units.items) }
@@ -108,7 +108,7 @@ fn no_units(alloc: Global, count: usize) -> Result<Vec<Option<u16>>, AllocError>
     vec![in alloc; None; count]
 }
 
-// Enters the unit at each of so many addresses from the base.
+// Enters the unit at each of `size` addresses from the base.
 fn enter(units_at: &mut Vec<Option<u16>>, base: usize, size: usize, unit: u16)
     requires { base + size ≤ length units_at.old.items }
     ensures { IsEntered base size unit units_at.old.items units_at.new.items }

@@ -6,7 +6,7 @@ use m51_cells::Event;
 /// Source: own choice ("Runs").
 #[derive(Clone, Copy, Debug, PartialEq, Eq)]
 pub struct Tally {
-    /// How many entries its record has.
+    /// How many entries its trace has.
     pub entries: u64,
     /// How many steps were performed, 0 to 10,000,000.
     pub steps: u32,

@@ -33,5 +33,5 @@ pub record RecordsHaveTypes : Type 0 where
   pub fixup : (f : Fixup) → fixup_record f ≡ record_of 0x08 (fixup_contents f)
   -- the end of the module
   pub end_of_module : (name : List ℕ) (banks : ℕ) → end_record name banks ≡ record_of 0x04 (end_contents name banks)
-  -- the front of a library: how many modules it has
+  -- the header of a library: how many modules it has
   pub library : LIBRARY_HEADER ≡ 0x2C

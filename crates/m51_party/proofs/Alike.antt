@@ -24,7 +24,7 @@ module _ (l : LayoutParts) (image : List ℕ) where
   abbrev pub passed_by : Inputs → State Separate → Allowed → Passing
   passed_by inputs s a = cycles_passed inputs a.effect.cycles (changed_by s.cycle s.periph a.effect)
 
-  -- what it comes to
+  -- its result
   abbrev pub done_by : Inputs → State Separate → Allowed → Performed Separate
   done_by inputs s a = passed_into (memory_after l s.memory a) (port_entry s.cycle a.effect) (passed_by inputs s a)
 

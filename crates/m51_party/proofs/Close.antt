@@ -73,7 +73,7 @@ over n s h =
     (λ (x : (event : Event) × (s.event ≡ Some event)). inr x)
     (over_by (nat_lt s.steps n) s.event s.board.chip.cycle h)
 
--- else it starts one, in the cycle in which it stands
+-- else it starts one, in the cycle in which it is
 pub record IsStarting (n cycle : ℕ) (s : Seat) : Type 0 where
   pub below : s.steps < n
   pub event : s.event ≡ None
@@ -188,7 +188,7 @@ module _ (n : ℕ) (few : n ≤ 10000000) (extra : List Timed) (r : Record Separ
       let later = (made s.board.monitor.layout s.board.chip.image (with_extra extra (inputs_of s.board.chip.script)) (n - s.steps) (separate_of s.board) (omega (arith, cycle_few))).later in
       omega (arith, later, made_later)
 
-  -- what a board has come to that makes no more steps
+  -- the state of a board that makes no more steps is the end of its record
   pub record IsEnd : Type 0 where
     pub event : r.event ≡ s.event
     pub steps : r.steps ≡ s.steps

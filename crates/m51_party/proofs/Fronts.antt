@@ -40,6 +40,6 @@ front_digit index below =
 pub head_digit : (count : ℕ) → count ≤ 8 → head_text count ≡ 80 ∷ 65 ∷ 82 ∷ 84 ∷ 89 ∷ 32 ∷ (48 + count) ∷ 10 ∷ []
 head_digit count few = ap (λ (ds : List ℕ). codes "PARTY " ++ ds ++ codes "\n") (decimal_digit count (omega (arith, few)))
 
--- the line of an entry that is there
+-- the line of an entry that exists
 pub one_entry : (index : ℕ) (entry : Option Entry) (e : Entry) → entry ≡ Some e → entry_text index entry ≡ front_of index ++ entry_line e
 one_entry index entry e is = ap (entry_text index) is ∙ append-nil (front_of index ++ entry_line e)

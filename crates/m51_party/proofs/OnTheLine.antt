@@ -1,4 +1,4 @@
--- All boards on the line: what is handed on, and what is still to come.
+-- All boards on the line: what one passes to another, and what is still to come.
 use Rattle.std.proofs.Common.{◌≡◌, ℕ, zero, suc, ◌+◌, ◌≤◌, ◌<◌, Bool, true, false, List, [], ◌∷◌, ◌++◌, length, Option, Some, None, refl, sym, ap, subst, ◌∙◌, arith, length-append, zero-add}
 use Rattle.std.specs.Prelude.{◌==◌, flat_map, option_to_list, slice_get, slice_index_or, slice_set, if◌then◌else◌}
 use Rattle.std.proofs.lemmas.Bool.{eq-eqb, ne_eqb}
@@ -17,7 +17,7 @@ use Rattle.m51_party.proofs.NextBoard.{AllStartFrom, IsNextAt, NoneStarts, Start
 use Rattle.m51_party.proofs.UnderWay.{IsUnderWay, rest_of, step_text}
 use Rattle.m51_party.proofs.Close.{StepsFrom, over, over_rest, rest_late, sent_agrees, start_in}
 
--- each board has performed some steps of its record, where the first stands at this index
+-- each board has performed some steps of its record, where the first has this index
 abbrev pub AllUnderWay : ℕ → ℕ → Family → Family → List Seat → Type 0
 AllUnderWay at n family [] [] = Unit {0}
 AllUnderWay at n family [] (s ∷ ss) = ⊥
@@ -44,7 +44,7 @@ all_agree at n family (r ∷ rs) [] least now few after below h c = absurd h
 all_agree at n family (r ∷ rs) (s ∷ ss) least now few after below h c =
     (sent_agrees n few (frames_for at family) r s h.0 least now after below c.0 c.1, all_agree (suc at) n family rs ss least now few after below h.1 c.2)
 
--- what one board hands to another
+-- what one board passes to another
 to_another : (b : Bool) (o : Option Timed) → b ≡ false → (if b then None else o) ≡ o
 to_another true o e = absurd (cc e)
 to_another false o e = refl

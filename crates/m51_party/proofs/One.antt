@@ -67,7 +67,7 @@ one_same limit index (b ∷ bs) n family other over same =
     (records_same b.monitor.layout b.chip.image (inputs_of b.chip.script) (frames_for index family) (frames_for index other) limit (same index) n (separate_of b) over)
     ∙ ap (λ (rs : Family). record_with n (frames_for index other) b ∷ rs) (one_same limit (suc index) bs n family other over same)
 
--- after so many rounds the frames before that cycle stay
+-- after `rounds` rounds the frames before the cycle of that number stay
 rounds_same : (bs : List BoardState) (n : ℕ) → AllStart bs → (rounds : ℕ) → GivenSame rounds (family_after bs n rounds) (family_after bs n (suc rounds))
 unfolding family_after
 rounds_same bs n starts zero index cycle below = absurd (omega (arith, below))

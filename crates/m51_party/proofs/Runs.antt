@@ -39,7 +39,7 @@ lines_to_come n family ss = before start_in step_text (end_of family + 1) (rests
 abbrev pub text_to_come : ℕ → Family → List Seat → List ℕ
 text_to_come n family ss = lines_to_come n family ss ++ last_lines 0 (boards_of ss) family
 
--- each has performed some steps of its record, and none is more than four cycles before one that goes on
+-- each has performed some steps of its record, and none is more than four cycles ahead of one that continues
 pub record AreGoing (n : ℕ) (family : Family) (ss : List Seat) : Type 0 where
   pub all : AllUnderWay 0 n family family ss
   pub least : ℕ
@@ -72,11 +72,11 @@ start_by : (b : Bool) (least cycle : ℕ) → least ≤ cycle → StartsFrom lea
 start_by true least cycle h = h
 start_by false least cycle h = tt
 
--- it starts no step before the cycle in which it stands
+-- it starts no step before the cycle in which it is
 pub start_late : (n least : ℕ) (s : Seat) → least ≤ s.board.chip.cycle → StartsFrom least (start_of n s)
 start_late n least s h = start_by (is_going n s) least s.board.chip.cycle h
 
--- after a step they go on, and its lines are no longer to come
+-- after a step they are under way as before, and its lines are no longer to come
 pub record Advances (n : ℕ) (family : Family) (index : ℕ) (told : Told) (olds news : List Seat) : Type 0 where
   pub going : AreGoing n family news
   pub text : text_to_come n family olds ≡ told_text index told ++ text_to_come n family news

@@ -246,7 +246,7 @@ module _ (index n : ℕ) (extra given : List Timed) (r : Record Separate) (told 
   stepped_by (Ok a) short below is step = stepped_done a below short is step.0 step.1
   stepped_by (Err event) short below is step = stepped_stopped event below is step.0 step.1
 
-  -- where the frames that are handed on are those of the family in the cycles of the step
+  -- where the frames that are passed to it are those of the family in the cycles of the step
   pub stepped : old.steps < n
       → TakesFew (separate_effect old.board.monitor.layout old.board.chip.image st.cpu st.memory (from.pins st.cycle) (attempt_of old.board.chip.image st.cpu))
       → machine_with given old.board st ≡ machine_with extra old.board st

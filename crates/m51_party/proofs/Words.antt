@@ -1,4 +1,4 @@
--- Types of values that the boards hand on, by what takes or gives them.
+-- Types of values that are passed on the way of a step, by what takes or gives them.
 use Rattle.m51_sim.specs.Effects.{changed_by}
 use Rattle.m51_sim.specs.Runs.{entries_of}
 use Rattle.m51_sim.specs.SeparateMachine.{memory_after}
@@ -14,7 +14,7 @@ given_by {A} {B} {C} {D} f = D
 abbrev pub Passing : Type 0
 Passing = given_by changed_by
 
--- what a step tells
+-- what a step reports
 abbrev pub Entries : Type 0
 Entries = taken_by entries_of
 

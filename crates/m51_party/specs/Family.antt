@@ -34,17 +34,18 @@ abbrev pub machine_with : List Timed → BoardState → Machine Separate
 machine_with extra b =
     separate_machine b.monitor.layout b.chip.image (with_extra extra (inputs_of b.chip.script))
 
--- the record of at most n steps of a board alone, to which these frames come
+-- the record of at most n steps of a single board that receives these frames
 abbrev pub record_with : ℕ → List Timed → BoardState → Record Separate
 record_with n extra b = record_of (machine_with extra b) n (separate_of b)
 
--- the records of boards, of which the first stands at this index, with the frames that a family gives them
+-- the records of boards, of which the first has this index, with the frames that a family gives them
 abbrev pub records_from : ℕ → List BoardState → ℕ → Family → Family
 records_from index [] n family = []
 records_from index (b ∷ bs) n family =
     record_with n (frames_for index family) b ∷ records_from (suc index) bs n family
 
--- Each record of the family is that of its board alone, with the frames that the other records of the family give it.
+-- Each record of the family is the one that its board makes if it receives the frames that the other records of the
+-- family give it.
 abbrev pub IsFamily : List BoardState → ℕ → Family → Type 0
 IsFamily boards n family = family ≡ records_from 0 boards n family
 

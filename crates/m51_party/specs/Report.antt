@@ -26,8 +26,8 @@ boards_of party = map (λ s. s.board) party
 abbrev pub has_event : Family → Bool
 has_event family = list_any (λ r. is_some r.event) family
 
--- The text has grown by that of the family, and this says whether some record of it has an event; where the sink has
--- failed, by a front of it.
+-- The text has grown by that of the family, and this says whether some record of it has an event; if the sink has
+-- failed, by a prefix of it.
 abbrev pub IsPartyReport : List BoardState → ℕ → Family → Option (List ℕ) → Option (List ℕ) → PartyEnd → Type 0
 IsPartyReport boards n family before after ends.Finished =
     (has_event family ≡ false) × Appends before after (party_text boards n family)

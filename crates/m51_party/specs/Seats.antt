@@ -1,5 +1,5 @@
--- What contracts of private functions see of the boards on the line: a board that was not stepped, and facts that they
--- hand on.
+-- What contracts of private functions see of the boards on the line: a board that was not stepped, and facts for their
+-- callers.
 use Rattle.std.specs.Prelude.{◌≡◌, ℕ, suc, ◌+◌, ◌-◌, ◌^◌, Bool, ◌&&◌, ◌==◌, nat_lt, min, if◌then◌else◌}
 use Rattle.std.specs.Prelude.{List, [], ◌∷◌, ◌++◌, is_none, length, flat_map, option_to_list}
 use Rattle.std.specs.Prelude.{slice_get, slice_set, Option, Some, None}
@@ -66,7 +66,7 @@ pub record IsSeatStep (extra : List Timed) (told : Told) (old new : Seat) : Type
 abbrev pub sent_to : ℕ → ℕ → Seat → Option Timed
 sent_to at index s = if at == index then None else s.sent
 
--- the frames that boards, of which the first stands at an index, sent last to the board at another
+-- the frames that boards, of which the first has index `at`, sent last to the board at `index`
 abbrev pub kept_from : ℕ → ℕ → List Seat → List Timed
 kept_from at index [] = []
 kept_from at index (s ∷ ss) = option_to_list (sent_to at index s) ++ kept_from (suc at) index ss
@@ -89,7 +89,7 @@ sooner index (Some cycle) None = Some (record { index = index; cycle = cycle })
 sooner index (Some cycle) (Some later) =
     if nat_lt later.cycle cycle then Some later else Some (record { index = index; cycle = cycle })
 
--- of boards of which the first stands at this index
+-- of boards of which the first has this index
 abbrev pub next_from : ℕ → ℕ → List Seat → Option Chosen
 next_from n index [] = None
 next_from n index (s ∷ ss) = sooner index (start_of n s) (next_from n (suc index) ss)
@@ -109,7 +109,7 @@ last_text s = last_line (titles_of s.board.monitor.layout.placed) s.event s.step
 abbrev pub end_text : ℕ → Seat → List ℕ
 end_text index s = front_of index ++ last_text s
 
--- those of boards of which the first stands at this index
+-- those of boards of which the first has this index
 abbrev pub ends_text : ℕ → List Seat → List ℕ
 ends_text index [] = []
 ends_text index (s ∷ ss) = end_text index s ++ ends_text (suc index) ss

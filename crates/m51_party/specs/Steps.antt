@@ -1,4 +1,4 @@
--- What private functions hand on of a run: facts, and no definitions.
+-- Facts about a run for the callers of private functions, and no definitions.
 use Rattle.std.specs.Prelude.{◌≡◌, ℕ, Bool, List, ◌++◌, length, is_some, codes, Option}
 use Rattle.std.specs.Fmt.{decimal}
 use Rattle.std.specs.List.{list_any}
@@ -28,7 +28,7 @@ pub record AreStepped
   pub text : party_text boards n family ≡ head_text (length boards) ++ (lines ++ ends_text 0 seats)
   pub events : has_event family ≡ some_event seats
 
--- a front of what comes after the first line is written
+-- a prefix of what comes after the first line is written
 pub record AreCut
     (boards : List BoardState) (n : ℕ) (family : Family) (before after : Option (List ℕ))
     : Type 0 where

@@ -19,7 +19,7 @@ abbrev pub steps_from : {M : Type 0} → State M → (State M → List StepTold)
 steps_from s rest (Ok done) = record { start = s.cycle; entries = entries_of done.told } ∷ rest done.state
 steps_from s rest (Err event) = []
 
--- the steps of a run of at most so many
+-- the steps of a run of at most this number of them
 unfoldable pub steps_of : {M : Type 0} → Machine M → ℕ → State M → List StepTold
 steps_of machine zero s = []
 steps_of machine (suc n) s = steps_from s (steps_of machine n) (machine s)

@@ -9,7 +9,7 @@ use m51_timers_uart::Frame;
 // The most boards on a line.
 pub(crate) const MOST_BOARDS: usize = 8;
 
-// Frames: so many at the front.
+// Frames: the first `count` of these.
 #[derive(Drop)]
 pub(crate) struct Further {
     pub(crate) frames: [Timed; MOST_BOARDS],

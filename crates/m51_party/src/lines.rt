@@ -85,7 +85,7 @@ fn write_entry<S: Sink>(out: &mut S, index: usize, entry: Option<Entry>) -> Resu
     }
 }
 
-// Writes the lines of what a step tells.
+// Writes the lines of what a step reports.
 pub(crate) fn write_told<S: Sink>(out: &mut S, index: usize, told: &Told) -> Result<(), Failed>
     requires { index < 8 }
     ensures whole { OnOk result (Appends (S.state out.old).text (S.state out.new).text (told_text index told.now)) }
@@ -97,7 +97,7 @@ pub(crate) fn write_told<S: Sink>(out: &mut S, index: usize, told: &Told) -> Res
     write_entry(out, index, told.sent)
 }
 
-// Puts the last line of a board, without its number, at the front of the bytes, and answers how long it is.
+// Puts the last line of a board, without its number, at the beginning of the bytes, and answers how long it is.
 fn put_last(seat: &Seat, into: &mut [u8; 128]) -> usize
     requires { HasEventText seat.now }
     ensures bound { result ≤ 128 }

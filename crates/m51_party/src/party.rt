@@ -24,12 +24,12 @@ pub enum PartyEnd {
     Finished,
     /// An event has stopped at least one board, and the text is written.
     Stopped,
-    /// The sink has failed, and a front of the text is written.
+    /// The sink has failed, and a prefix of the text is written.
     WriteFault,
 }
 
 /// Boards on one serial line: a byte that one sends with a ninth bit arrives at the others four cycles later. Only
-/// `make` takes memory.
+/// `make` allocates.
 ///
 /// Source: own choice ("Party line").
 #[derive(Drop)]

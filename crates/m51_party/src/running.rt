@@ -26,7 +26,7 @@ fn step_at(seats: &mut [Seat], index: usize) -> Told
     seats[index].step(&further.frames[..further.count])
 }
 
-// All steps, of which each board performs at most `n`, with the lines of what they tell.
+// All steps, of which each board performs at most `n`, with the lines of what they report.
 fn write_steps<S: Sink>(seats: &mut [Seat], n: u32, out: &mut S) -> Result<(), Failed>
     requires party { (boards : List BoardState) × IsPartyOf boards seats.old }
     requires few { n ≤ MOST_STEPS }

@@ -53,7 +53,7 @@ impl Seat {
         }
     }
 
-    // One step, with these frames from the others, and what it tells.
+    // One step, with these frames from the others, and what it reports.
     pub(crate) fn step(&mut self, extra: &[Timed]) -> Told
         requires few { AreFew extra.now }
         requires steps { self.old.steps < MOST_STEPS }

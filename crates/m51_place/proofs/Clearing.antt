@@ -103,7 +103,7 @@ module _ (kind : Kind) (reloc : Reloc) (size : ℕ) (space : Space) (in_space : 
         let first : IsFirstClear extents kind reloc size base = h in
         sym (find_least (is_free conflicting kind reloc size) 65536 base below (clear_is_free base first.clear) (λ k less. not_free k (first.none k less)))
 
--- a segment without cells stands at the first base that fits
+-- a base of at most 32 at which a segment without cells fits
 pub record IsStart (kind : Kind) (reloc : Reloc) : Type 0 where
   pub base : ℕ
   pub low : base ≤ 32

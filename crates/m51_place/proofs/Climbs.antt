@@ -21,7 +21,7 @@ along_more l u more = sum_by-cons (λ (n : ℕ). n) (weight_of l u) (map (weight
 pub along_one : (l : LayoutParts) (u : ℕ) → weight_along l (u ∷ []) ≡ weight_of l u
 along_one l u = let none : weight_along l [] ≡ 0 = refl in omega (arith, along_more l u [], none)
 
--- at first each number is the bytes of the unit alone
+-- at first each number is the bytes of only its own unit
 pub reached_first : (l : LayoutParts) (weights : List ℕ) → AreWeights l weights → AreReached l weights
 reached_first l weights h = record { len = h.len; each = λ u below. record { more = []; walk = tt; bytes_are = h.each u below ∙ sym (along_one l u) } }
 

@@ -231,7 +231,7 @@ module _ (g : GraphParts) (kept : IsGraph g) (w : ℕ → ℕ) (low high : ℕ) 
           (λ e there conflict. apart_of t.segment.kind base size e.placed one.local.kind (out e there conflict));
     }
 
-    -- an extent of the front covers no byte of the run
+    -- an extent placed before the overlaid segments covers no byte of the run
     front_out : (base : ℕ) → low ≤ base → base + size ≤ high → (e : Numbered) → Contains front e → IsOut base size e.placed
     front_out base above ends e there at from below covers =
         let byte : ℕ = at / 8 in

@@ -55,7 +55,7 @@ module _ (g : GraphParts) (w : ℕ → ℕ) (low : ℕ) (top : ℕ → ℕ) (fre
     (under : (unit : ℕ) → root_number g unit < 7 → UnitLiesUnder g (get_or vectors (root_number g unit) 0) unit)
     (few : (unit : ℕ) → root_number g unit ≤ 7)
     (is_free : (unit : ℕ) → root_number g unit ≡ 7 → free unit ≡ true) where
-  -- a walk from the root above the unit to it, on which units before it weigh at least so much
+  -- a walk from the root above the unit to it, on which the units before it weigh at least `before`
   pub record IsWalked (unit before : ℕ) : Type 0 where
     pub root : ℕ
     pub more : List ℕ
@@ -95,7 +95,7 @@ module _ (g : GraphParts) (w : ℕ → ℕ) (low : ℕ) (top : ℕ → ℕ) (fre
             }
       ]
 
-  -- the walk goes on to a unit that is reached
+  -- the walk continues to a unit that is reached
   walk_on : (u v before : ℕ) → root_number g u ≡ root_number g v → Reaches g.edges u v → IsWalked u before → IsWalked v (before + w u)
   walk_on u v before same reach h =
       let later : List ℕ = reach.next ∷ reach.more in

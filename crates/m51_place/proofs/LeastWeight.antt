@@ -123,7 +123,7 @@ module _ (program : ProgramGraph) (placed : List Placed) (owners : ℕ → List 
         omega (arith, sum_by-cons (λ (x : Chain). x.bytes) c chains, bytes, weight_append c.units (all_units chains), all_bytes_are more chains chain.2)
   ]
 
-  -- a unit that owns a segment stands once in all chains
+  -- a unit that owns a segment occurs at most once in all chains
   once_in_all : (vs : List ℕ) (chains : List Chain) → Distinct vs → ChainsFrom program w vs chains → (n own : ℕ) → Contains (owners n) own → times own (all_units chains) ≤ 1
   once_in_all [] [] d h n own owns = omega arith
   once_in_all [] (c ∷ chains) d h n own owns = absurd h

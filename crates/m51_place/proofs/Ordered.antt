@@ -1,4 +1,5 @@
--- How two overlaid segments stand in the order: by the roots above their units, and then by the levels of those.
+-- Which of two overlaid segments comes first in the order: by the roots above their units, and then by the levels of
+-- those.
 use Rattle.std.proofs.Common.{◌≡◌, inl, inr, ℕ, ◌<◌, ◌≤◌, true, Bool, not, nat_eq, length, get_or, Option, Some, refl, sym, ap, subst, ◌∙◌, arith}
 use Rattle.std.specs.Prelude.{nat_lt}
 use Rattle.std.proofs.lemmas.Bool.{and_parts, cases_lt, false≢true}
@@ -36,7 +37,7 @@ pub record IsLocalData (g : GraphParts) (t : Ranked) (unit : ℕ) : Type 0 where
   pub class : t.rank.class ≡ Some DirectClass
   pub group : t.rank.group ≡ Overlaid (root_number g unit) (level_of g.edges unit)
 
--- how the unit of an earlier segment stands to that of a later one in conflict: under an earlier root, the same, one
+-- the unit of an earlier segment, compared with that of a later one in conflict: under an earlier root, the same, one
 -- that reaches it, or both under no root
 pub data Precedes (g : GraphParts) (u v : ℕ) : Type 0 where
   EarlierRoot : root_number g u < root_number g v → Precedes g u v

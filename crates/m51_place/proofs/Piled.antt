@@ -210,7 +210,7 @@ module _ (g : GraphParts) (kept : IsGraph g) (w : ℕ → ℕ) (low high : ℕ) 
         let f : Numbered → ℕ = unit_bytes g unit in
         omega (arith, total unit, ap (sum_by f) whole.are, sum_by-append f (front ++ done) whole.later, sum_by-append f front done)
 
-    -- what is placed in the end: the front, the overlaid segments, and then plain ones
+    -- what is placed in the end: the extents before the overlaid segments, these, and then plain ones
     pub record ArePiled : Type 0 where
       pub done : List Numbered
       pub others : List Numbered

@@ -55,7 +55,7 @@ put_is t (u ∷ more) =
           ∙ sym (ap (λ (n : ℕ). insert (u ∷ more) n t) (place_next p u more after))
     ]
 
--- the lowest bit of those that tell of roots
+-- the lowest of the bits that say under which roots a unit lies
 module _ (g : GraphParts) (unit : ℕ) where
   abbrev above : ℕ → Bool
   above vector = lies_under (leads g.edges) g.roots vector unit

@@ -98,7 +98,7 @@ ready segments controls g is all t h =
     let joined : IsJoined t.segment = joined_at IsJoined segments t.number t.segment all h.segment in
     record { inside = omega (arith, slice_get_within segments t.number t.segment h.segment, as_many_own segments controls g is); kind = joined.kind; reloc = joined.reloc }
 
--- how often a number stands among ranked and among extents
+-- how often a number occurs among ranked segments and among extents
 abbrev pub ranked_count : ℕ → Ranked → ℕ
 ranked_count m t = cond (nat_eq m t.number) 1 0
 
@@ -108,7 +108,7 @@ extent_count m e = cond (is_number m e) 1 0
 pub other_number : (m n : ℕ) → m ≢ n → nat_eq m n ≡ false
 other_number m n ne = elim (cases_Bool (nat_eq m n)) as (λ _. nat_eq m n ≡ false) [ inl e ↦ absurd (ne ((Decides-eqb m n).0 e)) | inr e ↦ e ]
 
--- of segments from a number on, each number stands once, among absolute ones or among ranked
+-- of segments from a number on, each number occurs once, among absolute ones or among ranked
 module _ (g : GraphParts) (controls : List (ℕ × Control)) (m : ℕ) where
   abbrev both : ℕ → List JoinedSegment → ℕ
   both number rest = sum_by (extent_count m) (absolutes_from number rest) + sum_by (ranked_count m) (ranked_from g controls number rest)
@@ -156,7 +156,7 @@ module _ (g : GraphParts) (controls : List (ℕ × Control)) (m : ℕ) where
         omega (arith, step number j more, here, once_from (number + 1) more (omega (arith, from, ne)) (omega (arith, below)))
   ]
 
--- each joined number stands once, among absolute segments or in the order
+-- each number of a joined segment occurs once, among absolute segments or in the order
 pub once : (g : GraphParts) (controls : List (ℕ × Control)) (segments : List JoinedSegment) (m : ℕ) → m < length segments
     → sum_by (extent_count m) (absolutes_from 0 segments) + sum_by (ranked_count m) (order_of g controls segments) ≡ 1
 once g controls segments m below =

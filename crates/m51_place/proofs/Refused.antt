@@ -1,4 +1,4 @@
--- L12 names an overlaid segment exactly where the run has fewer bytes than the weight.
+-- L12 names an overlaid segment exactly if the run has fewer bytes than the weight.
 use Rattle.std.proofs.Common.{◌≡◌, inl, inr, ℕ, ◌-◌, ◌<◌, true, false, Bool, cond, List, [], ◌∷◌, ◌++◌, length, Option, Some, None, Result, Ok, Err, refl, sym, ap, subst, ◌∙◌, arith}
 use Rattle.std.specs.Prelude.{is_some, option_map, slice_get}
 use Rattle.std.specs.Option.{option_map_or, option_or}

@@ -104,7 +104,7 @@ tail_pairs u more h i j d less below = h (suc i) (suc j) d (omega (arith, less))
 abbrev IsBelow : ℕ → Ranked → Type 0
 IsBelow number u = u.rank.number < number
 
--- an order that rises still does with one more, whose number is above all that are there
+-- an order that rises still does with one more, whose number is above all of its numbers
 put_rises : (t : Ranked) (order : List Ranked) → AllPairs Earlier order → All (IsBelow t.rank.number) order → AllPairs Earlier (put t order)
 put_rises t [] h below = AllPairs-cons Earlier t [] (All-nil (Earlier t)) h
 put_rises t (u ∷ more) h below =

@@ -61,7 +61,7 @@ use Rattle.m51_place.proofs.Tight.{not_bare, range_most, tally_range}
 use Rattle.m51_place.proofs.WalkWeights.{AreKeptApart, data_kind, is_data, of_unit}
 use Rattle.m51_place.proofs.Whole.{later_count, later_spots, two_counted}
 
--- what stands before the first overlaid segment, and the overlaid ones, are no more than the order
+-- the part before the first overlaid segment and the overlaid ones have together no more than the order
 parts_most : (f : Ranked → ℕ) (order : List Ranked) → sum_by f (before_overlaid order) + sum_by f (overlaid_in order) ≤ sum_by f order
 parts_most f [] = omega arith
 parts_most f (t ∷ more) = elim (is_some t.own) as (λ b. sum_by f (cond b [] (t ∷ before_overlaid more)) + sum_by f (cond b (t ∷ overlaid_in more) (overlaid_in more)) ≤ sum_by f (t ∷ more)) [
@@ -163,14 +163,14 @@ module _ (modules : List ModuleParts) (controls : List (ℕ × Control)) (g : Gr
       (All-append S front after.later first
       (later_spots g controls segments shape joined (overlaid_in order) after.later after.each (All-filter (λ (t : Ranked). is_some t.own) (IsRankedOf g segments) order ranked)))
 
-  -- what stands before the overlaid segments is plain
+  -- the extents placed before the overlaid segments are plain
   plain : All (λ (e : Numbered). own_of g e ≡ None) front
   plain =
       let P : Numbered → Type 0 = λ e. own_of g e ≡ None in
       let added = adds_plain g (before_overlaid order) fixed front (lone_before g segments order ranked) front_is in
       subst (λ (es : List Numbered). All P es) (sym added.are) (All-append P fixed added.later (fixed_bare g modules controls segments shape joined kept.each) added.plain)
 
-  -- no joined segment stands twice
+  -- no joined segment occurs twice
   few : (m : ℕ) → m < length segments → sum_by (extent_count m) located ≤ 1
   few m below =
       let f : Numbered → ℕ = extent_count m in

@@ -1,4 +1,4 @@
--- Where overlaid DATA comes to lie in a run of open bytes: at its low end, or on an earlier segment in conflict.
+-- Where overlaid DATA is placed in a run of open bytes: at its low end, or on an earlier segment in conflict.
 use Rattle.std.proofs.Common.{◌≡◌, inl, inr, ℕ, ◌+◌, ◌-◌, ◌*◌, ◌<◌, ◌≤◌, true, false, Bool, cond, not, ◌&&◌, List, [], ◌∷◌, ◌++◌, map, get_or, Some, refl, sym, ap, subst, ◌∙◌, arith}
 use Rattle.std.specs.Prelude.{filter}
 use Rattle.std.specs.List.{Contains, list_all}
@@ -152,7 +152,7 @@ module _ (g : GraphParts) (front done : List Numbered) (t : Ranked) (low high ba
       let below : c.at < 8 * lower + 8 * size = meet.2.below in
       (c.at, from, omega (arith, below), subst (λ (x : Cell). Covers (extent_at e.placed) x) same meet.1)
 
-  -- one of the front would cover the byte below, which is open
+  -- an extent placed before the overlaid segments would cover the byte below, which is open
   not_front : (e : Numbered) → low < base → Contains front e → Shared e → ⊥
   not_front e above there s =
       elim (cases_lt s.0 (8 * base)) as (λ _. ⊥) [

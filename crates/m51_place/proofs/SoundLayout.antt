@@ -152,7 +152,7 @@ module _ (segments : List JoinedSegment) (controls : List (ℕ × Control)) (g :
   abbrev l : LayoutParts
   l = parts_of g located
 
-  -- the extent that stands at a place
+  -- the extent at an index
   record Stands (s : ℕ) (p : Placed) : Type 0 where
     e : Numbered
     at : slice_get located s ≡ Some e

@@ -1,4 +1,4 @@
--- The order, split at its first overlaid segment, and what stands before that.
+-- The order, split at its first overlaid segment, and the part before that.
 use Rattle.std.proofs.Common.{◌≡◌, inl, inr, ℕ, ◌+◌, true, false, Bool, cond, List, [], ◌∷◌, ◌++◌, Option, Some, None, Ok, refl, sym, ap, subst, ◌∙◌, arith}
 use Rattle.std.specs.Prelude.{is_some}
 use Rattle.std.specs.Option.{option_map_or}
@@ -82,7 +82,7 @@ lone_before g segments (t ∷ more) h =
           (All-cons (IsPlain g) t (before_overlaid more) (sym here.own ∙ no_own t.own none) rest)
     ]
 
--- placing goes on after the first of an order
+-- placing continues after the first segments of an order
 pub place_on : (g : GraphParts) (first later : List Ranked) (earlier between located : List Numbered) → place_after g earlier first ≡ Ok between → place_after g earlier (first ++ later) ≡ Ok located → place_after g between later ≡ Ok located
 place_on g [] later earlier between located h k = let same : earlier ≡ between = cc h in subst (λ (es : List Numbered). place_after g es later ≡ Ok located) same k
 place_on g (t ∷ more) later earlier between located h k =

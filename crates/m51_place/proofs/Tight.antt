@@ -143,7 +143,7 @@ module _ (modules : List ModuleParts) (controls : List (ℕ × Control)) (g : Gr
       place_on g (before_overlaid order) (from_overlaid order) fixed finds.extents located finds.placed
       (subst (λ (ts : List Ranked). place_after g fixed ts ≡ Ok located) (split order) rules.1)
 
-  -- what stands before it is plain
+  -- the extents placed before it are plain
   front_plain : All (λ (e : Numbered). own_of g e ≡ None) finds.extents
   front_plain =
       let added = adds_plain g (before_overlaid order) fixed finds.extents (lone_before g segments order (order_ranked g controls segments)) finds.placed in

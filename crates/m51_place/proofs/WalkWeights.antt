@@ -64,7 +64,7 @@ in_line edges u (v ∷ more) a b walk p q = elim (first_or_behind u (v ∷ more)
   ]
 ]
 
--- how often a unit stands in a list
+-- how often a unit occurs in a list
 abbrev pub times : ℕ → List ℕ → ℕ
 times own [] = 0
 times own (u ∷ us) = one_if (nat_eq u own) + times own us
@@ -83,7 +83,7 @@ present own (u ∷ us) h = elim (cases_Bool (nat_eq u own)) as (λ _. Contains (
   | inr other ↦ let zero_is : one_if (nat_eq u own) ≡ 0 = ap one_if other in contains_behind u us own (present own us (omega (arith, h, zero_is)))
 ]
 
--- a unit of a walk stands in it once
+-- a unit occurs at most once in a walk
 pub once_in_walk : (edges : Edges) → ((u : ℕ) → Reaches edges u u → ⊥) → (u : ℕ) (more : List ℕ) (own : ℕ) → IsWalk edges u more → times own (u ∷ more) ≤ 1
 once_in_walk edges no_cycle u [] own walk = elim (nat_eq u own) as (λ b. one_if b + 0 ≤ 1) [ true ↦ omega arith | false ↦ omega arith ]
 once_in_walk edges no_cycle u (v ∷ more) own walk = elim (cases_Bool (nat_eq u own)) as (λ _. times own (u ∷ v ∷ more) ≤ 1) [
@@ -95,7 +95,7 @@ once_in_walk edges no_cycle u (v ∷ more) own walk = elim (cases_Bool (nat_eq u
   | inr other ↦ let zero_is : one_if (nat_eq u own) ≡ 0 = ap one_if other in omega (arith, zero_is, once_in_walk edges no_cycle v more own walk.1)
 ]
 
--- the first of the owners of a segment, if it stands in a list of units
+-- how often the first of the owners of a segment occurs in a list of units
 abbrev pub own_times : List ℕ → List ℕ → ℕ
 own_times units [] = 0
 own_times units (own ∷ others) = times own units
@@ -261,7 +261,7 @@ module _ (p : ProgramGraph) (placed : List Placed) (owners : ℕ → List ℕ) (
         let joined = sum_le (λ n e. first n e + of_units us n e) (of_units (u ∷ us)) placed 0 placed (items_start placed) (λ n e at. split u us n e) in
         omega (arith, sum_by-cons (λ (n : ℕ). n) (w u) (map w us), weighs u, sum_add first (of_units us) 0 placed, along us, joined)
 
-    -- units of which each two are related, and of which none that owns a segment stands twice
+    -- units of which each two are related, and of which none that owns a segment occurs twice
     module _ (units : List ℕ) (once : (n own : ℕ) → Contains (owners n) own → times own units ≤ 1) (related : (a b : ℕ) → Contains units a → Contains units b → AreRelated p a b) where
       abbrev of_list : ℕ → Bool
       of_list n = nat_lt 0 (own_times units (owners n))

@@ -17,7 +17,7 @@ use Rattle.m51_module.specs.Cells.{extent_at}
 pub record IsApart (cells : Extent) (p : Placed) : Type 0 where
   pub none : Meet (extent_at p) cells → ⊥
 
--- a segment of the kind, type and size fits at the base, and shares no cell with an extent that stands in its way
+-- a segment of the kind, type and size fits at the base, and shares no cell with an extent in conflict with it
 pub record IsFree (conflicting : List Placed) (kind : Kind) (reloc : Reloc) (size base : ℕ) : Type 0 where
   pub fits : Fits kind reloc base size
   pub apart : All (IsApart (extent_of kind base size)) conflicting

@@ -6,7 +6,7 @@ use Rattle.m51_module.specs.declared.parts.LayoutParts.{LayoutParts}
 use Rattle.m51_module.specs.Chains.{weight_along, weight_of}
 use Rattle.m51_module.specs.Walks.{Edges, HasEdge, IsWalk}
 
--- a walk from the unit has so many bytes
+-- a walk from the unit has `bytes` bytes
 pub record HasWalk (l : LayoutParts) (unit bytes : ℕ) : Type 0 where
   pub more : List ℕ
   pub walk : IsWalk l.edges unit more
@@ -45,19 +45,19 @@ Lifts l u v old new true =
     × (new ≡ slice_set old u (weight_of l u + slice_index old v))
 Lifts l u v old new false = (weight_of l u + slice_index old v ≤ slice_index old u) × (new ≡ old)
 
--- the next unit of the heaviest walk: the least of those to which an edge leads and from which the rest of the bytes
--- can be had
+-- the next unit of the heaviest walk: the least of those to which an edge leads and whose heaviest walk has the rest of
+-- the bytes
 pub record IsNext (l : LayoutParts) (best : List ℕ) (u v : ℕ) : Type 0 where
   pub edge : HasEdge l.edges u v
   pub rest : weight_of l u + slice_index best v ≡ slice_index best u
   pub least : (w : ℕ) → w < v → HasEdge l.edges u w → weight_of l u + slice_index best w ≢ slice_index best u
 
--- the walk that goes on from the unit as long as more bytes can be had
+-- the walk from the unit that is extended as long as that adds bytes
 abbrev pub GoesOn : LayoutParts → List ℕ → ℕ → List ℕ → Type 0
 GoesOn l best u [] = slice_index best u ≡ weight_of l u
 GoesOn l best u (v ∷ more) = (slice_index best u ≢ weight_of l u) × IsNext l best u v × GoesOn l best v more
 
--- the edge leaves the unit, and leads to one from which the rest of its bytes can be had
+-- the edge leads from the unit to one whose heaviest walk has the rest of its bytes
 pub record LeadsOn (weights best : List ℕ) (unit : ℕ) (edge : ℕ × ℕ) : Type 0 where
   pub from : edge.0 ≡ unit
   pub rest : slice_index weights unit + slice_index best edge.1 ≡ slice_index best unit
@@ -74,7 +74,7 @@ IsLeastOn done weights best unit (Some v) =
     Contains done (unit, v) × LeadsOn weights best unit (unit, v)
     × ((w : ℕ) → Contains done (unit, w) → LeadsOn weights best unit (unit, w) → v ≤ w)
 
--- the walk ends in the unit, or goes on to the next
+-- the walk ends in the unit, or continues to the next
 abbrev pub Steps : LayoutParts → List ℕ → ℕ → Option ℕ → Type 0
 Steps l best unit None = slice_index best unit ≡ weight_of l unit
 Steps l best unit (Some v) = (slice_index best unit ≢ weight_of l unit) × IsNext l best unit v

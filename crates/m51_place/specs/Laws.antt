@@ -16,17 +16,17 @@ use Rattle.m51_place.specs.Bases.{HasNoBase, IsLeastBase, least_base, share}
 use Rattle.m51_place.specs.Conflicts.{in_conflict}
 use Rattle.m51_place.specs.Order.{comes_before, order_of, ranked_from}
 
--- two extents are decided to share a cell exactly where they do
+-- two extents are decided to share a cell exactly if they do
 abbrev pub SharingIsMeeting : Type 0
 SharingIsMeeting = (a b : Extent) → (share a b ≡ true) ↔ Meet a b
 
--- the least base is the least of all that are free, and there is none exactly where none is
+-- the least base is the least of all that are free; it is `None` exactly if no base is free
 abbrev pub LeastIsLeast : Type 0
 LeastIsLeast = (others : List Placed) (kind : Kind) (reloc : Reloc) (size : ℕ)
     → MatchOption (least_base others kind reloc size) (HasNoBase others kind reloc size)
     (λ base. IsLeastBase others kind reloc size base)
 
--- in a graph two different joined segments are decided to be in conflict exactly where they are
+-- in a graph two different joined segments are decided to be in conflict exactly if they are
 abbrev pub ConflictIsConflict : Type 0
 ConflictIsConflict = (g : GraphParts) (s t : ℕ) → IsGraph g → s ≢ t
     → (in_conflict g s t ≡ true) ↔ SegmentsConflict g s t

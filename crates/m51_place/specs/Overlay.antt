@@ -144,7 +144,7 @@ pub record ExceedsRun (g : GraphParts) (fixed : List Numbered) (order : List Ran
   pub before : PlacesBefore g fixed order
   pub exceeds : high - low < weight
 
--- Where overlaid segments are of DATA only and find one run, L12 names one of them exactly where the weight exceeds the
+-- Where overlaid segments are of DATA only and find one run, L12 names one of them exactly if the weight exceeds the
 -- length of the run, and neither L9 comes nor L12 for a segment before them.
 abbrev pub OverlayRefused : Type 0
 OverlayRefused = (modules : List ModuleParts) (controls : List (ℕ × Control)) (g : GraphParts) (low high weight : ℕ)

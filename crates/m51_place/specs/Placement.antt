@@ -98,7 +98,7 @@ located_of modules controls g =
     let fixed : List Numbered = fixed_of modules controls (segments_of modules) in
     unless (shared_extents fixed) (place_after g fixed (order_of g controls (segments_of modules)))
 
--- the layout of these extents, and the index among them of each of so many joined segments
+-- the layout of these extents, and the index among them of each of `count` joined segments
 abbrev pub placing_with : GraphParts → ℕ → List Numbered → Placing
 placing_with g count located =
     record { layout = parts_of g located; places = map (place_of located) (range_with_len 0 count) }

@@ -109,7 +109,7 @@ fn best_of(alloc: Global, layout: &Layout, weights: &[u32]) -> Result<Vec<u32>, 
     Ok(best)
 }
 
-// Whether the edge leaves the unit, and leads to one from which the rest of its bytes can be had.
+// Whether the edge leads from the unit to one whose heaviest walk has the rest of its bytes.
 fn leads_on(weights: &[u32], best: &[u32], unit: u16, edge: (u16, u16)) -> bool
     requires weight { unit < length weights.now }
     requires unit { unit < length best.now }
@@ -148,7 +148,7 @@ fn least_on(layout: &Layout, weights: &[u32], best: &[u32], unit: u16) -> Option
     found
 }
 
-// The unit to which the heaviest walk from this one goes on; none where it ends.
+// The next unit of the heaviest walk from this one; `None` where the walk ends here.
 fn step(layout: &Layout, weights: &[u32], best: &[u32], unit: u16) -> Option<u16>
     requires sound { IsSound layout.now }
     requires weights { AreWeights layout.now weights.now }

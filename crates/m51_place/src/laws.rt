@@ -39,7 +39,7 @@ pub fn overlay_fits()
     ensures { OverlayFits }
 {}
 
-/// Under the same condition L12 names an overlaid segment exactly where the weight of the graph exceeds the length of
+/// Under the same condition L12 names an overlaid segment exactly if the weight of the graph exceeds the length of
 /// that run, and neither L9 comes nor L12 for a segment before the overlaid ones.
 ///
 /// Source: own choice ("Heaviest chains").
@@ -62,7 +62,7 @@ pub fn sharing_is_meeting()
     ensures { SharingIsMeeting }
 {}
 
-/// The base of the definition is free, and no smaller one is; there is none exactly where no base is free.
+/// The base of the definition is free, and no smaller one is; it is `None` exactly if no base is free.
 ///
 /// Source: RL51 guide.
 pub fn least_is_least()

@@ -56,7 +56,7 @@ fn places_of(alloc: Global, located: &[Numbered], numbers: &[u16]) -> Result<Vec
     Ok(places)
 }
 
-// The indexes of so many joined segments.
+// The indexes of the extents of the first `count` joined segments.
 pub(crate) fn places(
     alloc: Global,
     located: &[Numbered],

@@ -7,7 +7,7 @@ use crate::Numbered;
 use crate::bases::{cells, shares};
 use m51_module::Refusal;
 
-// The place of the first of these extents that the next one meets.
+// The index of the first earlier extent that shares a cell with this one.
 fn first_met(earlier: &[Numbered], extent: &Numbered) -> Option<usize>
     ensures place { result ≡ first_met earlier.now extent.now }
     ensures inside { IfSome result (λ place. place < length earlier.now) }

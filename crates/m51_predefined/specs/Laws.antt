@@ -19,12 +19,12 @@ pub record IsFree (name : List ℕ) : Type 0 where
 abbrev pub NamesAreFree : Type 0
 NamesAreFree = All (λ r. IsFree r.name) (registers ++ bits)
 
--- each row is what its name stands for
+-- the name of each row has the value of the row
 pub record RowsAreRead : Type 0 where
   pub register : All (λ r. predefined_of r.name ≡ Some (plain r.address kind.Direct)) registers
   pub bit : All (λ r. predefined_of r.name ≡ Some (plain r.address kind.Bits)) bits
 
--- a reserved word, as AR0, stands for nothing here
+-- a reserved word, as AR0, is not predefined
 abbrev pub ReservedStandForNothing : Type 0
 ReservedStandForNothing = (word : List ℕ) → is_reserved word ≡ true → predefined_of word ≡ None
 

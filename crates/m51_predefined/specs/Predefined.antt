@@ -1,4 +1,4 @@
--- What names stand for before any definition of a module.
+-- The values of names before any definition of a module.
 use Rattle.std.specs.Prelude.{ℕ, ◌+◌, ◌*◌, List, Option, Some, None, option_map, position}
 use Rattle.std.specs.Str.{bytes_eq}
 use Rattle.m51_cells.specs.declared.kind.Kind.TheVariants as kind

@@ -1,4 +1,4 @@
--- Blanks, digits and lines at their places.
+-- Blanks, digits and lines in their columns.
 use Rattle.std.proofs.Common.{◌≡◌, ℕ, ◌+◌, ◌-◌, ◌*◌, List, [], ◌∷◌, ◌++◌, length, sym, ap, ◌∙◌, append_assoc, arith}
 use Rattle.std.specs.Prelude.{flat_map, Result, Ok, Err, OnOk}
 use Rattle.std.proofs.lemmas.List.{replicate-append-replicate, get_or-map}
@@ -14,7 +14,7 @@ pub digit_count : (bytes : List ℕ) → length (flat_map hex2 bytes) ≡ 2 * le
 digit_count [] = omega arith
 digit_count (byte ∷ bytes) = omega (arith, digit_count bytes)
 
--- digits and then blanks are left in their places
+-- digits and then blanks are left-aligned in their columns
 pub in_places : (before bytes : List ℕ) → (before ++ flat_map hex2 bytes) ++ blanks (6 - 2 * length bytes) ≡ before ++ left_in 6 (flat_map hex2 bytes)
 unfolding left_in
 in_places before bytes =

@@ -1,4 +1,4 @@
--- Numbers in a row, one more at a time.
+-- Ranges of consecutive numbers, longer by one number at a time.
 use Rattle.std.proofs.Common.{◌≡◌, ℕ, suc, ◌+◌, Bool, true, false, cond, List, [], ◌∷◌, ◌++◌, map, ap, sym, ◌∙◌, arith}
 use Rattle.std.specs.Prelude.{flat_map, count_by}
 use Rattle.std.specs.List.{filter, range_with_len}

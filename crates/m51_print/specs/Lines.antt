@@ -1,4 +1,4 @@
--- The lines of a record. Titles are those of the placed extents, in order.
+-- The lines of a trace. Titles are those of the placed extents, in order.
 use Rattle.std.specs.Prelude.{ℕ, ◌<◌, ◌/◌, ◌%◌, true, false, Bool, List, [], ◌++◌, map, Option, Some, None, codes}
 use Rattle.std.specs.List.{slice_index_or}
 use Rattle.std.specs.Fmt.{decimal}
@@ -64,7 +64,7 @@ event_text titles (Unwritten cell segment at) =
 event_text titles (Reserved at) = codes "EVENT V4 AT " ++ hex4 at
 event_text titles (PowerDown at) = codes "EVENT V5 AT " ++ hex4 at
 
--- what an event names has a text, where so many extents are placed
+-- what an event names has a text, where `count` extents are placed
 abbrev pub HasText : ℕ → Event → Type 0
 HasText count (Transfer why leaves target) = Unit {0}
 HasText count (Outside cell at) = IsDataCell cell
@@ -76,7 +76,7 @@ HasText count (PowerDown at) = Unit {0}
 abbrev pub counts_text : ℕ → ℕ → List ℕ
 counts_text steps cycles = decimal steps ++ codes " STEPS " ++ decimal cycles ++ codes " CYCLES\n"
 
--- the last line of a record, with the event that stopped it, if one did
+-- the last line of a trace, with the event that stopped the run, if one did
 abbrev pub last_line : List (List ℕ) → Option Event → ℕ → ℕ → List ℕ
 last_line titles None steps cycles = codes "END " ++ counts_text steps cycles
 last_line titles (Some event) steps cycles = event_text titles event ++ codes " AFTER " ++ counts_text steps cycles

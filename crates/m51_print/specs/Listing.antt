@@ -8,15 +8,15 @@ use Rattle.std.specs.Str.Lines.{lines}
 use Rattle.m51_module.specs.declared.source.Row.{Row}
 use Rattle.m51_module.specs.declared.source.SourceFile.{SourceFile}
 
--- so many blanks
+-- `count` blanks
 abbrev pub blanks : ℕ → List ℕ
 blanks count = replicate count 32
 
--- a text right in so many places, and whole where it is longer
+-- a text right-aligned in `places` columns, and whole where it is longer
 unfoldable pub right_in : ℕ → List ℕ → List ℕ
 right_in places text = blanks (places - length text) ++ text
 
--- a text left in so many places
+-- a text left-aligned in `places` columns
 unfoldable pub left_in : ℕ → List ℕ → List ℕ
 left_in places text = text ++ blanks (places - length text)
 
@@ -60,7 +60,7 @@ listed_row files row = row_line row (line_text files row)
 unfoldable pub listing_of : SourceFile → List SourceFile → List Row → List ℕ
 listing_of source includes rows = flat_map (listed_row (lines_of_files source includes)) rows
 
--- a row names a file that is given and a line that is there, and has 0 to 3 bytes
+-- a row names a given file and a line of it, and has 0 to 3 bytes
 pub record IsRowOf (files : List (List (List ℕ))) (row : Row) : Type 0 where
   pub file : row.file < length files
   pub first : 0 < row.line

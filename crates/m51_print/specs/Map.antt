@@ -16,7 +16,7 @@ use Rattle.m51_module.specs.Roots.{vectors}
 use Rattle.m51_module.specs.Walks.{Edges, has_edge}
 use Rattle.m51_print.specs.Lines.{titles_of, title_of}
 
--- a kind, left in 5 places; what has no kind has no word
+-- the word of a kind, left-aligned in 5 columns; NUMBER has none
 abbrev pub kind_text : Kind → List ℕ
 kind_text Code = codes "CODE "
 kind_text Xdata = codes "XDATA"
@@ -106,7 +106,7 @@ overlaid_line placed = codes "OVERLAID " ++ decimal (overlaid_below placed 256) 
 abbrev pub image_line : ℕ → List ℕ
 image_line bytes = codes "IMAGE " ++ decimal bytes ++ codes " BYTES\n"
 
--- the lines of so many units, from the first
+-- the lines of the first `count` units
 unfoldable pub unit_lines : LayoutParts → List ℕ → ℕ → List ℕ
 unit_lines l roots count = flat_map (line_of_unit l roots) (range_with_len 0 count)
 

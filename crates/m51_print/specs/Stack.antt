@@ -1,4 +1,4 @@
--- The stack bound of a program, and why it has none. A unit is told by its title.
+-- The stack bound of a program, and why it has none. Units are printed by title.
 use Rattle.std.specs.Prelude.{ℕ, ◌<◌, List, [], ◌++◌, codes, All, map, flat_map, length}
 use Rattle.std.specs.Fmt.{decimal}
 use Rattle.m51_cells.specs.Hex.{hex2, hex4}

@@ -1,4 +1,4 @@
-//! The texts that a command writes: listing, map, lines of a record, summary, stack bound, and refusals.
+//! The texts that a command writes: listing, map, lines of a trace, summary, stack bound, and refusals.
 #![tactic(auto)]
 
 mod lines;

@@ -1,4 +1,4 @@
-//! The lines of a record: one for each entry, and the last one.
+//! The lines of a trace: one for each entry, and the last one.
 ghost use Rattle.std.specs.Prelude.{◌≡◌, ◌≤◌, ◌+◌, ◌++◌, ◌<◌, length, take, option_copied};
 ghost use Rattle.std.specs.Option.{ForSome};
 ghost use Rattle.m51_cells.specs.Cells.{IsDataCell};
@@ -9,7 +9,7 @@ use crate::putting::{put, put_decimal, put_digit, put_hex2, put_hex4};
 use m51_cells::{Cell, Entry, Event, Space, Why};
 use m51_module::Placed;
 
-/// Writes the line of an entry into the front of the array, and answers its length, line feed included.
+/// Formats the line of an entry at the start of the array, and returns its length, line feed included.
 ///
 /// Source: own choice ("Texts").
 pub fn trace_line(entry: &Entry, into: &mut [u8; 128]) -> usize
@@ -89,7 +89,7 @@ fn title_of(placed: &[Placed], segment: u16) -> &[u8]
     placed[usize::from(segment)].title.bytes()
 }
 
-// Puts an event at the front of the line.
+// Formats an event at the start of the line, and returns its length.
 fn put_event(into: &mut [u8; 128], event: &Event, placed: &[Placed]) -> usize
     requires { HasText (length placed.now) event.now }
     ensures bound { result ≤ 60 }
@@ -145,7 +145,7 @@ fn put_counts(into: &mut [u8; 128], at: usize, steps: u32, cycles: u64) -> usize
     put(into, at, b" CYCLES\n")
 }
 
-/// Writes the last line of a record into the front of the array, and answers its length, line feed included. The
+/// Formats the last line of a trace at the start of the array, and returns its length, line feed included. The
 /// segment of an event is one of the placed extents, and its cell one of internal RAM or of external data memory.
 ///
 /// Source: own choice ("Texts").

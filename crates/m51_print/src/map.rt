@@ -11,7 +11,7 @@ use m51_cells::{Kind, Name, NoMemory};
 use m51_module::{Chain, Layout, Mark, Placed};
 use std::alloc::Global;
 
-// A kind, left in 5 places. No placed extent is a number.
+// The word of a kind, left-aligned in 5 columns. No placed extent is a number.
 fn kind_text(kind: Kind) -> &'static [u8]
     ensures { result.now ≡ kind_text kind }
 {

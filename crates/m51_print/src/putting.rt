@@ -5,7 +5,7 @@ ghost use Rattle.m51_cells.specs.Hex.{hex2, hex4};
 
 use m51_cells::{hex2, hex4};
 
-/// Puts the bytes after the first `at` of the line, and answers where they end.
+/// Puts the bytes after the first `at` of the line, and returns where they end.
 pub(crate) fn put(into: &mut [u8; 128], at: usize, bytes: &[u8]) -> usize
     requires { at + length bytes.now ≤ 128 }
     ensures end { result ≡ at + length bytes.now }
@@ -16,7 +16,7 @@ pub(crate) fn put(into: &mut [u8; 128], at: usize, bytes: &[u8]) -> usize
     end
 }
 
-// The front of the number first: its last digit is the one that is left.
+// Writes the digits of the number, its last one after those of the number divided by 10.
 #[tactic(auto, using(std::proofs::lemmas::Fmt::decimal_digit))]
 fn put_digits(into: &mut [u8; 128], at: usize, number: u64) -> usize
     requires { at + length (decimal number) ≤ 128 }
@@ -30,7 +30,7 @@ fn put_digits(into: &mut [u8; 128], at: usize, number: u64) -> usize
     put(into, front, &[b'0' + (number % 10) as u8])
 }
 
-/// Puts a number in decimal, which takes up to 20 digits.
+/// Puts a number in decimal, which has up to 20 digits.
 pub(crate) fn put_decimal(into: &mut [u8; 128], at: usize, number: u64) -> usize
     requires { at + 20 ≤ 128 }
     ensures bound { result ≤ at + 20 }

@@ -47,7 +47,7 @@ fn quantity_word(what: Quantity) -> &'static [u8]
     }
 }
 
-// How many there may be.
+// The number of a limit.
 fn most_of(what: Quantity) -> usize
     ensures { result ≡ most_of what }
 {
@@ -115,7 +115,7 @@ fn push_shared(text: &mut Vec<u8>, unit: &Name, one: &Name, two: &Name) -> Resul
     push_name(text, two)
 }
 
-// Appends the segment of the field whose fixup fails, and the field's place in it.
+// Appends the segment of the field whose fixup fails, and the field's offset in it.
 fn push_field(text: &mut Vec<u8>, name: &Name, offset: u16) -> Result<(), NoMemory>
     ensures { OnOk result (text.new.items ≡ text.old.items ++ refusal_words (Refusal.L13 name.now offset)) }
 {

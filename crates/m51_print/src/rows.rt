@@ -10,7 +10,7 @@ use crate::putting::put_decimal;
 use m51_cells::NoMemory;
 use m51_module::Row;
 
-// Appends so many blanks.
+// Appends `count` blanks.
 #[tactic(auto, using(crate::proofs::Columns::blanks_more))]
 fn push_blanks(text: &mut Vec<u8>, count: usize) -> Result<(), NoMemory>
     ensures { OnOk result (text.new.items ≡ text.old.items ++ blanks count) }
@@ -21,7 +21,7 @@ fn push_blanks(text: &mut Vec<u8>, count: usize) -> Result<(), NoMemory>
     Ok(())
 }
 
-// Appends a word right in 5 places, and a longer one whole.
+// Appends a word right-aligned in 5 columns, and a longer one whole.
 #[tactic(auto, unfolding(crate::specs::Listing::right_in))]
 fn push_right(text: &mut Vec<u8>, word: &[u8]) -> Result<(), NoMemory>
     ensures { OnOk result (text.new.items ≡ text.old.items ++ right_in 5 word.now) }
@@ -59,7 +59,7 @@ fn push_digits(text: &mut Vec<u8>, bytes: &[u8]) -> Result<(), NoMemory>
     Ok(())
 }
 
-// Appends up to three bytes, left in 6 places.
+// Appends up to three bytes, left-aligned in 6 columns.
 fn push_content(text: &mut Vec<u8>, bytes: &[u8]) -> Result<(), NoMemory>
     requires { length bytes.now ≤ 3 }
     ensures { OnOk result (text.new.items ≡ text.old.items ++ left_in 6 (flat_map hex2 bytes.now)) }

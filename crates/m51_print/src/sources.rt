@@ -80,12 +80,13 @@ fn push_rows(text: &mut Vec<u8>, files: &[Vec<&[u8]>], rows: &[Row]) -> Result<(
     Ok(())
 }
 
-/// The listing of a source: a line for each row, which ends in a line feed. It has the number of the row's line right
-/// in 5 places, the place in four hexadecimal digits or 4 blanks, the bytes that count left in 6 places, `*` where a
-/// fixup lies in the statement, and the text of the line; a blank follows the number, the place and the sign.
+/// The listing of a source: a line for each row, which ends in a line feed. It has the number of the row's line
+/// right-aligned in 5 columns, the place in four hexadecimal digits or 4 blanks, the bytes that count left-aligned in 6
+/// columns, `*` where a fixup lies in the statement, and the text of the line; a blank follows the number, the place
+/// and the sign.
 ///
-/// A row of file 0 is of the source, a row of file `k` of the `k`-th include. Condition: each row names a file that is
-/// given and a line that is there, and has 0 to 3 bytes. Error: out of memory.
+/// A row of file 0 is of the source, a row of file `k` of the `k`-th include. Condition: each row names a given file
+/// and a line of it, and has 0 to 3 bytes. Error: out of memory.
 ///
 /// Source: own choice ("Listing").
 #[tactic(auto, unfolding(crate::specs::Listing::listing_of))]

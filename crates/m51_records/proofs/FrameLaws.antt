@@ -25,7 +25,7 @@ eqb_false m n ne = cases (eqb m n) refl where
   cases true e = absurd (ne (eqb-true m n e))
   cases false e = refl
 
--- front, checksum and what follows
+-- what was summed, its checksum and the bytes after the record
 summed_takes : (total number : ℕ) (front rest : List ℕ) (x : Framed) → summed total number front rest ≡ Ok x → (rest ≡ checksum_of front ∷ x.1) × (x.0 ≡ drop 3 front)
 summed_takes total number front [] x e = absurd cc
 summed_takes total number front (found ∷ after) x e =

@@ -13,7 +13,7 @@ latest_push xs x =
     ∙ ap Some (ap (λ k. get_or (xs ++ x ∷ []) k x) n ∙ get_or-append_seam xs x [] x)
 
 module _ {X : Type 0} (R : X → X → Type 0) (x : X) where
-  -- the last, if there is one, stands so to the new one
+  -- the last item, if there is one, is in the relation to the new one
   abbrev pub Follows : Option X → Type 0
   Follows None = Unit {0}
   Follows (Some last) = R last x

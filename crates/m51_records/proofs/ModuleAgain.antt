@@ -127,7 +127,7 @@ one_front m n x y v w e =
     let both : (m, x) ≡ (n, y) = ok_is (m, x) (n, y) (sym (module_again m x 0 0 v) ∙ ap (module_at 0 0) e ∙ module_again n y 0 0 w) in
     (ap (λ (p : ModuleParts × List ℕ). p.0) both, ap (λ (p : ModuleParts × List ℕ). p.1) both)
 
--- the same, for the front of a file
+-- the same for a file that begins with the bytes of a module
 pub read_again : (m : ModuleParts) (bytes rest : List ℕ) → IsValid m → bytes ≡ bytes_of m ++ rest → read_of bytes ≡ Ok (m, length (bytes_of m))
 read_again m bytes rest v is =
     let found : module_at (length bytes) 0 bytes ≡ Ok (m, rest) = ap (module_at (length bytes) 0) is ∙ module_again m rest (length bytes) 0 v in

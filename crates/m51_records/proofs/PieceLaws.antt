@@ -142,7 +142,7 @@ lies_to q p (Touching same meets long) =
     let room : eqb (length q.bytes) (p.offset - q.offset) ≡ true = eq-eqb (length q.bytes) (p.offset - q.offset) (omega (arith, meets)) in
     passes_same q p same (ap (λ b. cond b (eqb (length q.bytes) 1024) (nat_lt (length q.bytes) (p.offset - q.offset))) room ∙ eq-eqb (length q.bytes) 1024 long)
 
--- the order goes on from piece to piece, as each has a byte
+-- the order of pieces is transitive, as each has a byte
 pub lies_chain : (p q r : Piece) → 0 < length q.bytes → LiesBefore p q → LiesBefore q r → LiesBefore p r
 lies_chain p q r some (EarlierSegment a) (EarlierSegment b) = EarlierSegment (omega (arith, a, b))
 lies_chain p q r some (EarlierSegment a) (Apart e b) = EarlierSegment (omega (arith, a, e))

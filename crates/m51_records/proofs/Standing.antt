@@ -7,7 +7,7 @@ use Rattle.m51_frame.specs.Fields.{◌>>=◌, refusal_of}
 use Rattle.m51_frame.specs.Frame.{begins, record_at, checksum_place}
 use Rattle.m51_records.specs.Reading.{Reader, one_at, many_at}
 
--- a loop that has read some records stands where reading the rest gives the whole
+-- invariant of the loop that reads records of one type: with the records read before, reading the rest gives the whole
 pub record Stands {X : Type 0} (type : ℕ) (read : List X → Reader X) (total number : ℕ) (before : List X) (rest : List ℕ) (whole : Result (List X × List ℕ) ObjError) : Type 0 where
   pub most : ℕ
   pub enough : length rest ≤ most
@@ -77,8 +77,8 @@ refused e part whole h r = h e r
 pub length_push : {X : Type 0} (xs : List X) (x : X) → length (xs ++ x ∷ []) ≡ length xs + 1
 length_push xs x = simp length-append (omega arith)
 
--- What the loops of the code know: the test that a record comes, the record's number and end, and the items so far as they
--- were lent. The first record of the section has the first number.
+-- What the loops of the code know: the test that a record comes, the record's number and end, and the borrowed items so
+-- far. The first record of the section has the first number.
 module _ {X : Type 0} (type : ℕ) (read : List X → Reader X) (total first : ℕ) (before : List X) (rest : List ℕ) (whole : Result (List X × List ℕ) ObjError)
     (comes : Bool) (is : comes ≡ begins type rest) (at : ℕ) (at_is : at ≡ first + length before) where
   pub frame_stops : (e : ObjError) → Stands type read total (first + length before) before rest whole → comes ≡ true

@@ -44,7 +44,7 @@ pub ended_ok : {A : Type 0} (end : ℕ) (rest : List ℕ) (x y : A) → ended en
 ended_ok end [] x y e = (refl, ok_is x y e)
 ended_ok end (b ∷ rest) x y e = absurd cc
 
--- a list grows by one, or is a front
+-- lists that are longer by one item, and prefixes of lists
 module _ {X : Type 0} where
   single : (P : X → Type 0) (x : X) → P x → All P (x ∷ [])
   single P x h zero d below = h

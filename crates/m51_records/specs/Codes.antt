@@ -1,4 +1,4 @@
--- The numbers that stand for kinds, types and forms in records (this project's own).
+-- The numbers of kinds, types and forms in records (own choice).
 use Rattle.std.specs.Prelude.{ℕ, List, [], ◌∷◌, Option, slice_get}
 use Rattle.m51_cells.specs.declared.kind.Kind.{Kind}
 use Rattle.m51_cells.specs.declared.kind.Kind.TheVariants.{Code, Xdata, Direct, Idata, Bits, Number}

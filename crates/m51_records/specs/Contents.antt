@@ -18,12 +18,12 @@ piece_contents p = p.segment ∷ (pair p.offset ++ p.bytes)
 abbrev pub latest : {X : Type 0} → List X → Option X
 latest before = slice_get before (length before - 1)
 
--- the piece before stands in no later segment
+-- the piece before is in no later segment
 abbrev pub segment_follows : Option Piece → ℕ → Bool
 segment_follows None segment = true
 segment_follows (Some p) segment = nat_le p.segment segment
 
--- the number and the size of a segment of program memory that is there; pieces ascend by their segments
+-- the number and the size of a segment of program memory, one of `segments`; pieces ascend by their segments
 unfoldable pub code_segment_at : List Segment → Option Piece → ℕ → List ℕ → Result (ℕ × ℕ × List ℕ) ObjError
 code_segment_at segments previous end bytes = do
   number ← byte_at end bytes

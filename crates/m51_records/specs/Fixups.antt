@@ -27,12 +27,12 @@ target_fields (OfExternal number) = 1 ∷ number ∷ []
 abbrev pub fixup_contents : Fixup → List ℕ
 fixup_contents f = f.segment ∷ (pair f.offset ++ form_number f.form ∷ f.bit ∷ (target_fields f.target ++ pair f.addend))
 
--- the field before stands in no later segment
+-- the field before is in no later segment
 abbrev pub field_segment_follows : Option Fixup → ℕ → Bool
 field_segment_follows None segment = true
 field_segment_follows (Some f) segment = nat_le f.segment segment
 
--- a segment that is there; fields ascend by their segments
+-- the number of one of `segments`; fields ascend by their segments
 unfoldable pub fixup_segment_at : List Segment → Option Fixup → ℕ → List ℕ → Result (ℕ × List ℕ) ObjError
 fixup_segment_at segments previous end bytes = do
   number ← byte_at end bytes

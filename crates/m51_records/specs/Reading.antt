@@ -1,4 +1,4 @@
--- Reading a module from the front of bytes, record by record, with the first refusal.
+-- Reading a module from the beginning of bytes, record by record, with the first refusal.
 use Rattle.std.specs.Prelude.{ℕ, zero, suc, ◌+◌, ◌-◌, if◌then◌else◌, List, [], ◌∷◌, ◌++◌, length, Result, Ok}
 use Rattle.m51_module.specs.declared.content.Fixup.{Fixup}
 use Rattle.m51_module.specs.declared.content.Piece.{Piece}
@@ -22,15 +22,15 @@ use Rattle.m51_records.specs.Fixups.{fixup_in}
 abbrev pub Reader : Type 0 → Type 0
 Reader X = ℕ → List ℕ → Result X ObjError
 
--- a record of the type at the front, its contents read, and the bytes after it
+-- a record of the type at the beginning of the bytes: the value of its contents, and the bytes after it
 unfoldable pub one_at : {X : Type 0} → ℕ → Reader X → ℕ → ℕ → List ℕ → Result (X × List ℕ) ObjError
 one_at type read total number bytes = do
   framed ← record_at type total number bytes
   value ← read (checksum_place total framed.1) framed.0
   Ok (value, framed.1)
 
--- Records of one type as long as they come, at most so many; each is read by what stands before it. The number is that
--- of the first record.
+-- Consecutive records of one type, up to the given number of them; what is read of each may depend on the values before
+-- it. `number` is that of the first record.
 unfoldable pub many_at : {X : Type 0} → ℕ → (List X → Reader X) → ℕ → ℕ → ℕ → List X → List ℕ
     → Result (List X × List ℕ) ObjError
 many_at type read total number zero before bytes = Ok (before, bytes)
@@ -68,8 +68,8 @@ header_at total number bytes = one_at HEADER header_in total number bytes
 abbrev pub end_at : List ℕ → ℕ → ℕ → List ℕ → Result (ℕ × List ℕ) ObjError
 end_at name total number bytes = one_at END (end_in name) total number bytes
 
--- The module at the front of these bytes, and the bytes after it. They end with the file, at its total length, and the
--- first record has that number.
+-- The module at the beginning of these bytes, and the bytes after it. They end with the file, at its total length, and
+-- the first record has that number.
 unfoldable pub module_at : ℕ → ℕ → List ℕ → Result (ModuleParts × List ℕ) ObjError
 module_at total number bytes = do
   header ← header_at total number bytes
@@ -96,7 +96,7 @@ module_at total number bytes = do
     banks.1,
   )
 
--- the module at the front of a file, and the length of its spelling
+-- the module at the beginning of a file, and the length of its spelling
 abbrev pub read_of : List ℕ → Result (ModuleParts × ℕ) ObjError
 read_of file = do
   found ← module_at (length file) 0 file

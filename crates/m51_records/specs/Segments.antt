@@ -49,11 +49,11 @@ marks_of (suc (suc zero)) = Some (false, true)
 marks_of (suc (suc (suc zero))) = Some (true, true)
 marks_of (suc (suc (suc (suc more)))) = None
 
--- ARGUMENT stands in version 2, on OVERLAYABLE segments of DATA
+-- ARGUMENT is for OVERLAYABLE segments of DATA in version 2
 abbrev pub may_mark : ℕ → Kind → Bool → Bool
 may_mark version kind overlay = (version == 2) && (overlay && same_kind kind Direct)
 
--- a segment of the kind and type may be OVERLAYABLE and ARGUMENT so
+-- a segment of the kind and type may have these marks, OVERLAYABLE and ARGUMENT
 abbrev pub are_marks : ℕ → Kind → Reloc → Bool → Bool → Bool
 are_marks version kind reloc overlay argument =
     (not overlay || may_overlay kind reloc) && (not argument || may_mark version kind overlay)

@@ -1,4 +1,4 @@
--- Of the code, and not of the form: the names that a set of byte vectors holds.
+-- Of the code, not part of the format: the names that a set of byte vectors holds.
 use Rattle.std.specs.Prelude.{ℕ, List, map}
 use Rattle.std.specs.Global.{Vec}
 

@@ -1,12 +1,12 @@
--- Of the code, and not of the form: the pieces that lie before the field of a fixup, so that the next field is looked
--- for after them.
+-- Loop invariant, not part of the format: pieces that end before the last fixup's field. The search for the next
+-- continues after them.
 use Rattle.std.specs.Prelude.{◌≡◌, ℕ, ◌-◌, ◌≤◌, Bool, true, ◌&&◌, ◌||◌, ◌==◌, nat_le, nat_lt, List, length, take}
 use Rattle.std.specs.Prelude.{Option, Some, None}
 use Rattle.std.specs.List.{All}
 use Rattle.m51_module.specs.declared.content.Fixup.{Fixup}
 use Rattle.m51_module.specs.declared.content.Piece.{Piece}
 
--- the piece ends at that place of the segment, or stands before it
+-- the piece is in an earlier segment, or in this one and ends at the offset or below it
 abbrev pub ends_by : ℕ → ℕ → Piece → Bool
 ends_by segment offset p =
     nat_lt p.segment segment
@@ -15,7 +15,7 @@ ends_by segment offset p =
 abbrev pub EndBy : ℕ → ℕ → List Piece → Type 0
 EndBy segment offset pieces = All (λ p. ends_by segment offset p ≡ true) pieces
 
--- so many pieces of the front end by the field of the fixup before; none where there is no fixup before
+-- the first `passed` pieces end by the field of the fixup before; without a fixup before `passed` is 0
 pub record ArePassed (pieces : List Piece) (passed : ℕ) (previous : Option Fixup) : Type 0 where
   pub few : passed ≤ length pieces
   pub none : previous ≡ None → passed ≡ 0

@@ -37,7 +37,7 @@ fn banks_at(end: u32, bytes: &[u8]) -> Result<(u8, &[u8]), ObjError>
     Ok((banks, rest))
 }
 
-/// The banks of the module of this name whose last record has these contents: they end at that place.
+/// The banks of the module of this name whose last record has these contents: they end at that offset.
 ///
 /// Errors: O4 for a field that breaks a rule, or for bytes left over.
 ///

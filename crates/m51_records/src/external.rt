@@ -73,7 +73,7 @@ impl Reader for ExternalReader {
     }
 }
 
-// The external whose record has these contents: they end at that place, and these externals, with these names, are
+// The external whose record has these contents: they end at that offset, and these externals, with these names, are
 // before it. O4 for a field that breaks a rule, for a 256th external, or for bytes left over.
 #[tactic(auto, unfolding(crate::specs::Externals::external_in))]
 fn read_external(

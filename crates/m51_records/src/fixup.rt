@@ -102,14 +102,14 @@ fn ends_below(piece: &Piece, offset: u16) -> bool
     piece.offset <= offset && piece.bytes.len() <= usize::from(offset - piece.offset)
 }
 
-// Whether the piece ends at that place of the segment, or comes before it.
+// Whether the piece is in an earlier segment, or in this one and ends at the offset or below it.
 fn ends_by(piece: &Piece, segment: u8, offset: u16) -> bool
     ensures { result ≡ ends_by segment offset piece.now }
 {
     piece.segment < segment || (piece.segment == segment && ends_below(piece, offset))
 }
 
-// How many pieces of the front end by that place of the segment; so many are known to.
+// The length of a prefix of the pieces all of which end by that offset of the segment; the first `known` do.
 fn passed_by(pieces: &[Piece], known: usize, segment: u8, offset: u16) -> usize
     requires few { known ≤ length pieces.now }
     requires known { EndBy segment offset (take known pieces.now) }
@@ -147,7 +147,7 @@ fn is_inside(pieces: &[Piece], segment: u8, offset: u16, form: Form) -> bool
         && (field_len(form) == 1 || is_held(pieces, segment, offset + 1))
 }
 
-// The same, where so many pieces of the front end by the field.
+// The same, where the first `passed` pieces end by the field.
 #[tactic(auto, using(crate::proofs::Passing::inside_after))]
 fn is_inside_after(pieces: &[Piece], passed: usize, segment: u8, offset: u16, form: Form) -> bool
     requires few { passed ≤ length pieces.now }
@@ -157,7 +157,7 @@ fn is_inside_after(pieces: &[Piece], passed: usize, segment: u8, offset: u16, fo
     is_inside(&pieces[passed..], segment, offset, form)
 }
 
-// A form, and the bytes after it. O4 where it is none, or content does not hold its field. So many pieces of the front
+// A form, and the bytes after it. O4 where it is none, or content does not hold its field. The first `passed` pieces
 // end by the field.
 #[tactic(auto, unfolding(crate::specs::Fixups::form_at))]
 fn form_at<'a>(
@@ -277,7 +277,7 @@ pub(crate) struct FixupReader<'a> {
     pub(crate) externals: &'a [External],
     /// Its content.
     pub(crate) pieces: &'a [Piece],
-    /// How many pieces of the front end by the field of the fixup before.
+    /// How many pieces, from the first on, are known to end by the field of the fixup before.
     pub(crate) passed: usize,
 }
 

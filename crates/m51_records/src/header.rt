@@ -26,7 +26,7 @@ fn version_at(end: u32, bytes: &[u8]) -> Result<(u8, &[u8]), ObjError>
     Ok((version, rest))
 }
 
-/// The name and the version of the module whose first record has these contents: they end at that place.
+/// The name and the version of the module whose first record has these contents: they end at that offset.
 ///
 /// Errors: O4 for a field that breaks a rule, or for bytes left over.
 ///

@@ -5,7 +5,7 @@ ghost use Rattle.m51_module.specs.declared.parts.ModuleParts.{ModuleParts};
 ghost use Rattle.m51_module.specs.Validity.{IsValid};
 ghost use Rattle.m51_records.specs.Spelling.{bytes_of};
 
-/// No spelling of a module is the front of another, so what follows a spelling does not change what is read.
+/// No spelling of a module is a prefix of that of another, so what follows a spelling does not change what is read.
 ///
 /// Source: own choice ("Object records").
 pub fn one_spelling()

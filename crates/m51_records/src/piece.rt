@@ -78,7 +78,7 @@ fn piece_offset_at<'a>(
     Ok((offset, rest))
 }
 
-// The bytes. O4 at the first byte past so many.
+// The bytes, at most `most` of them. O4 at the first byte past these.
 fn limited(most: usize, end: u32, bytes: &[u8]) -> Result<&[u8], ObjError>
     ensures { Reads (λ x. x.now) result (limited most end bytes.now) }
 {

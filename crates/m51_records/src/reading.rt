@@ -22,7 +22,7 @@ use m51_frame::{checksum_place, record_at};
 use m51_module::{External, Fixup, Module, ModuleParts, ObjError, Piece, Public, Segment};
 use std::alloc::Global;
 
-// The segments of a module of that version at the front of the bytes, and the bytes after them. Bytes end with the
+// The segments of a module of that version at the beginning of the bytes, and the bytes after them. Bytes end with the
 // file, at its total length, and the first record has that number.
 fn segments_at(
     alloc: Global,
@@ -127,7 +127,7 @@ fn fixups_at<'a>(
     read_records(alloc, FIXUP, reader, total, number, bytes)
 }
 
-// The parts of the module at the front of the bytes, the number of the record after it, and the bytes after it.
+// The parts of the module at the beginning of the bytes, the number of the record after it, and the bytes after it.
 #[tactic(auto, unfolding(crate::specs::Reading::module_at, crate::specs::Reading::one_at))]
 fn parts_at(
     alloc: Global,
@@ -169,14 +169,14 @@ fn parts_at(
     Ok((parts, number + 1, rest))
 }
 
-/// The module at the front of the bytes, the bytes after it, and the number of the record after it. The bytes end with
-/// the file, at its total length, and the first record of the module has that number. The number and the length of the
-/// bytes must make less than 4,294,967,296.
+/// The module at the beginning of the bytes, the bytes after it, and the number of the record after it. The bytes end
+/// with the file, at its total length, and the first record of the module has that number. The number and the length of
+/// the bytes must make less than 4,294,967,296.
 ///
-/// Errors: the first test that fails, record by record and in a record field by field, with its place in the file.
-/// `O1` where the bytes end inside a record or before one that must come; `O2` where a checksum is wrong; `O3` where a
-/// record of another type must come; `O4` where a field is cut off, out of range or against a rule; `O5` where a
-/// segment or an external is numbered that is not there. `Memory` is the only other error.
+/// Errors: the first test that fails, record by record and in a record field by field, with its place in the file. `O1`
+/// where the bytes end inside a record or before one that must come; `O2` where a checksum is wrong; `O3` where a
+/// record of another type must come; `O4` where a field is cut off, out of range or against a rule; `O5` where a field
+/// names a segment or an external that does not exist. `Memory` is the only other error.
 ///
 /// Source: own choice ("Object records").
 pub fn module_at(
@@ -190,7 +190,7 @@ pub fn module_at(
     ensures value { Reads (λ x. (x.0, x.1.now)) result (module_at total number bytes.now) }
     // What is read is spelled so.
     ensures spelled { IfOk result (λ x. IsValid x.0 × (bytes.now ≡ bytes_of x.0 ++ x.1.now)) }
-    // The number goes on by the records of the module, and a record has more than one byte.
+    // The number grows by the records of the module, and a record has more than one byte.
     ensures next { IfOk result (λ x. x.2 ≡ number + records_in x.0) }
     ensures few { IfOk result (λ x. x.2 + length x.1.now ≤ number + length bytes.now) }
     ensures shorter { IfOk result (λ x. length x.1.now < length bytes.now) }
@@ -199,7 +199,7 @@ pub fn module_at(
     Ok((Module::make(parts), rest, next))
 }
 
-// The module at the front of a file, and the length of its spelling.
+// The module at the beginning of a file, and the length of its spelling.
 fn front_of(alloc: Global, bytes: &[u8]) -> Result<(Module, usize), ObjError>
     requires { length bytes.now < 2 ^ 32 }
     ensures exact { Reads (λ x. x) result (read_of bytes.now) }
@@ -209,13 +209,13 @@ fn front_of(alloc: Global, bytes: &[u8]) -> Result<(Module, usize), ObjError>
     Ok((module, bytes.len() - rest.len()))
 }
 
-/// The module at the front of an object file, and the length of its spelling; bytes may follow it. The file must have
-/// less than 4,294,967,296 bytes.
+/// The module at the beginning of an object file, and the length of its spelling; bytes may follow it. The file must
+/// have less than 4,294,967,296 bytes.
 ///
 /// Errors: the first test that fails, record by record and in a record field by field. `O1` where the bytes end inside
 /// a record or before one that must come; `O2` where a checksum is wrong; `O3` where a record of another type must
-/// come; `O4` where a field is cut off, out of range or against a rule; `O5` where a segment or an external is numbered
-/// that is not there. `Memory` is the only other error.
+/// come; `O4` where a field is cut off, out of range or against a rule; `O5` where a field names a segment or an
+/// external that does not exist. `Memory` is the only other error.
 ///
 /// Source: own choice ("Object records").
 pub fn read_module(alloc: Global, bytes: &[u8]) -> Result<(Module, usize), ObjError>

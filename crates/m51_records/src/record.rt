@@ -106,7 +106,7 @@ fn write_record<T: Record>(alloc: Global, out: &mut Vec<u8>, item: &T) -> Result
     put_record(out, T::TYPE, &contents)
 }
 
-/// Appends the record of each item. Out of memory is the one error.
+/// Appends the record of each item. Error: out of memory.
 ///
 /// Source: own choice ("Object records").
 pub(crate) fn write_records<T: Record>(

@@ -47,7 +47,7 @@ impl Seen {
         self.names.contains(name.bytes())
     }
 
-    /// Notes a name that is not among them. Out of memory is the one error.
+    /// Notes a name that is not among them. Error: out of memory.
     ///
     /// Source: own choice ("Object records").
     pub(crate) fn note(&mut self, alloc: Global, name: &Name) -> Result<(), NoMemory>

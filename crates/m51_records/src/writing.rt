@@ -27,7 +27,7 @@ fn put_end(alloc: Global, out: &mut Vec<u8>, name: &Name, banks: u8) -> Result<(
     put_record(out, END, &contents)
 }
 
-/// The bytes of the object file of the module: each module has one spelling. Out of memory is the one error.
+/// The bytes of the object file of the module: each module has one spelling. Error: out of memory.
 ///
 /// Source: own choice ("Object records").
 #[tactic(auto, unfolding(crate::specs::Spelling::bytes_of))]

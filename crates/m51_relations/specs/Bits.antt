@@ -6,6 +6,6 @@ use Rattle.std.specs.Int.{bit_at}
 unfoldable pub bit : List ℕ → ℕ → Bool
 bit words v = nat_eq (bit_at (slice_index words (v / 64)) (v % 64)) 1
 
--- how many words hold a bit for each of so many units
+-- how many words hold a bit for each of `count` units
 abbrev pub words_for : ℕ → ℕ
 words_for count = (count + 63) / 64

@@ -30,7 +30,7 @@ passed_below tests others has (suc k) u v = passed_below tests others has k u v 
 abbrev pub pair_at : List (List ℕ) → ℕ → ℕ → Bool
 pair_at rows u v = bit (slice_index_or rows u []) v
 
--- a set of pairs of units, of which there are so many
+-- a set of pairs of units, which are numbered below `count`
 pub record BitTable : Type 0 where
   pub count : ℕ
   pub rows : List (List ℕ)
@@ -43,7 +43,7 @@ pairs table = pair_at table.rows
 abbrev pub AreWide : ℕ → List (List ℕ) → Type 0
 AreWide words rows = (u : ℕ) → u < length rows → length (slice_index_or rows u []) ≡ words
 
--- a row for each of so many units
+-- a row for each of `count` units
 pub record AreRows (count : ℕ) (rows : List (List ℕ)) : Type 0 where
   pub few : count ≤ MOST_UNITS
   pub len : length rows ≡ count

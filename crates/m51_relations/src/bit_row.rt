@@ -72,7 +72,7 @@ impl BitRow {
         })
     }
 
-    /// The words, lent.
+    /// The words, borrowed.
     ///
     /// Source: own choice ("Closed rows").
     pub fn words(&self) -> &[u64]

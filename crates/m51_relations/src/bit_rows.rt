@@ -29,7 +29,7 @@ impl Model for BitRows {
     ghost invariant = { λ s. AreRows s.count s.rows.items };
 }
 
-// Rows of so many words without a bit.
+// `count` rows of `words` words each, no bit of them set.
 fn blank_rows(alloc: Global, count: usize, words: usize) -> Result<Vec<BitRow>, NoMemory>
     ensures { IfOk result (λ rows. rows.items ≡ replicate count (replicate words 0)) }
 {
@@ -88,7 +88,7 @@ fn has_pair(rows: &[BitRow], from: usize, to: usize) -> bool
     }
 }
 
-// Adds the other row, if that is so.
+// Adds the other row if `holds`.
 fn join_if(row: &mut BitRow, through: &BitRow, holds: bool)
     requires { length row.old ≡ length through.now }
     ensures len { length row.new ≡ length row.old }
@@ -152,7 +152,7 @@ impl BitRows {
         })
     }
 
-    /// How many units there are.
+    /// The number of units.
     ///
     /// Source: own choice ("Closed rows").
     pub fn count(&self) -> u16
@@ -171,7 +171,7 @@ impl BitRows {
         has_pair(&self.rows, usize::from(from), usize::from(to))
     }
 
-    /// Puts the pair of units of the set into it.
+    /// Adds the pair, both of which are units of the set.
     ///
     /// Source: own choice ("Closed rows").
     pub fn put(&mut self, from: u16, to: u16)
@@ -183,7 +183,7 @@ impl BitRows {
         self.rows[usize::from(from)].put(usize::from(to));
     }
 
-    /// The row of the first unit of pairs, which is one of the set, lent.
+    /// The row of the first unit of pairs, which must be a unit of the set, borrowed.
     ///
     /// Source: own choice ("Closed rows").
     pub fn row(&self, from: u16) -> &[u64]
@@ -194,7 +194,7 @@ impl BitRows {
         self.rows[usize::from(from)].words()
     }
 
-    /// Puts all pairs into the set that walks along its pairs join. If memory runs out there may be some of them.
+    /// Adds all pairs that walks along its pairs join. If memory runs out, some of these may be in the set.
     ///
     /// Source: own choice ("Closed rows").
     pub fn close(&mut self, alloc: Global) -> Result<(), NoMemory>
@@ -204,7 +204,7 @@ impl BitRows {
         close_rows(alloc, &mut self.rows)
     }
 
-    /// Puts the pair of units of the set into it, if that is so.
+    /// Adds the pair, both of which are units of the set, if `holds`.
     ///
     /// Source: own choice ("Closed rows").
     pub fn put_if(&mut self, from: u16, to: u16, holds: bool)

@@ -77,8 +77,9 @@ fn related_pairs(alloc: Global, reach: &BitRows, under: &[u8]) -> Result<BitRows
 }
 
 impl OwnerPairs {
-    /// The pairs of which owners are related, from the pairs that edges join, the same pairs turned round, those that
-    /// walks join, and the roots above each unit. Edges and walks are of as many units. Error: out of memory.
+    /// The pairs of which owners are related, from the pairs that edges join, the same pairs reversed, those that walks
+    /// join, and the roots above each unit. The sets of edges and of walks have the same number of units. Error: out of
+    /// memory.
     ///
     /// Source: own choice ("Conflicts").
     pub fn make(

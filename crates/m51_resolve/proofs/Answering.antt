@@ -30,12 +30,12 @@ use Rattle.m51_resolve.proofs.DefinedNames.{definitions_are}
 use Rattle.m51_resolve.proofs.JoinSteps.{none_at}
 use Rattle.m51_resolve.proofs.Within.{find_none}
 
--- a refusal is answered; want of memory says nothing
+-- a refusal is the answer; out of memory says nothing
 pub refuses : (modules : List ModuleParts) (error : Refusal) (rule : Option Refusal) → rule ≡ Some error → RefusesWith (but_memory error) (unless_refused modules rule)
 refuses modules Memory rule h = tt
 refuses modules error rule h = ap (unless_refused modules) h
 
--- so an error that a step hands on is the answer
+-- so an error that a step passes on is the answer
 pub err_gives : (result : Result (List ModuleParts) Refusal) (modules : List ModuleParts) (error : Refusal) (rule : Option Refusal) → IsErrAnd result (λ e. e ≡ error)
     → rule ≡ Some error → Gives (λ joined. joined) but_memory result (unless_refused modules rule)
 err_gives (Ok joined) modules error rule is h = absurd is

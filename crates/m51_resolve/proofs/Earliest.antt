@@ -164,7 +164,7 @@ pub record HasMissing (chosen : List ModuleParts) (m : ModuleParts) : Type 0 whe
   pub has : has_public name m ≡ true
 
 module _ (chosen : List ModuleParts) where
-  -- it is needed exactly where it has one
+  -- it is needed exactly if it has one
   pub missing_in : (m : ModuleParts) → is_needed chosen m ≡ true → HasMissing chosen m
   missing_in m h = by (Any-from_list_any (λ (p : Public). is_missing chosen p.name) m.publics h)
     where

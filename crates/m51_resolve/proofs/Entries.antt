@@ -29,7 +29,7 @@ pub record IsEntry {B : Type 0} (starts : List ℕ) (table : List B) (value : B)
   pub within : before + index < length table
   pub at : (d : B) → get_or table (before + index) d ≡ value
 
--- where its module's items begin, and where it stands
+-- where the items of its module begin, and its own index
 pub begin : {B : Type 0} (starts : List ℕ) (table : List B) (value : B) (m s start from : ℕ) (e : IsEntry starts table value m s) → start ≡ get_or starts from start → from ≡ m → start ≡ e.before
 begin starts table value m s start from e read is = read ∙ ap (λ n. get_or starts n start) is ∙ e.start start
 
@@ -115,7 +115,7 @@ or_else_by : (first later : Option Definition) (d : Definition) (number most : �
 or_else_by None later d number most h k l = let below = l h in omega arith
 or_else_by (Some x) later d number most h k l = let is = k h in omega arith
 
--- the module of a definition is there
+-- the module of a definition is one of those searched
 pub definition_number : (number : ℕ) (name : List ℕ) (modules : List ModuleParts) (d : Definition) → definition_from number name modules ≡ Some d
     → d.number < number + length modules
 definition_number number name [] d h = cc

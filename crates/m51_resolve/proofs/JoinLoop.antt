@@ -9,7 +9,7 @@ use Rattle.m51_resolve.specs.WorkJoining.{all_growing, Joins}
 use Rattle.m51_resolve.specs.Kept.{parts_after}
 use Rattle.m51_resolve.proofs.JoinSteps.{joins, parts_push}
 
--- so many of the segments are joined
+-- the first `count` segments are joined
 pub record AreJoined (segments : List Segment) (count : ℕ) (growing : List Growing) (parts : List Part) : Type 0 where
   pub grown : growing ≡ all_growing (take count segments)
   pub placed : parts ≡ parts_after [] (take count segments)

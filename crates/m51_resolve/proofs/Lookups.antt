@@ -49,7 +49,7 @@ get_left (y ∷ xs) ys zero x h = h
 get_left (y ∷ xs) ys (suc n) x h = get_left xs ys n x h
 
 module _ {A : Type 0} (items : ModuleParts → List A) where
-  -- an item of a module stands after those of the modules before
+  -- an item of a module comes after those of the modules before
   pub get_flat : (modules : List ModuleParts) (m j : ℕ) (holder : ModuleParts) (item : A) → slice_get modules m ≡ Some holder → slice_get (items holder) j ≡ Some item
       → slice_get (flat_map items modules) (length (flat_map items (take m modules)) + j) ≡ Some item
   get_flat [] m j holder item is at = cc

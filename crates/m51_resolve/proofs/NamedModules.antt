@@ -36,7 +36,7 @@ definitions_more asked f xs count x old new ps are below is notes ps_are =
     let few : count ≡ length (take count (map f xs)) = sym (length-take-le count (map f xs) (omega (arith, inside))) in
     subst (λ (ms : List ModuleParts). AreAskedFor asked ms new) more (asked_push asked (take count (map f xs)) (f x) old new count ps are notes few ps_are)
 
--- the names that one more of those that are lent wants
+-- the names that modules need, with one more of the borrowed modules
 pub wanted_more : {X : Type 0} (f : X → ModuleParts) (before : List ModuleParts) (xs : List X) (count : ℕ) (x : X) (old new : List (List ℕ)) (es : List External)
     → AreWanted (before ++ take count (map f xs)) old → count < length xs → x ≡ get_or xs count x → Wants old es new → es ≡ (f x).externals
     → AreWanted (before ++ take (count + 1) (map f xs)) new

@@ -12,7 +12,7 @@ use Rattle.m51_module.specs.declared.segment.Segment.{Segment}
 use Rattle.m51_module.specs.Validity.{IsValid}
 use Rattle.m51_resolve.specs.Kept.{AreStarts}
 
--- the items of so many of the modules are there, and where those of each begin
+-- the items of the first `count` modules, and where those of each begin
 pub record AreFlat {A : Type 0} (items : ModuleParts → List A) (modules : List ModuleParts) (count : ℕ) (all : List A) (starts : List ℕ) : Type 0 where
   pub few : count ≤ length modules
   pub flat : all ≡ flat_map items (take count modules)

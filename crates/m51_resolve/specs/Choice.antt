@@ -11,7 +11,7 @@ use Rattle.m51_module.specs.Library.{defines}
 abbrev pub wants : List ℕ → ModuleParts → Bool
 wants name m = list_any (λ e. bytes_eq e.name name) m.externals
 
--- one of the chosen modules wants the name, and none defines it
+-- one of the chosen modules has an external of the name, and none defines it
 abbrev pub is_missing : List ModuleParts → List ℕ → Bool
 is_missing chosen name = list_any (wants name) chosen && not (defines chosen name)
 

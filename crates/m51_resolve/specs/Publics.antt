@@ -33,7 +33,8 @@ definition_of modules name = definition_from 0 name modules
 abbrev pub all_externals : List ModuleParts → List External
 all_externals modules = flat_map (λ m. m.externals) modules
 
--- What stands for the definition of a name that has none: L2 comes there, so no external of a `Joined` is resolved so.
+-- The value in place of the definition of a name that has none. Joining fails with L2 then, so no external of a
+-- `Joined` is resolved to it.
 abbrev pub nowhere : Definition
 nowhere = record { number = 0; index = 0; kind = Number }
 

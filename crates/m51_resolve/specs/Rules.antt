@@ -80,7 +80,7 @@ large_segment modules = option_map (λ j. j.title) (find is_too_large (segments_
 abbrev pub units_of : List ModuleParts → List JoinedSegment
 units_of modules = filter (λ j. is_code j.kind) (segments_of modules)
 
--- there are more than so many
+-- the refusal by a limit, where the count is above it
 abbrev pub more_than : ℕ → Quantity → ℕ → Option Refusal
 more_than most what count = if nat_lt most count then Some (Limit what) else None
 

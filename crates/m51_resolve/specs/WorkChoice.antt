@@ -21,7 +21,7 @@ earlier None two = two
 earlier (Some one) None = Some one
 earlier (Some one) (Some two) = Some (min one two)
 
--- one of the modules wants the name
+-- one of the modules has an external of the name
 pub record IsWanted (chosen : List ModuleParts) (name : List ℕ) : Type 0 where
   pub wanted : list_any (wants name) chosen ≡ true
 

@@ -41,7 +41,7 @@ rules_of_growing growing = first_of (
     ∷ option_map L5 (option_map (λ g. title_of g.first) (find is_large growing))
     ∷ [])
 
--- a step answers the refusal, and goes on where there is none
+-- a step fails with the refusal, and succeeds where there is none
 abbrev pub Tells : {A : Type 0} → Option Refusal → Result A Refusal → Type 0
 Tells rule (Ok _) = rule ≡ None
 Tells rule (Err refusal) = rule ≡ Some refusal

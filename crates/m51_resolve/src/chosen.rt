@@ -31,7 +31,7 @@ impl Model for Chosen {
     ghost invariant = { λ c. AreNamed c.modules.items c.definitions.entries c.wanted.keys };
 }
 
-// Notes the names of the externals. Out of memory is the one error.
+// Notes the names of the externals. Error: out of memory.
 pub(crate) fn want_externals(
     names: &mut IndexSet<Name>,
     externals: &[External],
@@ -65,7 +65,7 @@ fn earlier(one: Option<usize>, two: Option<usize>) -> Option<usize>
     }
 }
 
-// The names that these modules define and want. Out of memory is the one error.
+// The names that these modules define and want. Error: out of memory.
 fn names_of(alloc: Global, modules: &[Module]) -> Result<(Definitions, IndexSet<Name>), NoMemory>
     ensures { IfOk result (λ names. AreNamed modules.now names.0.entries names.1.keys) }
 {
@@ -79,7 +79,7 @@ fn names_of(alloc: Global, modules: &[Module]) -> Result<(Definitions, IndexSet<
 }
 
 impl Chosen {
-    // These modules. Out of memory is the one error.
+    // These modules. Error: out of memory.
     pub(crate) fn of(alloc: Global, modules: Vec<Module>) -> Result<Chosen, NoMemory>
         ensures { IfOk result (λ chosen. chosen ≡ modules.items) }
     {
@@ -91,7 +91,7 @@ impl Chosen {
         })
     }
 
-    // The names that the chosen modules or these members want. Out of memory is the one error.
+    // The names that the chosen modules or these members want. Error: out of memory.
     pub(crate) fn asked(
         &self,
         alloc: Global,
@@ -114,7 +114,7 @@ impl Chosen {
         self.modules.len()
     }
 
-    // With one module more. Out of memory is the one error.
+    // With one module more. Error: out of memory.
     pub(crate) fn with(self, member: Module) -> Result<Chosen, NoMemory>
         ensures { IfOk result (λ chosen. chosen ≡ self ++ member ∷ []) }
     {

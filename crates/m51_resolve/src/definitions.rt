@@ -57,7 +57,7 @@ fn note(table: &mut Definitions, name: &Name, definition: Definition) -> Result<
     Ok(())
 }
 
-// Notes the publics of the module of that number. Out of memory is the one error.
+// Notes the publics of the module of that number. Error: out of memory.
 pub(crate) fn note_publics(
     table: &mut Definitions,
     number: usize,
@@ -89,7 +89,7 @@ fn note_if(
     note(table, name, definition)
 }
 
-// Notes the publics of the module of that number whose names are asked for. Out of memory is the one error.
+// Notes the publics of the module of that number whose names are asked for. Error: out of memory.
 pub(crate) fn note_asked(
     table: &mut Definitions,
     asked: &IndexSet<Name>,

@@ -62,7 +62,7 @@ impl Joined {
     }
 
     /// The part of a joined segment that a segment is: the number of the joined segment, from 0, and the offset of the
-    /// part in it, in bytes, for BIT in bits. The module is counted from 0, the segment from 1, and both are there.
+    /// part in it, in bytes, for BIT in bits. The module is counted from 0, the segment from 1, and both exist.
     ///
     /// Source: RL51 guide.
     pub fn part(&self, module: u8, segment: u8) -> (u16, u16)
@@ -75,7 +75,7 @@ impl Joined {
     }
 
     /// The public that resolves an external: its module, from 0, and its index among the publics there, from 0. The
-    /// module of the external is counted from 0, the external from 1, and both are there.
+    /// module of the external is counted from 0, the external from 1, and both exist.
     ///
     /// Source: RL51 guide.
     pub fn public_of(&self, module: u8, external: u8) -> (u8, usize)

@@ -37,7 +37,7 @@ fn resolving(definitions: &Definitions, external: &External) -> Definition
     })
 }
 
-// The publics that resolve these externals. Out of memory is the one error.
+// The publics that resolve these externals. Error: out of memory.
 pub(crate) fn resolving_all(
     alloc: Global,
     definitions: &Definitions,

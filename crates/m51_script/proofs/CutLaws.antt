@@ -32,7 +32,7 @@ some_step x xs true n is h more =
 some_step x xs false n is h more =
     subst (λ k. 0 < length (take (prefix_len is_blank (drop k (x ∷ xs))) (drop k (x ∷ xs)))) (let e : suc n ≡ 1 + n = omega arith in e) (more (omega (arith, h)))
 
--- a blank stands where the part ends
+-- a blank is where the part ends
 some_blank : (text : List ℕ) → position_or_len is_blank text < length text → 0 < length (take (prefix_len is_blank (drop (position_or_len is_blank text) text)) (drop (position_or_len is_blank text) text))
 some_blank [] h = absurd (omega (arith, h))
 some_blank (x ∷ xs) h = some_step x xs (is_blank x) (position_or_len is_blank xs) refl h (some_blank xs)

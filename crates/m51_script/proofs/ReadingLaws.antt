@@ -20,7 +20,7 @@ all_read number r rest whole is h = sym h ∙ ap (λ l. read_from number r (line
 pub timed_up : {A : Type 0} (high top : ℕ) (cycles : List ℕ) (items : List A) → IsTimed high cycles items → high ≤ top → IsTimed top cycles items
 timed_up high top cycles items t le = record { ascends = ascends_up 0 high top cycles t.ascends le; same = t.same }
 
--- one PIN line more
+-- one more PIN line
 pub pin_kept : (r : Reading) (s : Script) (cycle : ℕ) (c : Change) → IsRead r → r.latest ≤ cycle → s ≡ record r.script { pins = with_line cycle c r.script.pins } → IsRead (record { script = s; begun = true; latest = cycle })
 pin_kept r s cycle c h le is =
     subst (λ s. IsRead (record { script = s; begun = true; latest = cycle })) (sym is)
@@ -29,7 +29,7 @@ pin_kept r s cycle c h le is =
       frames = timed_up r.latest cycle r.script.frames.cycles r.script.frames.items h.frames le;
     })
 
--- one RX line more
+-- one more RX line
 pub frame_kept : (r : Reading) (s : Script) (cycle : ℕ) (f : Frame) → IsRead r → r.latest ≤ cycle → s ≡ record r.script { frames = with_line cycle f r.script.frames } → IsRead (record { script = s; begun = true; latest = cycle })
 frame_kept r s cycle f h le is =
     subst (λ s. IsRead (record { script = s; begun = true; latest = cycle })) (sym is)

@@ -25,7 +25,7 @@ plain_script = record {
 abbrev pub unread : Reading
 unread = record { script = plain_script; begun = false; latest = 0 }
 
--- FILL stands at most once, and before timed lines
+-- FILL is written at most once, and before timed lines
 unfoldable pub filled : ℕ → Reading → ℕ → Result Reading ScriptError
 filled number r byte =
     if r.begun then Err (S1 number)
@@ -69,7 +69,7 @@ with_form number r (Some (Receive cycle byte bit)) = received_in number r cycle 
 abbrev pub with_text : ℕ → Reading → List ℕ → Result Reading ScriptError
 with_text number r line = if is_skipped line then Ok r else with_form number r (form_of line)
 
--- goes on with what is read, or stays with the first refusal
+-- continues with what is read, or stays with the first refusal
 abbrev pub go_on : Result Reading ScriptError → (Reading → Result Script ScriptError) → Result Script ScriptError
 go_on (Ok r) go = go r
 go_on (Err error) go = Err error

@@ -19,7 +19,7 @@ fn value_in(base: u32, digits: &[u8]) -> Option<u64>
     Some(value)
 }
 
-// The number of one digit or more, at most so many.
+// The number of one digit or more, at most `most` of them.
 fn number_of(base: u32, most: usize, text: &[u8]) -> Option<u64>
     requires base { (2 ≤ base) × (base ≤ 16) }
     requires few { most ≤ 10 }
@@ -34,7 +34,7 @@ fn number_of(base: u32, most: usize, text: &[u8]) -> Option<u64>
     value_in(base, text)
 }
 
-// The number of one to so many decimal digits, at most ten.
+// The number of one to `most` decimal digits, where `most` is ten or less.
 pub(crate) fn decimal(most: usize, text: &[u8]) -> Option<u64>
     requires few { most ≤ 10 }
     ensures { result ≡ decimal most text.now }

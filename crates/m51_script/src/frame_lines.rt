@@ -27,7 +27,7 @@ impl Model for FrameLines {
 }
 
 impl FrameLines {
-    // No lines. It takes no memory.
+    // No lines. It does not allocate.
     pub(crate) fn none(alloc: Global) -> FrameLines
         ensures { result ≡ record { cycles = []; items = [] } }
     {

@@ -1,7 +1,7 @@
 //! What holds of every script. Each law is the contract of a function that does nothing.
 ghost use Rattle.m51_script.specs.Laws.{LastLineCounts, ReadAsWritten};
 
-/// A line is read as a form exactly where it is written so: parts with one or more blanks between them, and none before
+/// A line is read as a form exactly if it is written so: parts with one or more blanks between them, and none before
 /// the first or after the last.
 ///
 /// Source: own choice ("Scripts").

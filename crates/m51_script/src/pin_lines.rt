@@ -54,7 +54,7 @@ fn changed(pins: Pins, change: Change) -> Pins
 }
 
 impl PinLines {
-    // No lines. It takes no memory.
+    // No lines. It does not allocate.
     pub(crate) fn none(alloc: Global) -> PinLines
         ensures { result ≡ record { cycles = []; items = [] } }
     {

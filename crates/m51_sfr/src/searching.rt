@@ -1,4 +1,4 @@
-//! What stands at an address, and where a name stands.
+//! The register at an address, and the address of a name.
 ghost use Rattle.std.specs.Prelude.{◌≡◌, ◌+◌, ◌≤◌, IsTrue, find, map};
 ghost use Rattle.std.specs.Option.{option_copied};
 ghost use Rattle.std.specs.Str.{bytes_eq};
@@ -11,7 +11,7 @@ use crate::addresses::{
 };
 use crate::table::{Bit, REGISTERS, Row};
 
-/// Whether a register stands at the address.
+/// Whether the address is that of a register.
 ///
 /// Source: family manual.
 #[tactic(auto, unfolding(crate::specs::Registers::has_register))]

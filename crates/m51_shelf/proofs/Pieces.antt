@@ -29,7 +29,7 @@ all_read None bytes piece taken count is front room piece_is none = tt
 all_read (Some file) bytes piece taken count is front room piece_is none =
     sym (front ∙ take_all (length bytes) file (omega (arith, piece_is.at_end none room, is)))
 
--- what was read of an open file is what told files hold
+-- all that was read of an open file is what the files hold under its name, if they are visible
 pub whole_held : (holds : Option Files) (name : List ℕ) (opened : Option (List ℕ)) (bytes : List ℕ) → Opens holds name opened → IsAll opened bytes
     → IfSome holds (λ files. files name ≡ Some bytes)
 whole_held None name opened bytes opens all = tt
@@ -50,13 +50,13 @@ long_held (Some files) name None bytes opens front long = absurd (cc opens.1)
 long_held (Some files) name (Some file) bytes opens front long =
     some_long (files name) file opens.0 (omega (arith, longer file bytes front, long))
 
--- so many bytes were taken
+-- the count of bytes taken is that of all bytes read, with the piece
 pub taken_more : (taken count : ℕ) (bytes piece : List ℕ) → taken ≡ length bytes → count ≤ length piece → length bytes ≤ MOST_FILE_BYTES → length piece ≤ 4096
     → min (taken + count) (2 ^ 64 - 1) ≡ length (bytes ++ take count piece)
 taken_more taken count bytes piece is room few short =
     omega (arith, is, room, few, short, length-append bytes (take count piece), length-take-le count piece room)
 
--- what was read before, alone and with a piece, has at most one byte past the limit
+-- what was read before, without a piece and with one, has at most one byte past the limit
 pub most_before : (bytes : List ℕ) → length bytes ≤ MOST_FILE_BYTES → length (bytes ++ []) ≤ MOST_FILE_BYTES + 1
 most_before bytes few = omega (arith, few, ap length (append-nil bytes))
 
@@ -65,7 +65,7 @@ pub most_with : (bytes piece : List ℕ) (count : ℕ) → length bytes ≤ MOST
 most_with bytes piece count few within room =
     omega (arith, few, within, room, length-append bytes (take count piece), length-take-le count piece within)
 
--- what was taken of the open file, after a piece of it
+-- what was read of the open file, after a piece of it
 pub taken_on : (before after : ReadAt) (bytes piece more : List ℕ) (count : ℕ) → HasTaken before bytes → length bytes ≤ MOST_FILE_BYTES
     → after.opened ≡ before.opened → after.ready ≡ true → after.taken ≡ min (before.taken + count) (2 ^ 64 - 1) → count ≤ length piece
     → 0 < length piece → length piece ≤ 4096 → length piece ≤ MOST_FILE_BYTES + 1 - length bytes

@@ -8,6 +8,6 @@ use Rattle.m51_shelf.specs.Memory.{IsPlace}
 less_room : (room less : ℕ) (place : Vec ℕ Global) → less ≤ room → IsPlace room place → IsPlace less place
 less_room room less place below h = record { enough = omega (arith, below, h.enough); empty = h.empty }
 
--- places with room for so much have room for less
+-- places that have this room have also less
 pub all_less : (room less : ℕ) (places : List (Vec ℕ Global)) → less ≤ room → All (IsPlace room) places → All (IsPlace less) places
 all_less room less places below h = λ k d low. less_room room less _ below (h k d low)

@@ -31,7 +31,7 @@ pub record MemoryShelf : Type 0 where
   pub faults : ℕ
   pub store : MemoryStore
 
--- the shelf before its first call, with places for so many files and room for so many bytes
+-- the shelf before its first call, with places for this number of files and room for this number of bytes in all
 abbrev pub made : List File → List (Call × ℕ) → ℕ → ℕ → MemoryShelf
 made files fails places room = record {
   files = files;
@@ -54,7 +54,7 @@ faults_after faults result = faults_at faults (is_ok result)
     faults_at faults true = faults
     faults_at faults false = one_more faults
 
--- a start fails: its number is listed, or the file is not there
+-- a start fails: its number is listed, or the file does not exist
 abbrev pub FailsToStart : MemoryShelf → List ℕ → Type 0
 FailsToStart shelf name = Contains shelf.fails (Start, one_more shelf.starts) ⊎ (file_of shelf.files name ≡ None)
 
@@ -100,7 +100,7 @@ after_missed store file = record store {
   faults = one_more store.faults;
 }
 
--- A keep is counted, and puts the file to those that are kept, or counts that it was missed.
+-- A keep is counted, and adds the file to those that are kept, or counts that it was missed.
 abbrev pub store_after : {T E : Type 0} → MemoryStore → File → Result T E → MemoryStore
 store_after store file (Ok kept) = after_kept store file
 store_after store file (Err failed) = after_missed store file
@@ -127,7 +127,7 @@ pub record SureFiles : Type 0 where
 
 -- Conditions of functions.
 
--- an empty list with room for so many bytes
+-- an empty list with room for `room` bytes
 pub record IsPlace (room : ℕ) (place : Vec ℕ Global) : Type 0 where
   pub enough : room ≤ vec_capacity place
   pub empty : place.items ≡ []

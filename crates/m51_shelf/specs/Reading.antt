@@ -13,7 +13,7 @@ pub record IsWhole (holds : Option Files) (after : ReadAt) (bytes : List ℕ) : 
   pub taken : after.taken ≡ length bytes
   pub held : IfSome holds (λ files. files after.named ≡ Some bytes)
 
--- one byte more than the limit was taken of that file
+-- one byte past the limit was read of that file
 pub record IsLong (holds : Option Files) (after : ReadAt) : Type 0 where
   pub taken : after.taken ≡ MOST_FILE_BYTES + 1
   pub held : IfSome holds (λ files. IsSomeAnd (files after.named) (λ file. MOST_FILE_BYTES < length file))
@@ -29,8 +29,8 @@ abbrev pub IsThat : List ℕ → Result (List ℕ) ReadError → Type 0
 IsThat bytes (Ok all) = all ≡ bytes
 IsThat bytes (Err error) = Unit {0}
 
--- The file of this name was started, and these bytes were handed out of it, at most one past the limit; where all are
--- answered, they are these.
+-- The file of this name was started, and these bytes were returned of it, at most one past the limit; if the answer has
+-- bytes, it has these.
 pub record IsGiven (before after : ReadAt) (name : List ℕ) (result : Result (List ℕ) ReadError) : Type 0 where
   pub bytes : List ℕ
   pub most : length bytes ≤ MOST_FILE_BYTES + 1
@@ -52,13 +52,13 @@ IsFront opened bytes = IfSome opened (λ file. bytes ≡ take (length bytes) fil
 abbrev pub IsAll : Option (List ℕ) → List ℕ → Type 0
 IsAll opened bytes = IfSome opened (λ file. file ≡ bytes)
 
--- these bytes were taken of the open file, which can be read on
+-- these bytes were read of the open file, which can be read on
 pub record HasTaken (at : ReadAt) (bytes : List ℕ) : Type 0 where
   pub ready : at.ready ≡ true
   pub taken : at.taken ≡ length bytes
   pub front : IsFront at.opened bytes
 
--- so many bytes more were taken, at most one past the limit; none only at the end of the file
+-- `count` further bytes were read, at most one past the limit; none only at the end of the file
 pub record TakesOn (at : ReadAt) (old new : List ℕ) (count : ℕ) : Type 0 where
   pub taken : HasTaken at new
   pub more : length new ≡ length old + count
@@ -72,14 +72,14 @@ IsPieceError before after (Err error.TooLong) = ⊥
 IsPieceError before after (Err error.Failed) = HasFailed before after
 IsPieceError before after (Err error.Memory) = Unit {0}
 
--- These bytes were handed out of the open file, at most one past the limit; where all are answered, they are these.
+-- These bytes were returned of the open file, at most one past the limit; if the answer has bytes, it has these.
 pub record HandsOver (before after : ReadAt) (result : Result (List ℕ) ReadError) : Type 0 where
   pub bytes : List ℕ
   pub most : length bytes ≤ MOST_FILE_BYTES + 1
   pub goes : GoesOn before.given after.given bytes
   pub all : IsThat bytes result
 
--- A piece of the open file was handed out, and is what came after the bytes that were read before; with them it has at
+-- A piece of the open file was returned, and is what came after the bytes that were read before; with them it has at
 -- most one byte past the limit.
 pub record GivesOn {T E : Type 0} (before after : ReadAt) (old new : List ℕ) (result : Result T E) : Type 0 where
   pub piece : List ℕ

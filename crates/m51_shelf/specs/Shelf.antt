@@ -17,7 +17,7 @@ abbrev pub file_of : List File → Files
 file_of [] name = None
 file_of (file ∷ files) name = if bytes_eq file.0 name then Some file.1 else file_of files name
 
--- the same, with an empty file under each name that is not there
+-- the same, with an empty file under each name that is not among them
 abbrev pub file_or_empty : List File → Files
 file_or_empty [] name = Some []
 file_or_empty (file ∷ files) name = if bytes_eq file.0 name then Some file.1 else file_or_empty files name
@@ -26,7 +26,7 @@ file_or_empty (file ∷ files) name = if bytes_eq file.0 name then Some file.1 e
 abbrev pub contents_at : List File → ℕ → List ℕ
 contents_at files at = (slice_index_or files at ([], [])).1
 
--- told files hold the opened one under this name
+-- the files, if visible, hold the opened one under this name
 abbrev pub Opens : Option Files → List ℕ → Option (List ℕ) → Type 0
 Opens None name content = Unit {0}
 Opens (Some files) name content = (files name ≡ content) × IsSome content
@@ -38,28 +38,28 @@ pub record IsPiece (file : List ℕ) (taken count : ℕ) (into : List ℕ) : Typ
   pub bytes : take count into ≡ take count (drop taken file)
   pub at_end : count ≡ 0 → 0 < length into → length file ≤ taken
 
--- how many bytes were handed out, which stops at its last value
+-- how many bytes were returned, a count that stops at its last value
 abbrev pub handed : {E : Type 0} → ℕ → Result ℕ E → ℕ
 handed taken (Ok count) = min (taken + count) (2 ^ 64 - 1)
 handed taken (Err failed) = taken
 
--- told files have grown by these
+-- the files, if visible, have grown by these
 abbrev pub Grows : Option (List File) → Option (List File) → List File → Type 0
 Grows None new more = Unit {0}
 Grows (Some old) new more = new ≡ Some (old ++ more)
 
--- the last of told files has these bytes more
+-- these bytes are appended to the last of the files, if they are visible
 abbrev pub GoesOn : Option (List File) → Option (List File) → List ℕ → Type 0
 GoesOn None new more = Unit {0}
 GoesOn (Some old) new more = (front : List File) (name bytes : List ℕ) → old ≡ front ++ (name, bytes) ∷ []
     → new ≡ Some (front ++ (name, bytes ++ more) ∷ [])
 
--- it has those that a piece put into the front of a slice, where none failed to come
+-- likewise with the bytes that a piece put at the beginning of a slice, or with none if the piece failed
 abbrev pub HandsOut : {E : Type 0} → Option (List File) → Option (List File) → Result ℕ E → List ℕ → Type 0
 HandsOut old new (Ok count) into = GoesOn old new (take count into)
 HandsOut old new (Err failed) into = new ≡ old
 
--- told files have grown by this one where it was kept, else they are as before
+-- the files, if visible, have grown by this one if it was kept, else they are as before
 abbrev pub GrowsIfKept : {T E : Type 0} → Option (List File) → Option (List File) → File → Result T E → Type 0
 GrowsIfKept old new file (Ok kept) = Grows old new (file ∷ [])
 GrowsIfKept old new file (Err failed) = new ≡ old
@@ -69,7 +69,7 @@ abbrev pub missed_after : {T E : Type 0} → List ℕ → List ℕ → Result T 
 missed_after missed name (Ok kept) = missed
 missed_after missed name (Err failed) = name
 
--- told files of other names stay
+-- the files of other names stay, if visible
 abbrev pub HoldsOthers : Option Files → Option Files → List ℕ → Type 0
 HoldsOthers None new name = Unit {0}
 HoldsOthers (Some old) None name = ⊥

@@ -3,10 +3,10 @@ use Rattle.std.specs.Prelude.{◌≡◌, ℕ, ◌≤◌, Bool, false, List, Opti
 use Rattle.m51_cells.specs.Outside.{Rose}
 use Rattle.m51_shelf.specs.Shelf.{File, Files}
 
--- Reading: what the open file holds, where told; the name last handed to start, empty before, and whether its file can
--- be read on; how many bytes of it were handed out, and how many starts and pieces have failed, of which each count
--- stops at the last value of a u64; and where told, the files that were started, in order, each with the bytes that
--- were handed out of it.
+-- Reading: what the open file holds, if visible; the name last passed to `start`, empty before, and whether its file
+-- can be read on; how many bytes of it were returned, and how many starts and pieces have failed, of which each count
+-- stops at the last value of a u64; and, if visible, the files that were started, in order, each with the bytes that
+-- were returned of it.
 pub record ReadAt : Type 0 where
   pub opened : Option (List ℕ)
   pub named : List ℕ
@@ -15,14 +15,14 @@ pub record ReadAt : Type 0 where
   pub faults : ℕ
   pub given : Option (List File)
 
--- Keeping: the files that were kept, where told; the name of the last one that was not, empty before; and how many were
+-- Keeping: the files that were kept, if visible; the name of the last one that was not, empty before; and how many were
 -- not, which stops likewise.
 pub record KeepAt : Type 0 where
   pub kept : Option (List File)
   pub missed : List ℕ
   pub faults : ℕ
 
--- the files by name, where told, what was read and what was kept
+-- the files by name, if visible, what was read and what was kept
 pub record ShelfState : Type 0 where
   pub holds : Option Files
   pub reads : ReadAt

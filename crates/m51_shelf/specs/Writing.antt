@@ -3,7 +3,7 @@ use Rattle.std.specs.Prelude.{◌≡◌, ℕ, ◌+◌, ◌<◌, ◌⊎◌, List,
 use Rattle.std.specs.Io.KnownBytes.{Appends}
 use Rattle.m51_cells.specs.Outside.{one_more}
 
--- told bytes have grown by a front of these that lacks at least their last
+-- the bytes, if visible, have grown by a prefix of these that lacks at least their last
 abbrev pub StopsWithin : Option (List ℕ) → Option (List ℕ) → List ℕ → Type 0
 StopsWithin old new bytes = (count : ℕ) × (count < length bytes) × Appends old new (take count bytes)
 
@@ -28,7 +28,7 @@ IsTaken old new piece (Ok count) =
 IsTaken old new piece (Err failed) =
     FailsAt old (length piece) × (new ≡ record old { calls = one_more old.calls; faults = one_more old.faults })
 
--- what contracts see of a sink: the bytes taken so far, where it tells them, and how many writes have failed
+-- what contracts see of a sink: the bytes taken so far, if visible, and how many writes have failed
 pub record SinkState : Type 0 where
   pub text : Option (List ℕ)
   pub faults : ℕ

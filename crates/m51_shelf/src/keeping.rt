@@ -14,7 +14,7 @@ use std::rt::Files;
 // What is added to the name of a file while it is written.
 const SUFFIX: [u8; 9] = *b".m51-part";
 
-// The system refuses a path of so many bytes.
+// The system refuses a path of this length, in bytes.
 const TOO_LONG: usize = 4096;
 
 // What is under a name before a file is kept.
@@ -121,7 +121,7 @@ fn put_in_place<R: Files>(rt: &R, part: &str, name: &str) -> Result<(), Failed> 
 }
 
 // Writes the part, and puts it in the place of the file. A part that an earlier run left is removed first, and this one
-// where it does not come to its place.
+// if it can't be put there.
 fn replace<R: Files>(
     rt: &R,
     part: &str,
@@ -141,7 +141,7 @@ fn replace<R: Files>(
     put
 }
 
-// Puts the name of the part to the front of the slice, where it has room, and answers how long it is.
+// Puts the name of the part at the beginning of the slice, if it has room, and answers how long it is.
 fn put_part_name(into: &mut [u8], name: &[u8]) -> Result<usize, Failed>
     ensures bound { IfOk result (λ len. len ≤ length into.new) }
     ensures name { IfOk result (λ len. take len into.new ≡ name.now ++ part_suffix) }
@@ -156,7 +156,7 @@ fn put_part_name(into: &mut [u8], name: &[u8]) -> Result<usize, Failed>
     Ok(len + rest)
 }
 
-// Writes a file beside the name, and puts it in its place. It takes no memory.
+// Writes a file beside the name, and puts it in its place. It does not allocate.
 fn put_beside<R: Files>(
     rt: &R,
     name: &str,

@@ -30,8 +30,8 @@ pub enum Call {
 }
 
 /// Files in memory. Contracts see what they hold and what was kept; of two files of one name the first counts, and what
-/// is kept does not show among those that are read. A call fails exactly where its number, counted from 1 in its kind,
-/// is listed, a start also where the file is not there, and a keep also where there is no place or no room for it.
+/// is kept does not show among those that are read. A call fails exactly if its number, counted from 1 in its kind, is
+/// listed, a start also if the file does not exist, and a keep also if there is no place or no room for it.
 ///
 /// Source: own choice ("The outside").
 #[derive(Drop)]
@@ -88,7 +88,7 @@ impl Model for MemShelf {
         × All (IsPlace s.room) s.places.items };
 }
 
-// So many places, each with this room.
+// This number of places, each with this room.
 fn places_of(alloc: Global, count: u32, room: usize) -> Result<Vec<Vec<u8>>, NoMemory>
     ensures places { IfOk result (λ places. length places.items ≡ count) }
     ensures room { IfOk result (λ places. All (IsPlace room) places.items) }
@@ -100,7 +100,7 @@ fn places_of(alloc: Global, count: u32, room: usize) -> Result<Vec<Vec<u8>>, NoM
     Ok(places)
 }
 
-// Puts a file to those that are kept, in one of the places. It takes no memory.
+// Adds a file to those that are kept, in one of the places. It does not allocate.
 fn put_file(
     kept: &mut Vec<(Bytes, Bytes)>,
     places: &mut Vec<Vec<u8>>,
@@ -164,7 +164,7 @@ fn check_piece(fails: &[(Call, u32)], number: u64) -> Result<(), Failed>
     Ok(())
 }
 
-// There must be a place, and room for so many bytes.
+// There must be a place, and room for `count` bytes.
 fn check_room(places: usize, room: usize, count: usize) -> Result<(), Failed>
     ensures { IsErr result ↔ ((places ≡ 0) ⊎ (room < count)) }
 {
@@ -174,7 +174,7 @@ fn check_room(places: usize, room: usize, count: usize) -> Result<(), Failed>
     Ok(())
 }
 
-// A keep of that number fails where it is listed, and where there is no place or no room for so many bytes.
+// A keep of that number fails if it is listed, and if there is no place or no room for `count` bytes.
 fn check_keep(
     fails: &[(Call, u32)],
     number: u64,

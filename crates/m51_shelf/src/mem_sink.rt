@@ -9,8 +9,8 @@ use m51_cells::NoMemory;
 use std::alloc::Global;
 use std::marker::Model;
 
-/// A sink whose text contracts see. A call fails exactly where its number, counted from 1, is listed, or it would pass
-/// the room; else it takes the whole piece.
+/// A sink whose text contracts see. A call fails exactly if its number, counted from 1, is listed, or it would pass the
+/// room; else it takes the whole piece.
 ///
 /// Source: own choice ("Sinks in memory").
 #[derive(Drop)]
@@ -40,7 +40,7 @@ impl Model for MemSink {
 }
 
 impl MemSink {
-    /// An empty sink of so many bytes of room, whose calls of these numbers fail.
+    /// An empty sink with room for `room` bytes, whose calls of these numbers fail.
     ///
     /// NoMemory: there is no memory for the room.
     ///

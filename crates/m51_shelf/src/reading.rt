@@ -56,7 +56,8 @@ fn append(bytes: &mut Vec<u8>, piece: &[u8]) -> Result<(), NoMemory>
     Ok(())
 }
 
-// Reads on in the open file, and appends what came. It asks for at most one byte past the most.
+// Reads the next piece of the open file, and appends it. It may read one byte past MOST_FILE_BYTES, to detect a longer
+// file.
 fn read_piece<F: Shelf>(files: &mut F, bytes: &mut Vec<u8>) -> Result<usize, ReadError>
     requires few { length bytes.old.items ≤ MOST_FILE_BYTES }
     requires taken { HasTaken (F.state files.old).reads bytes.old.items }
@@ -74,7 +75,7 @@ fn read_piece<F: Shelf>(files: &mut F, bytes: &mut Vec<u8>) -> Result<usize, Rea
     Ok(count)
 }
 
-// Reads the open file to its end, in pieces, and takes no more than one byte past the most.
+// Reads the open file to its end, in pieces, and at most one byte past MOST_FILE_BYTES.
 fn read_open<F: Shelf>(alloc: Global, files: &mut F) -> Result<Bytes, ReadError>
     requires { IsOpened (F.state files.old) }
     ensures frame { ReadsOn (F.state files.old) (F.state files.new) }

@@ -14,7 +14,7 @@ pub trait Shelf {
     /// What contracts see of the shelf.
     ghost state: { Self → ShelfState };
 
-    /// Opens the file of this name. A file that is not there is a failure.
+    /// Opens the file of this name. It is a failure if the file does not exist.
     ///
     /// Failed: the count of failures has gone up, and no file can be read on.
     ///
@@ -29,8 +29,8 @@ pub trait Shelf {
         ensures given { Grows (state self.old).reads.given (state self.new).reads.given ((string_bytes name, []) ∷ []) }
         ensures cause { HasCause (state self.old).reads.faults (state self.new).reads.faults result };
 
-    /// Reads on in the open file, into the front of the slice, and answers how many bytes it put there. It is 0 for a
-    /// slice that is not empty exactly at the file's end.
+    /// Reads the next piece of the open file into the beginning of the slice, and answers how many bytes it put there.
+    /// For a slice that is not empty this is 0 exactly at the file's end.
     ///
     /// Condition: the file can be read on.
     ///

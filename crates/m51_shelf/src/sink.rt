@@ -32,7 +32,7 @@ pub trait Sink {
 
 /// Writes all of the bytes.
 ///
-/// Failed: a write has failed, and a front of the bytes is written, without their last one.
+/// Failed: a write has failed, and a prefix of the bytes is written that lacks at least the last.
 ///
 /// Source: own choice ("Calls on the outside").
 pub fn write_whole<S: Sink>(out: &mut S, bytes: &[u8]) -> Result<(), Failed>

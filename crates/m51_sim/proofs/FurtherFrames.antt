@@ -27,7 +27,7 @@ frames_fit cycle xs i d count below few is =
     let all = ap length (sym (frames_join cycle (take (i + 1) xs) (drop (i + 1) xs)) ∙ ap (frames_in cycle) (take-append-drop (i + 1) xs)) in
     omega (arith, few.each cycle, is, more, all, length-append front one, length-append (frames_in cycle (take (i + 1) xs)) (frames_in cycle (drop (i + 1) xs)))
 
--- so a step of the loop goes on with it
+-- so a step of the loop continues with it
 pub frames_step : (cycle : ℕ) (xs : List Timed) (i : ℕ) (d : Timed) (old new : List Frame) → i < length xs → old ≡ frames_in cycle (take i xs) → new ≡ old ++ frames_in cycle (get_or xs i d ∷ []) → new ≡ frames_in cycle (take (i + 1) xs)
 frames_step cycle xs i d old new below so_far is = is ∙ ap (λ fs. fs ++ frames_in cycle (get_or xs i d ∷ [])) so_far ∙ sym (frames_more cycle xs i d below)
 

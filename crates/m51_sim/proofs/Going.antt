@@ -32,7 +32,7 @@ pub record IsOver {M : Type 0} (machine : Machine M) (all : ℕ) (first : State 
 pub entry_lines-appended : {M : Type 0} (r next : Record M) → entry_lines (appended r next) ≡ entry_lines r ++ entry_lines next
 entry_lines-appended r next = flat_map-append entry_line r.entries next.entries
 
--- the lines of what a step tells
+-- the lines of what a step reports
 abbrev pub lines_of : Entries → List ℕ
 lines_of told = flat_map entry_line (entries_of told)
 

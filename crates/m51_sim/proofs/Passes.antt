@@ -126,7 +126,7 @@ no_extra inputs i = record { pins = inputs.pins; frames = λ cycle. append-nil (
 pub none_are_few : AreFew []
 none_are_few = record { each = λ cycle. omega arith }
 
--- a tick that is told by its parts is one machine cycle
+-- a tick that is given by its parts is one machine cycle
 pub cycle_is : (inputs : Inputs) (p now : Passing) (pins : Pins) (frames : List Frame) (told : Option Sent) → now.cycle ≡ next_cycle p.cycle → pins ≡ inputs.pins now.cycle → frames ≡ inputs.frames now.cycle
     → record { cpu = now.cpu; periph = now.periph; sent = told } ≡ ticked p.cpu pins frames p.periph → now.sent ≡ first_sent p.sent (sent_in now.cycle told) → now ≡ cycle_passed inputs p
 unfolding cycle_passed

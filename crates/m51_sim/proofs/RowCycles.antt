@@ -27,7 +27,7 @@ EveryEnd Q (Ends a) = Q a
 EveryEnd Q (Read x go) = (v : ℕ) → EveryEnd Q (go v)
 
 module _ (n : ℕ) where
-  -- so many machine cycles
+  -- the effect takes this number of machine cycles
   abbrev Takes : Effect → Type 0
   Takes e = e.cycles ≡ n
 

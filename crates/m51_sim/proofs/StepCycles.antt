@@ -48,7 +48,7 @@ some_count : (inputs : Inputs) (count : ℕ) (p : Passing) → 1 ≤ count → (
 some_count inputs zero p some = absurd (omega (arith, some))
 some_count inputs (suc more) p some = cycles_count inputs more p
 
--- so many cycles, which are one to four
+-- an attempt takes this number of cycles, which is one to four
 record IsCount (attempt : Attempt) (count : ℕ) : Type 0 where
   takes : Takes attempt count
   some : 1 ≤ count

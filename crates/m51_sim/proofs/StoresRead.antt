@@ -1,4 +1,4 @@
--- The stores for which a monitor stands are those that are read off it.
+-- The stores that a monitor represents are those that are read off it.
 use Rattle.std.proofs.Common.{◌≡◌, ℕ, Bool, true, false, ◌&&◌, Option, Some, None, refl, sym, ap, subst, ◌∙◌, ⊎_elim}
 use Rattle.std.specs.Prelude.{if◌then◌else◌}
 use Rattle.std.proofs.lemmas.Bool.{and_parts}
@@ -48,6 +48,6 @@ module _ (m : Monitored) (sound : IsSound m.layout) (may : AreActivations m.layo
     common = λ c. in_common c (is_common m.layout c) refl i;
   }
 
--- so it stands for these
+-- so it represents these
 pub read_stands : (m : Monitored) → IsSound m.layout → AreActivations m.layout m.records → (s : Stores) × MonitorStandsFor m s → MonitorStandsFor m (stores_read m)
 read_stands m sound may (s, h) = subst (MonitorStandsFor m) (sym (read_same m sound may s h)) h

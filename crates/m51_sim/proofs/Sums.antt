@@ -65,7 +65,7 @@ step_from_advance r answer told old new h e = subst (λ (step : Step). IsStep r 
   by_cases (Err event) (Ok told) old new h = absurd h
   by_cases (Err event) (Err told) old new h = h
 
--- and its entries are told
+-- and its entries are reported
 pub told_from_advance : {M : Type 0} (r : Result (Performed M) Event) (answer : Result Entries Event) (told : Told) (old new : State M) → IsAdvance r answer old new → told ≡ told_by answer → IsToldStep r told old new
 told_from_advance r answer told old new h e = subst (λ (t : Told). IsToldStep r t old new) (sym e) (by_cases r answer old new h) where
   by_cases : {M : Type 0} (r : Result (Performed M) Event) (answer : Result Entries Event) (old new : State M) → IsAdvance r answer old new → IsToldStep r (told_by answer) old new

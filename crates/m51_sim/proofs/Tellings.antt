@@ -1,4 +1,4 @@
--- The lines of what a step tells, one entry after the other.
+-- The lines of what a step reports, one entry after the other.
 use Rattle.std.proofs.Common.{◌≡◌, ℕ, ◌+◌, List, ◌++◌, length, take, Option, Result, Ok, Err, arith, length-append}
 use Rattle.std.proofs.Math.Seq.{take-append-add}
 use Rattle.std.proofs.lemmas.List.{take-append-le}
@@ -12,7 +12,7 @@ use Rattle.m51_sim.specs.declared.runs.Entries.{Entries}
 use Rattle.m51_sim.specs.Runs.{entries_of}
 use Rattle.m51_shelf.specs.Writing.{StopsWithin}
 
--- bytes that lack their last one are a front
+-- bytes that lack their last one are a prefix
 pub front_of_stop : (a b : Option (List ℕ)) (xs : List ℕ) → StopsWithin a b xs → AppendsFront a b xs
 front_of_stop a b xs q = (q.0, omega (arith, q.1), q.2)
 

@@ -1,4 +1,4 @@
--- What contracts see of the boards, and which states of the two machines they stand for.
+-- What contracts see of the boards, and which states of the two machines they represent.
 use Rattle.std.specs.Prelude.{◌≡◌, ℕ, List, Option, Some, None, if◌then◌else◌, ◌&&◌}
 use Rattle.m51_module.specs.declared.parts.LayoutParts.{LayoutParts}
 use Rattle.m51_module.specs.Plan.{IsUnitAt}
@@ -57,8 +57,8 @@ held_value (Holds v) = Some v
 held_value Absent = None
 held_value Fresh = None
 
--- The stores for which a monitor stands, read off its memory: a live segment has what the memory holds in its cells,
--- and the common store what it holds where no segment is; all else is unset.
+-- The stores that a monitor represents, read off its memory: a live segment has what the memory holds in its cells, and
+-- the common store what it holds where no segment is; all else is unset.
 abbrev pub stores_read : Monitored → Stores
 stores_read m = record {
   segment = λ t c.
@@ -98,7 +98,7 @@ pub record IsInOrder (m : Monitored) (cpu : Cpu) : Type 0 where
   pub taken : List Level
   pub have : HaveLevels m.records.returns taken (levels cpu)
 
--- A board stands for its separate state: the memory stands for the stores, the units of the records form walks from
+-- A board represents its separate state: the memory represents the stores, the units of the records form walks from
 -- roots of which none runs twice, and records and processor are in order.
 pub record StandsForState (board : BoardState) : Type 0 where
   pub stores : MonitorStandsFor board.monitor (stores_read board.monitor)

@@ -49,7 +49,7 @@ next_cycle cycle = min (cycle + 1) (2 ^ 64 - 1)
 abbrev pub sent_in : ℕ → Option Sent → Option Entry
 sent_in cycle sent = option_map (λ s. SentByte cycle s.byte s.ninth) sent
 
--- the first of two that is there; in the cycles of a step at most one byte is sent
+-- the first of two, or if it is None the second; in the cycles of a step at most one byte is sent
 abbrev pub first_sent : Option Entry → Option Entry → Option Entry
 first_sent None later = later
 first_sent (Some earlier) later = Some earlier
@@ -65,7 +65,7 @@ cycle_passed inputs p =
     let cycle = next_cycle p.cycle in
     after_tick cycle p.sent (ticked p.cpu (inputs.pins cycle) (inputs.frames cycle) p.periph)
 
--- so many, one after another
+-- this number of machine cycles, one after another
 unfoldable pub cycles_passed : Inputs → ℕ → Passing → Passing
 cycles_passed inputs zero p = p
 cycles_passed inputs (suc count) p = cycle_passed inputs (cycles_passed inputs count p)

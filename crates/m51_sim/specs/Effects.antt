@@ -21,7 +21,7 @@ use Rattle.m51_sim.specs.declared.cycles.Passing.{Passing}
 use Rattle.m51_sim.specs.Cycles.{Inputs, cycles_passed}
 use Rattle.m51_sim.specs.Runs.{State, Performed}
 
--- the instruction that begins at an address; the addresses of its bytes go on from 0 past the last one
+-- the instruction that begins at an address; the addresses of its bytes continue from 0 past the last one
 unfoldable pub instr_at : List ℕ → ℕ → Option Instr
 instr_at image at =
     decoded_at (slice_index image at) (slice_index image ((at + 1) % 65536)) (slice_index image ((at + 2) % 65536))
@@ -72,8 +72,8 @@ passed_into memory port p = record {
   told = record { port = port; sent = p.sent };
 }
 
--- A step is performed: the changes of its effect come first, and then its cycles pass. A port is told with the cycle
--- in which the step starts.
+-- A step is performed: the changes of its effect come first, and then its cycles pass. A write to a port is reported
+-- with the cycle in which the step starts.
 abbrev pub performed : {M : Type 0} → Inputs → State M → Effect → M → Performed M
 performed inputs s e memory =
     passed_into memory (port_entry s.cycle e) (cycles_passed inputs e.cycles (changed_by s.cycle s.periph e))

@@ -1,4 +1,4 @@
--- Facts that private functions hand on, and no definitions: what is known of an effect before it is performed.
+-- Facts for callers of private functions, and no definitions: what is known of an effect before it is performed.
 use Rattle.std.specs.Prelude.{◌≡◌, ◌≤◌, Bool, None, Ok}
 use Rattle.m51_cells.specs.declared.cell.Cell.{Cell}
 use Rattle.m51_cells.specs.Cells.{IsDataCell}
@@ -36,7 +36,7 @@ pub record IsRegular (cpu : Cpu) (e : Effect) : Type 0 where
   pub follows : FollowsLevels e.transfer (levels cpu) (levels e.cpu)
   pub stores : StoresAddress e.transfer e
 
--- a vectoring comes over at most one other
+-- an interrupt is taken while at most one other is in progress
 abbrev pub HasRoom : Monitored → Transfer → Type 0
 HasRoom m (Vector source) = interrupts m.records.returns ≤ 1
 HasRoom m other = Unit {0}

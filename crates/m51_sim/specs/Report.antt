@@ -22,20 +22,20 @@ pub record Report : Type 0 where
 abbrev pub reported : {M : Type 0} → List (List ℕ) → Record M → Report
 reported titles r = record { event = r.event; text = record_text titles r }
 
--- a linked program with a script: at most so many steps of the separate machine, after a reset
+-- a linked program with a script: at most `n` steps of the separate machine, after a reset
 unfoldable pub report_of : LayoutParts → List ℕ → Script → ℕ → Report
 report_of layout image script n =
     let inputs = inputs_of script in
     reported (titles_of layout.placed)
     (record_of (separate_machine layout image inputs) n (reset_with inputs (separate_start layout script.fill)))
 
--- an image with a script: at most so many steps of the flat machine, after a reset, from the fill everywhere
+-- an image with a script: at most `n` steps of the flat machine, after a reset, from the fill everywhere
 unfoldable pub flat_report_of : List ℕ → Script → ℕ → Report
 flat_report_of image script n =
     let inputs = inputs_of script in
     reported [] (record_of (flat_machine image inputs) n (reset_with inputs (filled_map script.fill)))
 
--- The text has grown by the report, and this is how the run ended; where the sink has failed, by a front of it.
+-- The text has grown by the report, and this is how the run ended; if the sink has failed, by a prefix of it.
 abbrev pub IsReported : Report → Option (List ℕ) → Option (List ℕ) → RunEnd → Type 0
 IsReported report before after ends.Finished = (report.event ≡ None) × Appends before after report.text
 IsReported report before after (ends.Stopped event) =

@@ -14,14 +14,14 @@ use Rattle.m51_sim.specs.declared.runs.RunEnd.{RunEnd}
 use Rattle.m51_sim.specs.declared.runs.RunEnd.TheVariants as ends
 use Rattle.m51_sim.specs.Runs.{State, Performed, Machine, Record, record_of}
 
--- what a step that is performed tells, or the event of one that is stopped, which leaves the state
+-- what a step that is performed reports, or the event of one that is stopped, which leaves the state
 abbrev pub IsAdvance : {M : Type 0} → Result (Performed M) Event → Result Entries Event → State M → State M → Type 0
 IsAdvance (Ok done) (Ok told) old new = (told ≡ done.told) × (new ≡ done.state)
 IsAdvance (Ok done) (Err told) old new = ⊥
 IsAdvance (Err event) (Ok told) old new = ⊥
 IsAdvance (Err event) (Err told) old new = (told ≡ event) × (new ≡ old)
 
--- what an advance tells of its step
+-- what an advance reports of its step
 abbrev pub step_told : Result Entries Event → Step
 step_told (Ok told) = Done
 step_told (Err event) = Stopped event
@@ -38,12 +38,12 @@ abbrev pub stopped_by : Step → Option Event
 stopped_by Done = None
 stopped_by (Stopped event) = Some event
 
--- what an advance tells of its step, with the entries of one that is performed
+-- what an advance reports of its step, with the entries of one that is performed
 abbrev pub told_by : Result Entries Event → Told
 told_by (Ok told) = record { step = Done; port = told.port; sent = told.sent }
 told_by (Err event) = record { step = Stopped event; port = None; sent = None }
 
--- a step is done and tells its entries, or it is stopped, tells none, and leaves the state
+-- a step is done and reports its entries, or it is stopped, reports none, and leaves the state
 abbrev pub IsToldStep : {M : Type 0} → Result (Performed M) Event → Told → State M → State M → Type 0
 IsToldStep (Ok done) told old new = (told ≡ told_by (Ok done.told)) × (new ≡ done.state)
 IsToldStep (Err event) told old new = (told ≡ told_by (Err event)) × (new ≡ old)
@@ -79,8 +79,8 @@ pub record IsCutAtEnd {M : Type 0}
   pub begun : length (lines_after machine first steps) ≤ count
   pub unfinished : count < length (record_text titles (record_of machine n first))
 
--- A run of which count bytes were written stands after the step whose lines are not whole, or after its last step where
--- the line is the last.
+-- A run of which count bytes were written is in the state after the step whose lines are not whole, or after its last
+-- step if the last line is not whole.
 pub record StandsAtCut {M : Type 0}
     (titles : List (List ℕ)) (machine : Machine M) (n : ℕ) (first : State M) (count : ℕ) (now : State M)
     : Type 0 where
@@ -88,7 +88,7 @@ pub record StandsAtCut {M : Type 0}
   pub state : now ≡ (record_of machine steps first).last
   pub cut : IsCutInEntry machine n first count steps ⊎ IsCutAtEnd titles machine n first count steps
 
--- the record has this event, the run stands in its last state, and its text is written
+-- the record has this event, the run is in its last state, and its text is written
 pub record IsWhole {M : Type 0}
     (old new : Option (List ℕ)) (titles : List (List ℕ)) (r : Record M) (now : State M) (event : Option Event)
     : Type 0 where
@@ -96,14 +96,14 @@ pub record IsWhole {M : Type 0}
   pub last : now ≡ r.last
   pub text : Appends old new (record_text titles r)
 
--- a front of the record's text is written
+-- a prefix of the record's text is written
 pub record IsCut {M : Type 0}
     (old new : Option (List ℕ)) (titles : List (List ℕ)) (machine : Machine M) (n : ℕ) (first now : State M)
     : Type 0 where
   pub front : AppendsFront old new (record_text titles (record_of machine n first))
   pub stands : StandsAtCut titles machine n first front.0 now
 
--- A run of at most n steps has written its whole record and stands in its last state, or a front of it.
+-- A run of at most n steps has written its whole record and is in its last state, or has written a prefix of it.
 abbrev pub Ended : {M : Type 0}
     → Option (List ℕ) → Option (List ℕ) → List (List ℕ) → Machine M → ℕ → State M → State M → RunEnd → Type 0
 Ended old new titles machine n first now ends.Finished =

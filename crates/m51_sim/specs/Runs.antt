@@ -1,4 +1,4 @@
--- Runs of a machine over any memory: its steps, and the record of at most so many of them.
+-- Runs of a machine over any memory: its steps, and the record of at most a given number of them.
 use Rattle.std.specs.Prelude.{ℕ, zero, suc, List, [], ◌++◌, Option, None, Some, Result, Ok, Err, option_to_list}
 use Rattle.m51_cells.specs.declared.event.Event.{Event}
 use Rattle.m51_cells.specs.declared.event.Entry.{Entry}
@@ -13,12 +13,12 @@ pub record State (M : Type 0) : Type 0 where
   pub cycle : ℕ
   pub memory : M
 
--- a step that is performed: the state after it, and the entries that it tells
+-- a step that is performed: the state after it, and the entries that it reports
 pub record Performed (M : Type 0) : Type 0 where
   pub state : State M
   pub told : Entries
 
--- the entries that a step tells, that of a port first
+-- the entries that a step reports, that of a port first
 abbrev pub entries_of : Entries → List Entry
 entries_of told = option_to_list told.port ++ option_to_list told.sent
 
@@ -46,12 +46,12 @@ with_step told r = record {
   last = r.last;
 }
 
--- the run goes on after a step that is performed, and ends before one that is stopped
+-- the run continues after a step that is performed, and ends before one that is stopped
 abbrev pub record_from : {M : Type 0} → State M → (State M → Record M) → Result (Performed M) Event → Record M
 record_from s rest (Ok done) = with_step done.told (rest done.state)
 record_from s rest (Err event) = no_step (Some event) s
 
--- the record of at most so many steps
+-- the record of at most this number of steps
 unfoldable pub record_of : {M : Type 0} → Machine M → ℕ → State M → Record M
 record_of machine zero s = no_step None s
 record_of machine (suc n) s = record_from s (record_of machine n) (machine s)

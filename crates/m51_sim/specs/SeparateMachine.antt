@@ -41,7 +41,7 @@ pub record Separate : Type 0 where
 abbrev pub cells_of : LayoutParts → Separate → States
 cells_of l m = resolved_cells l (live_in l m.records) m.stores
 
--- so many bytes from the address on lie in the unit
+-- this number of bytes from the address on lie in the unit
 abbrev pub lie_inside : LayoutParts → ℕ → ℕ → ℕ → Bool
 lie_inside l unit pc zero = true
 lie_inside l unit pc (suc count) = lie_inside l unit pc count && is_at (unit_found l ((pc + count) % 65536)) unit
@@ -69,12 +69,12 @@ concludes l m cpu (outcome.Outside c) = Err (events.Outside c cpu.pc)
 concludes l m cpu (outcome.Unset c) = Err (unwritten_in c cpu.pc (segment_over l (live_in l m.records) c))
 concludes l m cpu outcome.PowerDown = Err (events.PowerDown cpu.pc)
 
--- what an instruction comes to over the stores; a cell that is outside may be neither read nor written
+-- the outcome of an instruction over the stores; a cell that is outside may be neither read nor written
 abbrev pub instr_outcome : LayoutParts → Separate → Cpu → Instr → List ℕ → Pins → Outcome
 instr_outcome l m cpu instr image pins =
     let cells = cells_of l m in outcome_of cpu cells (outside_of cells) instr image pins
 
--- what a step comes to, with these levels of the pins: the first event, or the effect and how it changes the records
+-- the result of a step, with these levels of the pins: the first event, or the effect and how it changes the records
 unfoldable pub separate_effect : LayoutParts → List ℕ → Cpu → Separate → Pins → Attempt → Result Allowed Event
 separate_effect l image cpu m pins (Vectoring source) =
     concludes l m cpu (vectored cpu (outside_of (cells_of l m)) source)

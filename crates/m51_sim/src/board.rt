@@ -30,7 +30,7 @@ use std::alloc::Global;
 use std::marker::Model;
 
 /// A board that runs a linked program: each segment of data memory has a store of its own, and control keeps to the
-/// units and edges of the layout. Only `make` takes memory.
+/// units and edges of the layout. Only `make` allocates.
 ///
 /// Source: own choice ("Boards").
 #[derive(Drop)]
@@ -110,8 +110,8 @@ impl Board {
 
     /// At most `n` steps, 1 to 10,000,000, with a line for each entry and the last line.
     ///
-    /// WriteFault: the sink has failed. Where it tells its text, the board is after the step whose line is not whole,
-    /// or after the last step where that line is the last; else after any of the steps. It may be run on.
+    /// WriteFault: the sink has failed. If its text is visible to contracts, the board is after the step whose line is
+    /// not whole, or after the last step where that line is the last; else after any of the steps. It may be run on.
     ///
     /// Source: own choice ("Runs").
     pub fn run<S: Sink>(&mut self, n: u32, out: &mut S) -> RunEnd
@@ -180,7 +180,7 @@ impl Board {
     }
 }
 
-// What an advance tells of its step.
+// What an advance reports of its step.
 fn step_told(answer: Result<Entries, Event>) -> Step
     ensures { result ≡ step_told answer }
 {
@@ -208,7 +208,7 @@ fn told_by(answer: Result<Entries, Event>) -> Told
     }
 }
 
-// Performs a step and gives what it tells, or gives the event that stops it.
+// Performs a step and gives what it reports, or gives the event that stops it.
 fn advance(
     monitor: &mut Monitor,
     chip: &mut Chip,

@@ -33,7 +33,7 @@ pub(crate) struct Passing {
     pub(crate) sent: Option<Entry>,
 }
 
-// The frames of one cycle: so many at the front.
+// The frames of one cycle: the first `count` of these.
 #[derive(Drop)]
 struct Batch {
     frames: [Frame; MOST_EXTRA],
@@ -97,7 +97,7 @@ fn sent_in(cycle: u64, sent: Option<Sent>) -> Option<Entry>
     }
 }
 
-// The first of two that is there.
+// The first of two, or if it is None the second.
 #[inline(always)]
 fn first_sent(earlier: Option<Entry>, later: Option<Entry>) -> Option<Entry>
     ensures { result ≡ first_sent earlier later }
@@ -144,7 +144,7 @@ fn pass_cycle(script: &Script, extra: &[Timed], passing: &mut Passing)
     passing.sent = first_sent(passing.sent, sent_in(cycle, sent));
 }
 
-// So many machine cycles.
+// This number of machine cycles.
 #[tactic(auto, unfolding(crate::specs::Cycles::cycles_passed))]
 #[inline(always)]
 pub(crate) fn pass_cycles(script: &Script, extra: &[Timed], count: u8, passing: &mut Passing)

@@ -63,8 +63,8 @@ impl FlatBoard {
 
     /// At most `n` steps, 1 to 10,000,000, with a line for each entry and the last line.
     ///
-    /// WriteFault: the sink has failed. Where it tells its text, the board is after the step whose line is not whole,
-    /// or after the last step where that line is the last; else after any of the steps. It may be run on.
+    /// WriteFault: the sink has failed. If its text is visible to contracts, the board is after the step whose line is
+    /// not whole, or after the last step where that line is the last; else after any of the steps. It may be run on.
     ///
     /// Source: own choice ("Runs").
     pub fn run<S: Sink>(&mut self, n: u32, out: &mut S) -> RunEnd
@@ -83,7 +83,7 @@ impl FlatBoard {
     }
 }
 
-// What an instruction comes to: its effect, or power-down.
+// The outcome of an instruction: its effect, or power-down.
 #[inline(always)]
 fn execute(chip: &Chip, memory: &FlatRam, instr: &Instr, effect: &mut Effect) -> Result<(), Event>
     ensures value { left_in result effect.new ≡ instr_effect chip.now.image chip.now.cpu (map_of memory.now)
@@ -153,7 +153,7 @@ fn put_both(memory: &mut FlatRam, effect: &Effect)
     put(memory, &effect.second);
 }
 
-// Performs a step and gives what it tells, or gives the event that stops it.
+// Performs a step and gives what it reports, or gives the event that stops it.
 fn advance(chip: &mut Chip, memory: &mut FlatRam, effect: &mut Effect) -> Result<Entries, Event>
     ensures image { chip.new.image ≡ chip.old.image }
     ensures script { chip.new.script ≡ chip.old.script }

@@ -1,4 +1,4 @@
-//! What a step comes to over the memories of a monitor, and the change of these.
+//! The result of a step over the memories of a monitor, and the change of these.
 ghost use Rattle.std.specs.Prelude.{◌≡◌, ◌+◌, ◌%◌, ℕ, Some, Err, IfErr, IfOk, length};
 ghost use Rattle.m51_isa.specs.Table.{length_of};
 ghost use Rattle.m51_cells.specs.declared.event.Event.TheVariants.{Reserved, Transfer as EventTransfer};
@@ -54,7 +54,7 @@ fn is_inside(layout: &Layout, unit: u16, address: u16) -> bool
     }
 }
 
-// Whether so many bytes from an address on lie in the current unit.
+// Whether `count` bytes from an address on lie in the current unit.
 #[tactic(auto, using(crate::proofs::Inside::one_outside))]
 fn lie_inside(monitor: &Monitor, pc: u16, count: u8) -> bool
     ensures { result ≡ lie_inside monitor.now.layout (current monitor.now.records) pc count }
@@ -92,7 +92,7 @@ fn unwritten(monitor: &Monitor, cell: Cell, at: u16) -> Event
     }
 }
 
-// What a step comes to whose effect is this, where its reads and puts came to this answer.
+// The result of a step that has this effect and whose reads and puts had this answer.
 #[inline(always)]
 fn conclude(
     monitor: &Monitor,
@@ -114,7 +114,7 @@ fn conclude(
     }
 }
 
-// What an instruction comes to over the memory.
+// The outcome of an instruction over the memory.
 #[inline(always)]
 fn instr_outcome(
     monitor: &Monitor,
@@ -162,7 +162,7 @@ fn execute(
     conclude(monitor, chip.cpu(), effect, answer)
 }
 
-// What a vectoring comes to over the memory.
+// The outcome of a vectoring over the memory.
 #[inline(always)]
 fn vector_outcome(
     monitor: &Monitor,

@@ -35,7 +35,7 @@ pub enum RunEnd {
     Finished,
     /// This event has stopped it, and its record is written.
     Stopped(Event),
-    /// The sink has failed, and a front of the record is written.
+    /// The sink has failed, and a prefix of the record is written.
     WriteFault,
 }
 
@@ -78,7 +78,7 @@ pub(crate) trait Steps {
     // What is placed, of which an event names a cell or a segment.
     ghost extents: { Fixed → List Extent };
 
-    // Performs a step and gives what it tells, or gives the event that stops it.
+    // Performs a step and gives what it reports, or gives the event that stops it.
     fn advance(&mut self) -> Result<Entries, Event>
         ensures step { IsAdvance (machine (fixed self.old) (state self.old)) result (state self.old) (state self.new) }
         ensures fixed { fixed self.new ≡ fixed self.old }
@@ -92,7 +92,7 @@ pub(crate) trait Steps {
         ensures { result.now ≡ extents (fixed self.now) };
 }
 
-// At most so many steps, with the lines of what they tell and the last line.
+// At most `n` steps, with the lines of what they report and the last line.
 pub(crate) fn run<B: Steps, S: Sink>(board: &mut B, n: u32, out: &mut S) -> RunEnd
     ensures ended { Ended (S.state out.old).text (S.state out.new).text (titles_of (B.extents (B.fixed board.old)))
         (B.machine (B.fixed board.old)) n (B.state board.old) (B.state board.new) result }
@@ -124,7 +124,7 @@ pub(crate) fn run<B: Steps, S: Sink>(board: &mut B, n: u32, out: &mut S) -> RunE
     RunEnd::Finished
 }
 
-// How many entries a step tells.
+// How many entries a step reports.
 fn count_of(told: Entries) -> u64
     ensures value { result ≡ length (entries_of told) }
     ensures few { result ≤ 2 }
@@ -136,7 +136,7 @@ fn count_of(told: Entries) -> u64
     }
 }
 
-// The numbers of at most so many steps.
+// The numbers of at most `n` steps.
 pub(crate) fn count_run<B: Steps>(board: &mut B, n: u32) -> Tally
     ensures tally { result ≡ tally_of (record_of (B.machine (B.fixed board.old)) n (B.state board.old)) }
     ensures last { B.state board.new ≡ (record_of (B.machine (B.fixed board.old)) n (B.state board.old)).last }
@@ -165,7 +165,7 @@ pub(crate) fn count_run<B: Steps>(board: &mut B, n: u32) -> Tally
     }
 }
 
-// Writes the lines of what a step tells.
+// Writes the lines of what a step reports.
 #[tactic(auto, using(crate::proofs::Tellings::tellings))]
 #[inline(always)]
 fn write_told<S: Sink>(out: &mut S, told: Entries) -> Result<(), Failed>

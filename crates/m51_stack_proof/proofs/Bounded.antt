@@ -63,7 +63,7 @@ few_levels true false = omega arith
 few_levels false true = omega arith
 few_levels true true = omega arith
 
--- an instruction that goes on, jumps, calls or returns
+-- an instruction that continues with the next, jumps, calls or returns
 pub record IsDone (cpu : Cpu) (instr : Instr) (e : Effect) : Type 0 where
   pub control : Follows (flow_of instr) (next_address cpu instr) (latch cpu sp) e
   pub levels : LevelsFollow (flow_of instr) (writes_ie_or_ip cpu instr) cpu e
@@ -100,7 +100,7 @@ module _ (l : LayoutParts) (image : List ℕ) (sound : IsSound l) (b : StackBoun
     counted FlowRet w k v = run.count_ret l image sound b bounded few a cpu h.step count instr at e step is k.transfer (same_levels w cpu e v) h.counted
     counted FlowReti w k v = run.count_reti l image sound b bounded few a cpu h.step count instr at e step is k.transfer (ended_levels cpu e v) h.counted
 
-    -- where control goes on or jumps
+    -- where control continues with the next instruction or jumps
     goes : is_return instr ≡ false → is_call instr ≡ false → (is_jump instr ≡ true → e.transfer ≡ Jump) → Leads (next_address cpu instr) (instr_top instr (latch cpu sp)) (target_of instr (next_address cpu instr)) e → After
     goes ret call jumps k = elim k.goes as (λ _. After) [
       | inr j ↦ run.by_jump l image sound b bounded few a cpu h.step count instr at e step is ret call j.0 j.1 k.stack

@@ -1,4 +1,4 @@
--- The points that records stand for, and how high SP is over them.
+-- The points that records represent, and how high SP is over them.
 use Rattle.std.proofs.Common.{◌≡◌, ◌≢◌, ◌≤◌, ◌+◌, ℕ, suc, List, [], ◌∷◌, length, refl, sym, ap, subst, arith, inl, inr, Some}
 use Rattle.std.specs.List.{Contains}
 use Rattle.m51_isa.specs.declared.instr.Instr.{Instr}
@@ -22,12 +22,12 @@ use Rattle.m51_stackbound.specs.Units.{handlers}
 use Rattle.m51_cells.proofs.Small.{first_or_after, none_in_empty}
 
 module _ (l : LayoutParts) (image : List ℕ) where
-  -- a point over which a record stands, with SP there
+  -- a point that is below a record, with SP at that record
   pub record IsBelow (reset : List ℕ) (rs : List ReturnRecord) (p : Point) (sp : ℕ) : Type 0 where
     pub is_point : IsPoint l image p
     pub covered : IsUnitAt l p.address (first_or (named_over reset rs) 0)
 
-  -- the record of a call stands for the point that calls, and that of an interrupt for the point that it came after
+  -- the record of a call represents the point that calls, and that of an interrupt the point after which it came
   pub data Stands (reset : List ℕ) : List ReturnRecord → Start → ℕ → Type 0 where
     AtReset : Stands reset [] Reset 0
     AfterCall : (r : ReturnRecord) (rs : List ReturnRecord) (p : Point) (base to : ℕ) (instr : Instr) → r.cause ≡ ByCall → Stands reset rs p.start base → IsBelow reset rs p r.sp
@@ -84,7 +84,7 @@ module _ (l : LayoutParts) (image : List ℕ) where
       run (ByInterrupt s) e = refl
 
   module _ (b : StackBound) (bound : IsBound l image b) where
-    -- what the current start takes, over what stands below, is no more than the bound
+    -- what the current start takes, on top of what is below it, is no more than the bound
     pub most : (reset : List ℕ) (rs : List ReturnRecord) (start : Start) (base : ℕ) → Stands reset rs start base → (path : List Start) (bytes : ℕ) → Takes l image start path bytes
         → (vs : List ℕ) (more : ℕ) → Above vs more → ((v : ℕ) → Contains vs v → Contains (running rs) v → ⊥) → length vs + interrupts rs ≤ 2 → base + bytes + more ≤ b.total
     most reset _ _ _ AtReset path bytes t vs more a fresh few =

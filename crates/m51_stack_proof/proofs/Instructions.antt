@@ -1,4 +1,5 @@
--- Each instruction that is no call, return or computed jump, and does not write SP by an operand but for an immediate value.
+-- Each instruction that is no call, return or computed jump, and does not write SP by an operand but for an immediate
+-- value.
 use Rattle.std.proofs.Common.{◌≡◌, ◌+◌, ◌*◌, ◌/◌, ◌%◌, ℕ, Bool, true, false, not, cond, length, List, Option, Some, None, refl, subst, sym, ap, ◌∙◌, ◌⊎◌, inl, inr}
 use Rattle.std.proofs.lemmas.Bool.{eqb-true}
 use Rattle.std.specs.Prelude.{◌==◌, ◌&&◌, ◌||◌, if◌then◌else◌, is_some, nat_lt}
@@ -66,7 +67,7 @@ value_assigned : (cpu : Cpu) (ext : Pins) (a v : ℕ) (image : List ℕ) → len
     → Always (λ e. Leads (next_address cpu (names.MovDirectData a v)) (instr_top (names.MovDirectData a v) (latch cpu sp)) None e) (plan_of cpu (names.MovDirectData a v) image ext)
 value_assigned cpu ext a v image len = value_by cpu ext a v image len (a == sp) refl
 
--- an instruction that goes on or jumps, and does not write SP by an operand but for an immediate value
+-- an instruction that continues with the next or jumps, and does not write SP by an operand but for an immediate value
 leads_by : (cpu : Cpu) (instr : Instr) (image : List ℕ) (ext : Pins) → length cpu.regs ≡ 128 → (writes_sp instr && not (is_some (sets_sp instr))) ≡ false → (is_call instr || is_return instr || is_computed instr) ≡ false
     → Always (λ e. Leads (next_address cpu instr) (instr_top instr (latch cpu sp)) (target_of instr (next_address cpu instr)) e) (plan_of cpu instr image ext)
 unfolding latch location_of with_location

@@ -43,7 +43,7 @@ pub way_of : (l : LayoutParts) (from : ℕ) (low call : Bool) (at o : Option ℕ
 way_of l from low call at None step is k = absurd (cc k)
 way_of l from low call at (Some u) step is k = way_by l from low call u at step (nat_eq u from) refl is k
 
--- control goes on in the unit
+-- control continues in the unit
 pub record StaysIn (from : ℕ) (at : Option ℕ) (step : Move) : Type 0 where
   pub inside : is_at at from ≡ true
   pub step_is : step ≡ Stay

@@ -114,7 +114,7 @@ module _ (l : LayoutParts) (sound : IsSound l) where
       some v is None h = tt
       some v is (Some u) h = root_there l sound v u is h
 
--- where control goes on
+-- where control continues
 module _ (l : LayoutParts) (image : List ℕ) (p : Point) (instr : Instr) (at : instruction l image p.address ≡ Some instr) (goes : ends_at p instr ≡ false) (call : is_call instr ≡ false) where
   abbrev next : ℕ
   next = next_of instr p.address

@@ -1,4 +1,4 @@
--- A run of the separate machine keeps what records and processor stand for, so SP never passes the bound.
+-- A run of the separate machine keeps what records and processor represent, so SP never passes the bound.
 use Rattle.std.proofs.Common.{◌≡◌, ◌≤◌, ◌+◌, ◌*◌, ◌/◌, ◌%◌, ℕ, Bool, true, false, drop, List, [], ◌∷◌, length, refl, sym, ap, subst, ◌∙◌, arith, inl, inr, Some}
 use Rattle.std.specs.Prelude.{Ok}
 use Rattle.std.proofs.lemmas.Bool.{eq-eqb}

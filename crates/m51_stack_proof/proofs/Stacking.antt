@@ -37,7 +37,7 @@ regs_kept : (regs : List ℕ) (a v : ℕ) → (a == sp) ≡ false → get_or (wi
 unfolding with_parity
 regs_kept regs a v h = get_or-set_other (slice_set regs (a - 128) v) 80 1 _ 0 (far 1 (lit< tt)) ∙ get_or-set_other regs (a - 128) 1 v 0 (other_place a h)
 
--- control goes on to the next instruction, or to the target, and SP is so much
+-- control continues with the next instruction, or with the target, and SP is `top`
 pub record Leads (n top : ℕ) (target : Option ℕ) (e : Effect) : Type 0 where
   pub stack : latch e.cpu sp ≡ top
   pub goes : ((e.transfer ≡ Next) × (e.cpu.pc ≡ n)) ⊎ ((e.transfer ≡ Jump) × (target ≡ Some e.cpu.pc))

@@ -1,4 +1,4 @@
--- Each step that is performed keeps the points that records and processor stand for.
+-- Each step that is performed keeps the points that records and processor represent.
 use Rattle.std.proofs.Common.{◌≡◌, ◌≤◌, ◌+◌, ◌%◌, ◌-◌, ℕ, Bool, true, false, not, List, [], ◌∷◌, refl, sym, ap, subst, ◌∙◌, arith, ◌⊎◌, Some, None}
 use Rattle.std.specs.Prelude.{◌==◌, ◌&&◌, ◌||◌, if◌then◌else◌, is_some}
 use Rattle.std.specs.Option.{unwrap_or}
@@ -37,7 +37,7 @@ pub put_byte : (p : Put) (a v : ℕ) → p ≡ Byte a v → byte_put p ≡ v
 put_byte p a v e = ap byte_put e
 
 module _ (l : LayoutParts) (image : List ℕ) (sound : IsSound l) (b : StackBound) (bound : IsBound l image b) (few : b.total ≤ 255) where
-  -- what records and processor stand for
+  -- what records and processor represent
   pub record InStep (a : Records) (pc top : ℕ) : Type 0 where
     pub start : Start
     pub base : ℕ
@@ -139,7 +139,7 @@ module _ (l : LayoutParts) (image : List ℕ) (sound : IsSound l) (b : StackBoun
         covers = covers;
       }
 
-      -- control goes on to the next instruction
+      -- control continues with the next instruction
       pub went_on : is_return instr ≡ false → is_call instr ≡ false → is_jump instr ≡ false → IsUnitAt l next (current a) → InStep a next (instr_top instr top)
       unfolding height_after
       went_on ret call jump at_next =
@@ -215,7 +215,7 @@ module _ (l : LayoutParts) (image : List ℕ) (sound : IsSound l) (b : StackBoun
       → Contains (successors l image p) (point_at p.start (next_of instr p.address) p.height)
   back_there p instr to at calls one = call_returns l image p instr to at calls one
 
-  -- a return goes back to what the topmost record stands for
+  -- a return goes back to what the topmost record represents
   pub returned : (reset : List ℕ) (r : ReturnRecord) (rs : List ReturnRecord) (start : Start) (base : ℕ) (c : Records) (new : ℕ) → Stands l image reset (r ∷ rs) start base → r.sp ≤ 255 → new ≡ (r.sp + 254) % 256
       → c.reset ≡ reset → c.returns ≡ rs → IsUnitAt l r.return_address (current c) → InStep c r.return_address new
   returned reset _ _ _ _ c new (AfterCall r rs p base to instr cause below is calls at back high) fits new_is same returns covers =

@@ -137,7 +137,7 @@ item_derived (symbols.Text cs ∷ []) = some_is grammar.Text
 item_derived (symbols.Text cs ∷ s ∷ rest) = item_by (symbols.Text cs ∷ s ∷ rest) refl
 item_derived l = item_by l refl
 
--- EXTRN: what a place derives of what stands from it on
+-- EXTRN: the derivation of the symbols from a place on, by what is awaited there
 abbrev Rest : Awaited → List Symbol → List (List ℕ × Kind) → Type 0
 Rest awaited.Kind l xs = AreExterns None l xs
 Rest (awaited.Open k) l xs = (word : List ℕ) → extern_kind_of word ≡ Some k → AreExterns None (symbols.Word word ∷ l) xs
@@ -240,7 +240,7 @@ directive_derived directive.Public l = some_map body.Public (IsDirective directi
 directive_derived directive.Extrn l = some_map body.Extrn (IsDirective directive.Extrn l) (externs l) (record { holds = λ xs read. grammar.Extrn ((externs_derived l awaited.Kind).holds xs read) })
 directive_derived directive.End l = end_derived l
 
--- what stands after the label
+-- the statement after the label
 instruction_derived : (labelled : Bool) (word : List ℕ) (l : List Symbol) → is_mnemonic word ≡ true → IfSome (instruction word l) (IsSaid labelled (symbols.Word word ∷ l))
 instruction_derived labelled word l is = some_then (if_form word) (IsSaid labelled (symbols.Word word ∷ l)) (operands l) (λ os read.
     some_if (has_form word os) (λ form. some_is (grammar.Instruction is ((operands_derived l).holds os read) form)))

@@ -54,7 +54,7 @@ expr_read l e is =
 abbrev IsInside : Symbol → Type 0
 IsInside s = is_comma s ≡ false
 
--- no comma stands in an expression
+-- an expression contains no comma
 abbrev IsFreeOfComma : Option Symbol → Type 0
 IsFreeOfComma None = Unit {0}
 IsFreeOfComma (Some s) = is_comma s ≡ false
@@ -283,7 +283,7 @@ directive_reads d l b (grammar.Public {names = xs} is) = ap (option_map body.Pub
 directive_reads d l b (grammar.Extrn {externs = xs} is) = ap (option_map body.Extrn) (externs_read None l xs is)
 directive_reads d l b grammar.End = refl
 
--- what stands after the label
+-- the statement after the label
 said_reads : (labelled : Bool) (l : List Symbol) (b : BodyTree) → IsSaid labelled l b → said labelled l ≡ Some b
 said_reads labelled l b grammar.Nothing = refl
 said_reads labelled l b (grammar.Instruction {word = word} {symbols = rest} {os = os} is given form) =

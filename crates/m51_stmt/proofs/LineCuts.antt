@@ -21,7 +21,7 @@ abbrev pub laid : List Word → List ℕ
 laid [] = []
 laid (w ∷ ws) = w.text ++ space ∷ laid ws
 
--- the token of a word that stands at a place
+-- the token of a word at a place
 abbrev pub token_at : ℕ → Word → Token
 token_at at w = record { what = w.what; from = at; to = at + length w.text }
 
@@ -30,7 +30,7 @@ abbrev pub placed : ℕ → List Word → List Token
 placed at [] = []
 placed at (w ∷ ws) = token_at at w ∷ placed (at + length w.text + 1) ws
 
--- before a blank the word stands as a token of its own
+-- the word is cut as a token of its own before a blank
 pub record IsCut (w : Word) : Type 0 where
   pub some : 0 < length w.text
   pub front : (at : ℕ) (rest : List ℕ) (go : ℕ → Cut) → after_lexeme at (lexeme_of (w.text ++ space ∷ rest)) go ≡ put_front (token_at at w ∷ []) (go (length w.text - 1))
@@ -72,7 +72,7 @@ word_within before text rest =
     ∙ ap (λ n. take n (text ++ rest)) (omega arith)
     ∙ take-append_seam text rest
 
--- the places of words are where they stand
+-- the places of words are those where the line has them
 pub placed_are : (before : List ℕ) (ws : List Word) (at : ℕ) → at ≡ length before → AreWords (before ++ laid ws) (placed at ws) ws
 placed_are before [] at is = tt
 placed_are before (w ∷ ws) at is =

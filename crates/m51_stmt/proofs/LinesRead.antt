@@ -1,4 +1,4 @@
--- A line is read as a statement exactly where the grammar derives it.
+-- A line is read as a statement exactly if the grammar derives it.
 use Rattle.std.proofs.Common.{◌≡◌, ℕ, ◌≤◌, ◌==◌, Bool, true, false, cond, nat_lt, List, length, drop, None, Result, Ok, Err, ap, ◌∙◌, arith, subst, slice_index}
 use Rattle.std.specs.Prelude.{codes, IfOk}
 use Rattle.std.proofs.lemmas.Grind.{common_steps}
@@ -44,7 +44,7 @@ short_line : (b : Bool) (r : Result StmtTree ℕ) (s : StmtTree) → cond b (Err
 short_line true r s h = absurd (cc h)
 short_line false r s h = h
 
--- what a reader of lines hands out is in the grammar
+-- what a reader of lines returns is in the grammar
 pub sound : (r : Result Stmt StmtError) (line : List ℕ) → Gives stmt_tree fault_of r (statement_of line) → IfOk r (λ s. IsLine line (stmt_tree s))
 sound (Ok s) line h = (line_derived line).holds (stmt_tree s) (short_line (nat_lt MOST_LINE_BYTES (length line)) (any_line line) (stmt_tree s) h)
 sound (Err e) line h = tt
@@ -52,7 +52,7 @@ sound (Err e) line h = tt
 long_enough : (n : ℕ) → n ≤ MOST_LINE_BYTES → nat_lt MOST_LINE_BYTES n ≡ false
 long_enough n h = grind (arith, common_steps)
 
--- what is in the grammar is handed out, where the line has at most 255 bytes
+-- what is in the grammar is returned, if the line has at most 255 bytes
 pub complete : (r : Result Stmt StmtError) (line : List ℕ) (s : StmtTree) → length line ≤ MOST_LINE_BYTES → IsLine line s → Gives stmt_tree fault_of r (statement_of line) → Gives stmt_tree fault_of r (Ok s)
 complete r line s few is h =
     subst (λ answer. Gives stmt_tree fault_of r answer)

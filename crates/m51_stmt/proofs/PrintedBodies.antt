@@ -58,7 +58,7 @@ abbrev pub IsAt : Option Tree → Type 0
 IsAt None = Unit {0}
 IsAt (Some e) = IsTree e
 
--- a body that can be read at a place: a definition at the first place alone, and no control
+-- a body that can be read at a place: a definition only at the first place, and no control
 abbrev pub IsBody : ℕ → BodyTree → Type 0
 IsBody at body.Empty = Unit {0}
 IsBody at body.Ignored = ⊥
@@ -235,7 +235,7 @@ code_said labelled m os is =
 directive_said : (labelled : Bool) (w : List ℕ) (d : Directive) (rest : List Word) (b : BodyTree) → directive_of w ≡ Some d → symbol (name_word w) ≡ symbols.Word w → grammar.IsDirective d (map symbol rest) b → IsSaid labelled (map symbol (name_word w ∷ rest)) b
 directive_said labelled w d rest b found word is = subst (SaysFirst labelled (map symbol rest) b) (sym word) (grammar.Directed found is)
 
--- a definition, where no label stands before it
+-- a definition without a label before it
 define_said : (labelled : Bool) (name w : List ℕ) (d : Definition) (rest : List Word) (b : BodyTree) → labelled ≡ false → IsFree name → definition_of w ≡ Some d → symbol (name_word w) ≡ symbols.Word w → grammar.IsDefinition name d (map symbol rest) b → IsSaid labelled (map symbol (name_word name ∷ name_word w ∷ rest)) b
 define_said labelled name w d rest b bare free found word is =
     subst (λ l. IsSaid l (map symbol (name_word name ∷ name_word w ∷ rest)) b) (sym bare)

@@ -34,7 +34,7 @@ abbrev pub item_words : ItemTree → List Word → List Word
 item_words (Value e) rest = expr_words e rest
 item_words (Text characters) rest = text_word characters ∷ rest
 
--- an item that can be read: a text in DB alone
+-- an item that can be read: a text only in DB
 abbrev pub IsItem : Bool → ItemTree → Type 0
 IsItem texts (Value e) = IsTree e
 IsItem texts (Text characters) = texts ≡ true

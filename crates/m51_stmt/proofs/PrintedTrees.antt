@@ -151,7 +151,7 @@ loosen (suc d) tight rank h le w = Tighter (omega (arith, h, le)) (loosen d tigh
 looser : {line : Line} {at : ℕ} {e : Tree} {to : ℕ} (tight rank : ℕ) → rank ≤ tight → tight ≤ 8 → Writes line tight at e to → Writes line rank at e to
 looser tight rank le high w = loosen (tight - rank) tight rank (omega (arith, le)) high w
 
--- from a place to the end of the line these words stand
+-- from a place to its end the line consists of these words
 abbrev Stands : Line → ℕ → List Word → Type 0
 Stands line at [] = line at ≡ None
 Stands line at (w ∷ ws) = (line at ≡ Some (symbol w)) × Stands line (at + 1) ws
@@ -185,7 +185,7 @@ written line at (tree.Two op left right) rest is h =
     let ranked : Writes line r (at + 1) (tree.Two op left right) m.next = Between (looser 8 r (omega (arith, low)) (omega arith) l.writes) sign (looser 8 (r + 1) low (omega arith) m.writes) in
     record { next = m.next + 1; writes = Parens refl (ap is_open h.0) (looser r 0 (omega arith) (omega (arith, low)) ranked) (ap is_close m.then.0) refl; then = m.then.1 }
 
--- the words of a list of symbols stand at its places
+-- the words of a list of symbols are at its places
 get : (l : List Symbol) (at : ℕ) → slice_get l at ≡ slice_get (drop at l) 0
 get [] zero = refl
 get [] (suc at) = refl
@@ -209,6 +209,6 @@ expr_said e is =
     let all : w.next ≡ length l = omega (arith, ends_within l w.writes, past_end l w.next w.then) in
     record { writes = subst (Writes (line_of l) 0 0 e) all (looser 8 0 (omega arith) (omega arith) w.writes) }
 
--- five texts in a row, however they are joined
+-- five consecutive texts, however they are joined
 pub five_joined : (a b c d e : List ℕ) → a ++ (b ++ (c ++ (d ++ e))) ≡ (((a ++ b) ++ c) ++ d) ++ e
 five_joined a b c d e = sym (simp append_assoc)

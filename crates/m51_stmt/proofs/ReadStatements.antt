@@ -223,7 +223,7 @@ directive_body place d l b good (grammar.Public {names = xs} is) h = list_good g
 directive_body place d l b good (grammar.Extrn {externs = xs} is) h = externs_good None l xs is h
 directive_body place d l b good grammar.End h = tt
 
--- what stands after the label; definitions stand first in their line
+-- the statement after the label; a definition is the first in its line
 said_good : (place : ℕ) (labelled : Bool) (l : List Symbol) (b : BodyTree) → (labelled ≡ false → place ≡ 0) → grammar.IsSaid labelled l b → Each IsGood l → IsBody place b
 said_good place labelled l b first grammar.Nothing h = tt
 said_good place labelled l b first (grammar.Instruction {symbols = rest} {os = os} is given form) h =

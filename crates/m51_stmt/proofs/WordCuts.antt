@@ -1,4 +1,4 @@
--- Names, signs, numbers and texts stand as tokens of their own before a blank.
+-- Names, signs, numbers and texts are cut as tokens of their own before a blank.
 use Rattle.std.proofs.Common.{◌≡◌, ℕ, ◌+◌, ◌-◌, ◌*◌, ◌/◌, ◌%◌, ◌<◌, ◌==◌, ◌||◌, ◌&&◌, cond, not, nat_lt, nat_le, Bool, true, false, List, [], ◌∷◌, ◌++◌, length, length-append, take, Some, None, refl, sym, ap, ◌∙◌, arith, option_map, append_assoc}
 use Rattle.std.specs.Char.{is_ascii_digit, is_ascii_alphanumeric, digit_value}
 use Rattle.std.specs.Fmt.{digit_glyph}
@@ -95,7 +95,7 @@ name_cut text h = named text (named_is_name text text h)
 glyph_value : (d : ℕ) → d < 16 → digit_value (digit_glyph true d) ≡ d
 glyph_value d h = grind (arith, common_steps)
 
--- a digit goes on with the run of a number
+-- a digit continues the run of a number
 pub glyph_run : (d : ℕ) → d < 16 → is_ascii_alphanumeric (digit_glyph true d) ≡ true
 glyph_run d h = grind (arith, common_steps)
 

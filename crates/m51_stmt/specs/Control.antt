@@ -19,11 +19,11 @@ opening = 40
 abbrev pub closing : ℕ
 closing = 41
 
--- a byte that may stand between the parentheses of a control: none of ) and ;
+-- a byte that is allowed between the parentheses of a control: neither ) nor ;
 abbrev pub is_inside : ℕ → Bool
 is_inside b = not (b == closing) && not (b == semicolon)
 
--- what stands after the blanks that come first
+-- what follows the leading blanks
 abbrev pub behind_blanks : List ℕ → List ℕ
 behind_blanks rest = drop (prefix_len is_blank rest) rest
 
@@ -36,7 +36,7 @@ is_comment (c ∷ rest) = c == semicolon
 abbrev pub ends : List ℕ → Bool
 ends rest = is_comment (behind_blanks rest)
 
--- what stands after this sign, where it comes first
+-- what follows this sign, if it is the first byte
 abbrev pub behind_sign : ℕ → List ℕ → Option (List ℕ)
 behind_sign sign [] = None
 behind_sign sign (c ∷ rest) = if c == sign then Some rest else None
@@ -50,7 +50,7 @@ abbrev pub closed_at : List ℕ → ℕ → Option (List ℕ)
 closed_at inner len =
     if len == 0 then None else option_and_then (if_ended (take len inner)) (behind_sign closing (drop len inner))
 
--- one or more bytes between parentheses, after which only blanks and a comment stand
+-- one or more bytes between parentheses, followed by only blanks and a comment
 abbrev pub parenthesized : List ℕ → Option (List ℕ)
 parenthesized rest =
     option_and_then (λ inner. closed_at inner (prefix_len is_inside inner)) (behind_sign opening (behind_blanks rest))
@@ -73,7 +73,7 @@ abbrev pub ignored_if : Option (List ℕ) → Result BodyTree ℕ
 ignored_if (Some text) = Ok Ignored
 ignored_if None = Err BAD_FORM
 
--- a title stands by itself, or with a text
+-- a title without a text, or with one in parentheses
 abbrev pub title : List ℕ → Result BodyTree ℕ
 title rest = if ends rest then Ok Ignored else ignored_if (parenthesized rest)
 
@@ -97,6 +97,6 @@ abbrev pub by_name : Option (List ℕ) → List ℕ → Result BodyTree ℕ
 by_name (Some word) rest = by_word word rest
 by_name None rest = Err BAD_FORM
 
--- what a control line says, whose $ stands before these bytes
+-- what a control line says, from the bytes after its $
 abbrev pub control : List ℕ → Result BodyTree ℕ
 control rest = let len = prefix_len is_ascii_alphanumeric rest in by_name (name_of (take len rest)) (drop len rest)

@@ -25,7 +25,7 @@ definition_of word =
     else if bytes_eq word (codes "SET") then Some Set
     else option_map Address (kind_of word)
 
--- a segment of the kind may have the type, and be OVERLAYABLE where that stands
+-- a segment of the kind may have the type, and be OVERLAYABLE if that is written
 abbrev pub is_allowed : Kind → Reloc → Bool → Bool
 is_allowed k r overlayable = allows k r && (not overlayable || may_overlay k r)
 
@@ -34,7 +34,7 @@ abbrev pub segment_with : List ℕ → Bool → Kind → Reloc → Option BodyTr
 segment_with name overlayable k r =
     if is_allowed k r overlayable then Some (body.Segment name k r overlayable) else None
 
--- the segment of this name by the words for its kind and its type, and whether OVERLAYABLE stands
+-- the segment of this name by the words for its kind and its type, and whether OVERLAYABLE is written
 abbrev pub segment_of : List ℕ → Option Kind → Option Reloc → Bool → Option BodyTree
 segment_of name k r overlayable =
     option_and_then (λ kind. option_and_then (segment_with name overlayable kind) r) k
@@ -43,7 +43,7 @@ segment_of name k r overlayable =
 abbrev pub is_overlayable : List ℕ → Bool
 is_overlayable word = bytes_eq word (codes "OVERLAYABLE")
 
--- kind [type] [OVERLAYABLE]; the type is UNIT where none stands
+-- kind [type] [OVERLAYABLE]; the type is UNIT if none is written
 abbrev pub segment : List ℕ → List Symbol → Option BodyTree
 segment name (symbol.Word kind ∷ []) = segment_of name (kind_of kind) (Some reloc.Unit) false
 segment name (symbol.Word kind ∷ symbol.Word last ∷ []) =
@@ -60,7 +60,7 @@ definition_form Equ name symbols = option_map (body.Equ name) (expression symbol
 definition_form Set name symbols = option_map (body.Set name) (expression symbols)
 definition_form (Address k) name symbols = option_map (body.Address name k) (expression symbols)
 
--- something that a definition wants after its word does not stand
+-- something that the definition requires after its word is missing
 abbrev pub definition_lacks : Definition → List Symbol → Bool
 definition_lacks Segment symbols = lacks want.Nothing want.Names symbols
 definition_lacks d symbols = lacks want.Expression want.Nothing symbols

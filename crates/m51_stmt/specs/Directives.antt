@@ -1,4 +1,4 @@
--- Directives, and what each wants after its word.
+-- Directives, and what each requires after its word.
 use Rattle.std.specs.Prelude.{ℕ, Bool, true, false, if◌then◌else◌, List, [], ◌∷◌, codes, Option, Some, None, option_map}
 use Rattle.std.specs.Str.{bytes_eq}
 use Rattle.m51_cells.specs.declared.kind.Kind.{Kind}
@@ -46,7 +46,7 @@ abbrev pub is_at : Symbol → Bool
 is_at (symbol.Word w) = bytes_eq w (codes "AT")
 is_at s = false
 
--- CSEG, DSEG, XSEG, BSEG and ISEG stand without operands, or with AT and an expression
+-- CSEG, DSEG, XSEG, BSEG and ISEG have no operand, or AT and an expression
 abbrev pub select : Kind → List Symbol → Option BodyTree
 select k [] = Some (Select k None)
 select k (s ∷ rest) = if is_at s then option_map (λ e. Select k (Some e)) (expression rest) else None
@@ -56,7 +56,7 @@ abbrev pub end_form : List Symbol → Option BodyTree
 end_form [] = Some End
 end_form more = None
 
--- what a directive says with what stands after its word
+-- the statement of a directive, from the symbols after its word
 abbrev pub directive_form : Directive → List Symbol → Option BodyTree
 directive_form word.Using symbols = option_map Using (expression symbols)
 directive_form word.Ds symbols = option_map Ds (expression symbols)
@@ -71,13 +71,13 @@ directive_form word.Public symbols = option_map Public (list_of name_alone symbo
 directive_form word.Extrn symbols = option_map Extrn (externs symbols)
 directive_form word.End symbols = end_form symbols
 
--- after CSEG, DSEG, XSEG, BSEG or ISEG an expression is wanted where AT stands
+-- something that CSEG, DSEG, XSEG, BSEG or ISEG requires is missing: after AT an expression is required
 abbrev pub select_lacks : List Symbol → Bool
 select_lacks [] = false
 select_lacks (s ∷ rest) =
     if is_at s then lacks want.Expression want.Nothing rest else lacks want.Nothing want.Names (s ∷ rest)
 
--- something that a directive wants after its word does not stand
+-- something that the directive requires after its word is missing
 abbrev pub directive_lacks : Directive → List Symbol → Bool
 directive_lacks word.Using symbols = lacks want.Expression want.Nothing symbols
 directive_lacks word.Ds symbols = lacks want.Expression want.Nothing symbols
@@ -88,7 +88,7 @@ directive_lacks word.Dw symbols = lacks want.Expression want.Expression symbols
 directive_lacks (word.Select k) symbols = select_lacks symbols
 directive_lacks other symbols = lacks want.Nothing want.Names symbols
 
--- fault 6 where something lacks, or else this one
+-- fault 6 if something is missing, or else this fault
 abbrev pub lacking : Bool → ℕ → ℕ
 lacking true k = NO_EXPRESSION
 lacking false k = k
@@ -98,7 +98,7 @@ abbrev pub reserves : Directive → List Symbol → Bool
 reserves word.Extrn symbols = defines_reserved outside symbols
 reserves other symbols = false
 
--- the fault of a directive out of its form
+-- the fault of a directive with a syntax error
 abbrev pub directive_fault : Directive → List Symbol → ℕ
 directive_fault d symbols =
     if reserves d symbols then BAD_FORM else lacking (directive_lacks d symbols) BAD_FORM

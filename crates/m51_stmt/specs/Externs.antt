@@ -45,7 +45,7 @@ externs_from here (s ∷ rest) =
 abbrev pub externs : List Symbol → Option (List (List ℕ × Kind))
 externs symbols = externs_from awaited.Kind symbols
 
--- so many parentheses are open, and a name is to stand or not
+-- the region inside `depth` open parentheses, where a name is expected or not
 abbrev pub region : ℕ → Bool → Region
 region depth at_name = record { depth = depth; at_name = at_name }
 
@@ -53,14 +53,14 @@ region depth at_name = record { depth = depth; at_name = at_name }
 abbrev pub outside : Region
 outside = region 0 false
 
--- the region after a symbol: a name is to stand after an opening parenthesis, and after a comma inside parentheses
+-- the region after a symbol: a name is expected after an opening parenthesis, and after a comma inside parentheses
 abbrev pub region_after : Region → Symbol → Region
 region_after r symbol.Open = region (r.depth + 1) true
 region_after r symbol.Close = region (r.depth - 1) false
 region_after r symbol.Comma = region r.depth (nat_lt 0 r.depth)
 region_after r s = region r.depth false
 
--- a reserved word stands where a name is to stand: after an opening parenthesis, or after a comma inside parentheses
+-- a reserved word is where a name is expected: after an opening parenthesis, or after a comma inside parentheses
 abbrev pub defines_reserved : Region → List Symbol → Bool
 defines_reserved r [] = false
 defines_reserved r (s ∷ more) =

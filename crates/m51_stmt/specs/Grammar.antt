@@ -75,7 +75,7 @@ pub data IsItem : List Symbol → ItemTree → Type 0 where
   Value : {symbols : List Symbol} {e : Tree}
       → is_text_alone symbols ≡ false → IsExpr symbols e → IsItem symbols (body.Value e)
 
--- What stands in EXTRN before a group (None), or where a name of a kind is to stand:
+-- The symbols of EXTRN from a place on: before a group (None), or where a name of a kind is expected:
 --   groups = KIND ( names
 --   names  = name , names | name ) | name ) , groups
 pub data AreExterns : Option Kind → List Symbol → List (List ℕ × Kind) → Type 0 where
@@ -135,7 +135,7 @@ pub data IsDirective : Directive → List Symbol → BodyTree → Type 0 where
       → AreExterns None symbols externs → IsDirective directive.Extrn symbols (body.Extrn externs)
   End : IsDirective directive.End [] body.End
 
--- what stands in a line after its label, where one stands or not:
+-- the symbols of a line after its label, or of the whole line if it has none:
 --   nothing | mnemonic operands | directive | name definition, without a label
 pub data IsSaid : Bool → List Symbol → BodyTree → Type 0 where
   Nothing : {labelled : Bool} → IsSaid labelled [] body.Empty

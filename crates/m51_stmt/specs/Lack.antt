@@ -1,4 +1,4 @@
--- Where an expression or an operand is wanted and none stands: fault 6 of a line that is out of form.
+-- Fault 6 of a line with a syntax error: an expression or an operand is required and missing.
 use Rattle.std.specs.Prelude.{ℕ, ◌+◌, ◌-◌, ◌==◌, ◌||◌, ◌&&◌, not, Bool, true, false, if◌then◌else◌}
 use Rattle.std.specs.Prelude.{List, [], ◌∷◌, codes, Option, Some, None, is_some, option_map, slice_get}
 use Rattle.std.specs.Str.{bytes_eq}
@@ -17,7 +17,7 @@ use Rattle.m51_stmt.specs.Words.{begins_expression, begins_operand, is_text, is_
 abbrev pub same : {A : Type 0} → A → A
 same a = a
 
--- what is wanted begins with this symbol
+-- what is required begins with this symbol
 abbrev pub begins : Want → Symbol → Bool
 begins want.Operand s = begins_operand s
 begins want.Expression s = begins_expression s
@@ -26,7 +26,7 @@ begins want.First s = not (is_text s)
 begins want.Nothing s = true
 begins want.Names s = true
 
--- what is wanted begins the symbols
+-- the symbols begin with what is required
 abbrev pub is_met : Want → List Symbol → Bool
 is_met want.First [] = true
 is_met want.Nothing [] = true
@@ -44,7 +44,7 @@ abbrev pub after_at : List Symbol → ℕ
 after_at (symbol.Word word ∷ symbol.Plus ∷ rest) = if bytes_eq word (codes "A") then 2 else 0
 after_at other = 0
 
--- a parenthesis is closed, of which so many more are open
+-- these symbols close an open parenthesis; inside it `depth` more are open
 abbrev pub is_closed : List Symbol → ℕ → Bool
 is_closed [] depth = false
 is_closed (s ∷ more) depth =
@@ -67,7 +67,7 @@ after_prefix before go here prefix.Not = go prefix.Not
 after_prefix before go here prefix.Tight = go prefix.Tight
 after_prefix before go here prefix.Nothing = Some here
 
--- the symbols from an operand on, of which operators stand before it
+-- the symbols from an operand on: the operators before it are passed over
 abbrev pub operand_in : Prefix → List Symbol → Option (List Symbol)
 operand_in before [] = None
 operand_in before (s ∷ more) = after_prefix before (λ next. operand_in next more) (s ∷ more) (prefix_of s)
@@ -82,28 +82,28 @@ abbrev pub operand_begins : List Symbol → Bool
 operand_begins [] = false
 operand_begins (s ∷ rest) = if is_open (Some s) then closes rest (expression_in rest) else is_some (leaf_of (Some s))
 
--- the symbols are there, and a whole operand begins them
+-- the symbols exist, and a whole operand begins them
 abbrev pub begins_if : Option (List Symbol) → Bool
 begins_if (Some symbols) = operand_begins symbols
 begins_if None = false
 
--- after an opening parenthesis a whole expression begins, and further on stands the parenthesis that closes it
+-- after an opening parenthesis: its first operand is whole, and the parenthesis is closed further on
 abbrev pub is_parenthesis : List Symbol → Bool
 is_parenthesis symbols = begins_if (operand_in prefix.Nothing symbols) && is_closed symbols 0
 
--- nothing more is passed over where this holds, or else something lacks
+-- no further symbol is passed over if this holds, or else something is missing
 abbrev pub none_if : Bool → Option ℕ
 none_if true = Some 0
 none_if false = None
 
--- an expression is to begin with a symbol; in a line without expressions a parenthesis begins a list instead
+-- an expression has to begin with the symbol; in a line without expressions a parenthesis begins a list instead
 abbrev pub is_start : Want → Symbol → Bool
 is_start want.Names symbol.Open = false
 is_start w s = begins_expression s
 
--- How many symbols after one belong to it, where no expression is to begin with it. In the parenthesis of a list an
--- expression begins, and it is closed. An expression stands after # and an operator, no operator after a text, and after
--- a comma what is wanted there.
+-- How many symbols after one belong to it, if no expression has to begin with it; `None` if something is missing. In
+-- the parenthesis of a list an expression begins, and it is closed. An expression follows # and an operator, no
+-- operator follows a text, and what is required follows a comma.
 abbrev pub passed_behind : Want → Symbol → List Symbol → Option ℕ
 passed_behind w symbol.Open rest = none_if (is_parenthesis rest)
 passed_behind w symbol.Hash rest = many (expression_in rest)
@@ -113,23 +113,22 @@ passed_behind w symbol.Comma rest = none_if (is_met w rest)
 passed_behind w symbol.At rest = Some (after_at rest)
 passed_behind w s rest = Some 0
 
--- how many symbols after the first belong to what it begins, or none where something is wanted and does not stand
+-- how many symbols after the first belong to what it begins, or `None` if something required is missing
 unfoldable pub passed : Want → Symbol → List Symbol → Option ℕ
 passed w s rest =
     if is_start w s then option_map (λ n. n - 1) (many (expression_in (s ∷ rest))) else passed_behind w s rest
 
--- something lacks, or else this goes on after so many symbols
+-- true if something is missing, or else what `go` gives for the number of symbols to pass over
 abbrev pub or_lacks : Option ℕ → (ℕ → Bool) → Bool
 or_lacks None go = true
 or_lacks (Some n) go = go n
 
--- Something is wanted among the symbols and does not stand. The first ones are passed over, as many as belong to what
--- stands before.
+-- Something required is missing among the symbols. The first `n` are passed over: they belong to what is before them.
 abbrev pub lacks_after : ℕ → Want → List Symbol → Bool
 lacks_after n w [] = false
 lacks_after n w (s ∷ rest) =
     if n == 0 then or_lacks (passed w s rest) (λ more. lacks_after more w rest) else lacks_after (n - 1) w rest
 
--- what is wanted first does not begin the symbols, or something is wanted further on and does not stand
+-- the symbols do not begin with what is required first, or something required further on is missing
 abbrev pub lacks : Want → Want → List Symbol → Bool
 lacks first w symbols = if is_met first symbols then lacks_after 0 w symbols else true

@@ -38,7 +38,7 @@ defined labelled name (symbol.Word word ∷ rest) =
     else option_and_then (λ d. definition_form d name rest) (definition_of word)
 defined labelled name other = None
 
--- what stands after the label: nothing, a definition, an instruction or a directive
+-- the statement after the label: nothing, a definition, an instruction or a directive
 abbrev pub said : Bool → List Symbol → Option BodyTree
 said labelled [] = Some Empty
 said labelled (symbol.Name name ∷ rest) = defined labelled name rest
@@ -55,7 +55,7 @@ named name (symbol.Colon ∷ rest) =
     if is_reserved name then None else option_map (with_label (Some name)) (said true rest)
 named name rest = option_map (with_label None) (defined false name rest)
 
--- the statement that the symbols of a line write, if they are in form
+-- the statement that the symbols of a line write, if they have no syntax error
 abbrev pub statement : List Symbol → Option StmtTree
 statement (symbol.Name name ∷ rest) = named name rest
 statement symbols = option_map (with_label None) (said false symbols)
@@ -84,7 +84,7 @@ abbrev pub directive_or_none : List Symbol → Option Directive → ℕ
 directive_or_none rest (Some d) = directive_fault d rest
 directive_or_none rest None = NO_INSTRUCTION
 
--- the fault of an instruction or a directive out of its form; fault 11 where the word begins none
+-- the fault of an instruction or a directive with a syntax error; fault 11 where the word begins none
 abbrev pub spoken_fault : List Symbol → Option (List ℕ) → ℕ
 spoken_fault rest (Some word) =
     if is_mnemonic word then lacking (lacks want.First want.Operand rest) NO_INSTRUCTION
@@ -98,7 +98,7 @@ begun_fault first rest (Some d) =
     if is_reserved_word first then BAD_FORM else lacking (definition_lacks d (drop 1 rest)) BAD_FORM
 begun_fault first rest None = spoken_fault rest (word_of first)
 
--- the fault of what stands after the label; fault 11 where no word begins it
+-- the fault of what follows the label; fault 11 where no word begins it
 abbrev pub fault : List Symbol → ℕ
 fault [] = NO_INSTRUCTION
 fault (first ∷ rest) =
@@ -109,7 +109,7 @@ abbrev pub is_colon : Symbol → Bool
 is_colon symbol.Colon = true
 is_colon s = false
 
--- the fault of symbols that are out of form: 12 where a reserved word is the label
+-- the fault of symbols with a syntax error: 12 where a reserved word is the label
 abbrev pub statement_fault : List Symbol → ℕ
 statement_fault [] = NO_INSTRUCTION
 statement_fault (first ∷ rest) =
@@ -121,7 +121,7 @@ statement_fault (first ∷ rest) =
 abbrev pub read : List Symbol → Result StmtTree ℕ
 read symbols = or_fault (statement_fault symbols) (statement symbols)
 
--- what a line says whose $ stands before these bytes
+-- what a control line says, from the bytes after its $
 abbrev pub control_line : List ℕ → Result StmtTree ℕ
 control_line rest = and_then (control rest) (λ body. Ok (with_label None body))
 

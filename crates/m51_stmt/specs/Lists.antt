@@ -13,7 +13,7 @@ use Rattle.m51_stmt.specs.Words.{is_comma}
 abbrev pub with_symbol : Symbol → List Symbol × List (List Symbol) → List Symbol × List (List Symbol)
 with_symbol s parts = if is_comma s then ([], parts.0 ∷ parts.1) else (s ∷ parts.0, parts.1)
 
--- what stands before the first comma, and the parts after it, with a comma between any two
+-- the symbols before the first comma, and the parts after it, with a comma between any two
 abbrev pub parts : List Symbol → List Symbol × List (List Symbol)
 parts [] = ([], [])
 parts (s ∷ rest) = with_symbol s (parts rest)
@@ -45,7 +45,7 @@ abbrev pub name_alone : List Symbol → Option (List ℕ)
 name_alone (symbol.Name name ∷ []) = Some name
 name_alone other = None
 
--- the tree that is read, where it has so many symbols
+-- the tree that is read, if it has `all` symbols
 abbrev pub all_read : ℕ → Reads → Option Tree
 all_read all None = None
 all_read all (Some (e, many)) = if many == all then Some e else None

@@ -36,7 +36,7 @@ sum word =
     else if bytes_eq word (codes "DPTR") then Some ADptr
     else None
 
--- what stands after an @
+-- an indirect operand, from the symbols after its @
 abbrev pub indirect : List Symbol → Option OperandTree
 indirect (symbol.Word word ∷ []) = pointer word
 indirect (symbol.Word word ∷ symbol.Plus ∷ symbol.Word last ∷ []) =

@@ -171,7 +171,7 @@ abbrev pub mod51_text : Bool → List ℕ
 mod51_text true = word_text (codes "$MOD51")
 mod51_text false = word_text (codes "$NOMOD51")
 
--- OVERLAYABLE where it stands
+-- OVERLAYABLE, if it is written
 abbrev pub overlayable_text : Bool → List ℕ
 overlayable_text true = word_text (codes "OVERLAYABLE")
 overlayable_text false = []
@@ -182,7 +182,7 @@ segment_text name k r overlayable =
     word_text name ++ word_text (codes "SEGMENT") ++ word_text (kind_word k) ++ word_text
     (reloc_word r) ++ overlayable_text overlayable
 
--- AT and an expression, where it stands
+-- AT and the expression, if there is one
 abbrev pub at_text : Option Tree → List ℕ
 at_text (Some e) = directive_text (codes "AT") e
 at_text None = []

@@ -93,7 +93,7 @@ begins_operand (symbol.Infix binary.Div) = true
 begins_operand (symbol.Word word) = is_register word
 begins_operand s = begins_expression s
 
--- there is a first symbol, and it is such a one
+-- the first symbol exists and satisfies the test
 abbrev pub first_is : (Symbol → Bool) → List Symbol → Bool
 first_is test [] = false
 first_is test (s ∷ rest) = test s

@@ -34,7 +34,7 @@ fn behind_blanks(rest: &[u8]) -> &[u8]
     &rest[blank_len(rest)..]
 }
 
-// Whether only blanks and a comment are there.
+// Whether the rest is only blanks and a comment.
 fn ends(rest: &[u8]) -> bool
     ensures { result ≡ ends rest.now }
 {
@@ -44,7 +44,7 @@ fn ends(rest: &[u8]) -> bool
     }
 }
 
-// What comes after this sign, where it comes first.
+// What follows this sign, if it is the first byte.
 fn behind_sign(sign: u8, rest: &[u8]) -> Option<&[u8]>
     ensures { option_map (λ s. s.now) result ≡ behind_sign sign rest.now }
 {
@@ -54,7 +54,7 @@ fn behind_sign(sign: u8, rest: &[u8]) -> Option<&[u8]>
     }
 }
 
-// What is between parentheses, if they are right and only blanks and a comment follows them.
+// One or more bytes between parentheses, followed by only blanks and a comment.
 fn parenthesized(rest: &[u8]) -> Option<&[u8]>
     ensures { option_map (λ s. s.now) result ≡ parenthesized rest.now }
 {
@@ -71,7 +71,7 @@ fn parenthesized(rest: &[u8]) -> Option<&[u8]>
     }
 }
 
-// A control without more.
+// A control without an operand.
 fn alone(rest: &[u8], body: Body) -> Result<Body, StmtError>
     ensures { Gives body_tree fault_of result (alone rest.now (body_tree body)) }
 {

@@ -38,14 +38,14 @@ pub(crate) fn definition_of(word: &[u8]) -> Option<Definition>
     }
 }
 
-// Whether a segment of the kind may have the type, and be OVERLAYABLE if that is there.
+// Whether a segment of the kind may have the type, and be OVERLAYABLE if that is written.
 fn is_allowed(kind: Kind, reloc: Reloc, overlayable: bool) -> bool
     ensures { result ≡ is_allowed kind reloc overlayable }
 {
     allows(kind, reloc) && (!overlayable || may_overlay(kind, reloc))
 }
 
-// The segment of this name by its kind and its type, and whether OVERLAYABLE is there.
+// The segment of this name by its kind and its type, and whether OVERLAYABLE is written.
 fn segment_of(
     name: &Name,
     kind: Option<Kind>,

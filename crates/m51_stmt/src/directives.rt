@@ -31,7 +31,7 @@ pub(crate) enum Directive {
     End,
 }
 
-// CSEG and its kin.
+// CSEG, DSEG, XSEG, BSEG and ISEG.
 #[tactic(auto, unfolding(crate::specs::Directives::select_of))]
 fn select_of(word: &[u8]) -> Option<Directive>
     ensures { result ≡ select_of word.now }
@@ -92,7 +92,7 @@ fn is_at(symbol: &Symbol) -> bool
     }
 }
 
-// CSEG and the like come without operands, or with AT and an expression.
+// CSEG and the like have no operand, or AT and an expression.
 fn select(alloc: Global, kind: Kind, symbols: &[Symbol]) -> Result<Option<Body>, NoMemory>
     ensures { IfOk result (λ found. option_map body_tree found ≡ select kind symbols.now) }
 {
@@ -152,7 +152,7 @@ pub(crate) fn directive_form(
     }
 }
 
-// After CSEG and the like an expression is needed if AT is there.
+// Whether something that CSEG and the like require is missing: after AT an expression is required.
 fn select_lacks(alloc: Global, symbols: &[Symbol]) -> Result<bool, NoMemory>
     ensures { IfOk result (λ lacks. lacks ≡ select_lacks symbols.now) }
 {
@@ -178,7 +178,7 @@ fn directive_lacks(alloc: Global, word: Directive, symbols: &[Symbol]) -> Result
     }
 }
 
-/// E6 where something lacks, or else this fault.
+/// E6 if something is missing, or else this fault.
 pub(crate) fn lacking(lacks: bool, fault: u8) -> u8
     ensures { result ≡ lacking lacks fault }
 {

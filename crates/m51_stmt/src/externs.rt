@@ -61,7 +61,7 @@ fn next(awaited: Awaited, symbol: &Symbol) -> Option<Awaited>
     }
 }
 
-// Adds the name with its kind that a symbol is.
+// Adds the name that a symbol is, with its kind, if a name is awaited.
 fn add(externs: &mut Vec<(Name, Kind)>, awaited: Awaited, symbol: &Symbol) -> Result<(), NoMemory>
     ensures { OnOk result (externs.new.items ≡ externs.old.items ++ named awaited symbol.now) }
 {

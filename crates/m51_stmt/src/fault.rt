@@ -17,7 +17,7 @@ pub enum StmtError {
     Memory,
 }
 
-// A directive, a definition or a control is out of its form, or a reserved word is defined.
+// A directive, a definition or a control has a syntax error, or a reserved word is defined.
 pub(crate) const OUT_OF_FORM: StmtError = StmtError::Fault { number: BAD_FORM };
 
 impl From<AllocError> for StmtError {

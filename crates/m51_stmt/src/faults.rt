@@ -1,4 +1,4 @@
-//! The fault of a line that is out of form.
+//! The fault of a line with a syntax error.
 ghost use Rattle.std.specs.Prelude.{◌≡◌, IfOk, drop};
 ghost use Rattle.m51_stmt.specs.Lines.{definition_in, is_extrn, beside_extrn, definition_after, spoken_fault};
 ghost use Rattle.m51_stmt.specs.Lines.{begun_fault, fault, is_colon, statement_fault};
@@ -122,7 +122,7 @@ fn first_is_colon(symbols: &[Symbol]) -> bool
     }
 }
 
-/// The fault of symbols that are out of form.
+/// The fault of symbols with a syntax error.
 pub(crate) fn statement_fault(alloc: Global, symbols: &[Symbol]) -> Result<u8, NoMemory>
     ensures { IfOk result (λ number. number ≡ statement_fault symbols.now) }
 {

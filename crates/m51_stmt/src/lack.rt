@@ -14,7 +14,7 @@ use std::alloc::Global;
 
 /// What is needed after each comma of a line: an operand of an instruction, an expression of DW, an expression or a
 /// text of DB, or nothing: in a line with one expression, and in one with names only, where a parenthesis begins a
-/// list. The first operand of an instruction may be lacking, but no text is in its place.
+/// list. The first operand of an instruction may be missing, but no text is in its place.
 #[derive(Clone, Copy)]
 pub(crate) enum Want {
     Operand,
@@ -25,7 +25,7 @@ pub(crate) enum Want {
     Names,
 }
 
-// Whether what is wanted begins with this symbol.
+// Whether what is required begins with this symbol.
 fn begins(want: Want, symbol: &Symbol) -> bool
     ensures { result ≡ begins want symbol.now }
 {
@@ -38,7 +38,7 @@ fn begins(want: Want, symbol: &Symbol) -> bool
     }
 }
 
-// Whether what is wanted begins the symbols.
+// Whether the symbols begin with what is required.
 fn is_met(want: Want, symbols: &[Symbol]) -> bool
     ensures { result ≡ is_met want symbols.now }
 {
@@ -83,14 +83,14 @@ fn after_at(symbols: &[Symbol]) -> usize
     }
 }
 
-// Nothing more is passed over where this holds, or else something lacks.
+// No further symbol is passed over if this holds, or else something is missing.
 fn none_if(holds: bool) -> Option<usize>
     ensures { result ≡ none_if holds }
 {
     if holds { Some(0) } else { None }
 }
 
-// Whether an expression is to begin with a symbol.
+// Whether an expression has to begin with the symbol.
 fn is_start(want: Want, symbol: &Symbol) -> bool
     ensures { result ≡ is_start want symbol.now }
 {
@@ -100,7 +100,7 @@ fn is_start(want: Want, symbol: &Symbol) -> bool
     }
 }
 
-// How many symbols after one belong to it, where no expression is to begin with it.
+// How many symbols after one belong to it, if no expression has to begin with it; `None` if something is missing.
 fn passed_behind(
     alloc: Global,
     want: Want,
@@ -119,7 +119,7 @@ fn passed_behind(
     }
 }
 
-// How many symbols after the first belong to what it begins, or none where something is needed and missing.
+// How many symbols after the first belong to what it begins, or `None` if something required is missing.
 #[tactic(auto, unfolding(crate::specs::Lack::passed))]
 fn passed(
     alloc: Global,
@@ -138,7 +138,7 @@ fn passed(
     }
 }
 
-// Whether something is needed among the symbols and missing, after so many that are passed over.
+// Whether something required is missing among the symbols. The first `len` are passed over.
 fn lacks_after(alloc: Global, len: usize, want: Want, symbols: &[Symbol]) -> Result<bool, NoMemory>
     ensures { IfOk result (λ lacks. lacks ≡ lacks_after len want symbols.now) }
 {
@@ -152,7 +152,7 @@ fn lacks_after(alloc: Global, len: usize, want: Want, symbols: &[Symbol]) -> Res
     }
 }
 
-/// Whether what is needed first does not begin the symbols, or something is needed further on and missing.
+/// Whether the symbols do not begin with what is required first, or something required further on is missing.
 pub(crate) fn lacks(
     alloc: Global,
     first: Want,
@@ -168,7 +168,7 @@ pub(crate) fn lacks(
     }
 }
 
-// Whether a parenthesis is closed, of which so many more are open.
+// Whether these symbols close an open parenthesis; inside it `depth` more are open.
 fn is_closed(symbols: &[Symbol], depth: usize) -> bool
     requires { depth + length symbols.now < 2 ^ 64 }
     ensures { result ≡ is_closed symbols.now depth }
@@ -205,7 +205,7 @@ fn prefix_of(symbol: &Symbol) -> Prefix
     }
 }
 
-// The symbols from an operand on, of which operators come before it: NOT comes after no tighter one.
+// The symbols from an operand on: the operators before it are passed over. NOT follows no tighter one.
 fn operand_in(before: Prefix, symbols: &[Symbol]) -> Option<&[Symbol]>
     ensures { option_map (λ rest. rest.now) result ≡ operand_in before symbols.now }
 {
@@ -264,8 +264,7 @@ fn operand_begins(alloc: Global, symbols: &[Symbol]) -> Result<bool, NoMemory>
     }
 }
 
-// Whether after an opening parenthesis a whole expression begins, and further on there is the parenthesis that closes
-// it.
+// Whether, after an opening parenthesis, its first operand is whole and the parenthesis is closed further on.
 fn is_parenthesis(alloc: Global, symbols: &[Symbol]) -> Result<bool, NoMemory>
     ensures { IfOk result (λ holds. holds ≡ is_parenthesis symbols.now) }
 {

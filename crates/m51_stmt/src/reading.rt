@@ -102,7 +102,7 @@ fn named(alloc: Global, name: &Name, rest: &[Symbol]) -> Result<Option<Stmt>, No
     }
 }
 
-// The statement that the symbols of a line write, if they are in form.
+// The statement that the symbols of a line write, if they have no syntax error.
 fn statement(alloc: Global, symbols: &[Symbol]) -> Result<Option<Stmt>, NoMemory>
     ensures { IfOk result (λ found. option_map stmt_tree found ≡ statement symbols.now) }
 {

@@ -36,7 +36,7 @@ pub enum Body {
     Org(Expr),
     /// `USING`
     Using(Expr),
-    /// `SEGMENT`: name, kind, type, and whether OVERLAYABLE is there.
+    /// `SEGMENT`: name, kind, type, and whether OVERLAYABLE is written.
     Segment(Name, Kind, Reloc, bool),
     /// `RSEG`
     Rseg(Name),

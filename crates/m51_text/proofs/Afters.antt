@@ -27,7 +27,7 @@ unless false x y h = refl
 next_full : (includes : List SourceFile) (s : State) (x : TextLine) → nat_le 65536 (length s.entries) ≡ true → next includes s x ≡ s
 next_full includes s x full = when (nat_le 65536 (length s.entries)) s _ full
 
--- where 65,536 lines are read, nothing more is
+-- after 65,536 lines no more are read
 pub after_full : (includes : List SourceFile) (s : State) (xs : List TextLine) → nat_le 65536 (length s.entries) ≡ true → after includes s xs ≡ s
 unfolding after
 after_full includes s [] full = refl

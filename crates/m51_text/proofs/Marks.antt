@@ -75,7 +75,7 @@ not_zero n h = grind (arith, nat_tests, h)
 is_zero : (n : ℕ) → n ≡ 0 → (n == 0) ≡ true
 is_zero n h = grind (arith, nat_tests, h)
 
--- one line more is not of the source
+-- no line is of the source from one line earlier on, if that line is not of the source
 pub none_more : (entries : List Entry) (at next : ℕ) (r : Entry) → at < length entries → at + 1 ≡ next → r ≡ get_or entries at r → (r.file ≡ 0 → ⊥) → NoneFrom next entries → NoneFrom at entries
 none_more entries at next r inside step got other h =
     let here : is_of_source (entry_tree (get_or entries at r)) ≡ false = ap (λ (e : Entry). e.file == 0) (sym got) ∙ not_zero r.file other in

@@ -21,7 +21,7 @@ not_full n h = grind (arith, nat_tests, h)
 full : (n : ℕ) → n ≡ 65536 → nat_le 65536 n ≡ true
 full n h = grind (arith, nat_tests, h)
 
--- the state with one line more
+-- the state with one additional line
 abbrev more : List SourceFile → State → TextLine → State
 more includes s line = record { entries = s.entries ++ entry_of includes (length s.entries) s.ended line ∷ []; ended = s.ended || ends_source line }
 
@@ -112,7 +112,7 @@ text_told includes lines room =
 most : (n m : ℕ) (lines : List TextLine) → n ≡ m → length (take n lines) ≤ m
 most n m lines same = omega (arith, length-take n lines, same)
 
--- what is told of all that was read is what the source and its includes give
+-- the answer for all that was read is that for the source and its includes
 pub whole : (source : SourceFile) (includes : List SourceFile) → told (settled (after includes nothing_yet (file_lines includes 8 0 source.bytes))) ≡ text_of source includes
 unfolding text_lines
 whole source includes =

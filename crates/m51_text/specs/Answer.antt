@@ -16,7 +16,7 @@ pub record LineTree : Type 0 where
   pub line : ℕ
   pub stmt : StmtTree
 
--- a line without where its expressions lie in memory
+-- a line, apart from the memory that holds its expressions
 abbrev pub line_tree : Line → LineTree
 line_tree l = record { file = l.file; line = l.line; stmt = stmt_tree l.stmt }
 
@@ -25,7 +25,7 @@ pub data TextTree : Type 0 where
   Lines : List LineTree → TextTree
   Faults : List Fault → TextTree
 
--- a text without where its expressions lie in memory
+-- a text, apart from the memory that holds its expressions
 abbrev pub text_tree : Text → TextTree
 text_tree (text.Lines lines) = Lines (map line_tree lines)
 text_tree (text.Faults faults) = Faults faults

@@ -18,7 +18,7 @@ pub record EntryTree : Type 0 where
   pub said : Result StmtTree ℕ
   pub by_place : Option ℕ
 
--- a line without where its expressions lie in memory
+-- a line, apart from the memory that holds its expressions
 abbrev pub entry_tree : Entry → EntryTree
 entry_tree e = record { file = e.file; line = e.line; said = said_tree e.said; by_place = e.by_place }
 
@@ -57,7 +57,7 @@ tree_said file line (Err number) = None
 abbrev pub tree_of_entry : EntryTree → Option LineTree
 tree_of_entry e = tree_said e.file e.line e.said
 
--- the line stands in the source itself
+-- the line is in the source itself
 abbrev pub is_of_source : EntryTree → Bool
 is_of_source e = e.file == 0
 

@@ -12,7 +12,7 @@ use Rattle.m51_text.specs.declared.inclusion.Inclusion.TheVariants.{Refused}
 use Rattle.m51_text.specs.Said.{said, is_end, is_text}
 use Rattle.m51_text.specs.Text.{TextLine, inclusion_of}
 
--- the line stands in the source itself
+-- the line is in the source itself
 abbrev pub is_of_source : TextLine → Bool
 is_of_source line = line.file == 0
 

@@ -1,5 +1,5 @@
--- Words of the code, over which it is proved. What is kept while a text is read: what each line says, and its fault by
--- what stands above it.
+-- Definitions for the proofs of the code. What is kept while a text is read: what each line says, and its fault by the
+-- lines above it.
 use Rattle.std.specs.Prelude.{ℕ, ◌+◌, ◌-◌, ◌==◌, ◌&&◌, ◌||◌, not, Bool, false, nat_le, nat_lt, if◌then◌else◌, List, []}
 use Rattle.std.specs.Prelude.{◌∷◌, ◌++◌, length, map, slice_get, Option, None, Result, Ok, Err}
 use Rattle.std.specs.List.{filter_map}
@@ -26,11 +26,11 @@ pub record State : Type 0 where
 abbrev pub state_of : Reading → State
 state_of r = record { entries = map entry_tree r.entries.items; ended = r.ended }
 
--- a line that stands at this place
+-- a line at this place
 abbrev pub text_line : Place → List ℕ → TextLine
 text_line place bytes = record { file = place.file; line = place.line; levels = place.levels; bytes = bytes }
 
--- the fault by its place of a line with so many lines above it, of which one is the END of the source or not
+-- the fault by its place of a line with `above` lines above it, of which one is the END of the source or not
 abbrev pub fault_above : ℕ → Bool → ℕ → Inclusion → Result StmtTree ℕ → Option ℕ
 fault_above above ended file inclusion (Ok statement) =
     fault_by_place (is_misplaced ended (file == 0) statement) inclusion above
@@ -47,7 +47,7 @@ entry_of includes above ended line =
           fault_above above ended line.file (inclusion_of includes line.levels (said line.bytes)) (said line.bytes);
     }
 
--- after one line more, of which there are at most 65,536
+-- after one additional line; at most 65,536 are kept
 abbrev pub next : List SourceFile → State → TextLine → State
 next includes s line =
     if nat_le (MOST_SOURCE_LINES + 1) (length s.entries) then s
@@ -61,7 +61,7 @@ unfoldable pub after : List SourceFile → State → List TextLine → State
 after includes s [] = s
 after includes s (line ∷ lines) = after includes (next includes s line) lines
 
--- the lines of the include that a line brings in, below which so many levels may stand
+-- the lines of the include that a line brings in, if `levels` levels of includes are allowed below the line
 abbrev pub inserted : List SourceFile → ℕ → Inclusion → List TextLine
 inserted includes levels (Given index) =
     file_lines includes (levels - 1) (index + 1) (bytes_of (slice_get includes index))

@@ -8,12 +8,12 @@ use Rattle.m51_stmt.specs.declared.statement.Stmt.{Stmt}
 use Rattle.m51_stmt.specs.Statement.{BodyTree, Empty, End, Include, StmtTree, stmt_tree}
 use Rattle.m51_stmt.specs.Lines.{statement_of}
 
--- a byte that may stand in a line: a tab, or 20H to 7EH
+-- a byte that is allowed in a line: a tab, or 20H to 7EH
 abbrev pub is_character : ℕ → Bool
 is_character byte = byte == tab || nat_le 0x20 byte && nat_le byte 0x7E
 
--- What a line says, its end left out: its statement, or the fault of a byte that may not stand, or else the first fault
--- by the grammar of lines.
+-- What a line says, its end left out: its statement, or the fault of a byte that is not allowed, or else the first
+-- fault by the grammar of lines.
 unfoldable pub said : List ℕ → Result StmtTree ℕ
 said line = if list_all is_character line then statement_of line else Err BAD_BYTE
 

@@ -11,7 +11,7 @@ use Rattle.m51_text.specs.declared.inclusion.Inclusion.TheVariants.{Nothing, Ref
 use Rattle.m51_text.specs.Said.{said, asked}
 
 -- A line of the text: its file (0 is the source, k the k-th include), its number in that file, counted from 1, how many
--- levels of includes may stand below it (8 in the source), and its bytes.
+-- levels of includes are allowed below it (8 in the source), and its bytes.
 pub record TextLine : Type 0 where
   pub file : ℕ
   pub line : ℕ
@@ -31,7 +31,7 @@ given_at None = Refused
 abbrev pub given : List SourceFile → List ℕ → Inclusion
 given includes name = given_at (position (has_name name) includes)
 
--- which include this name brings in: a refusal where no further level may stand below the line
+-- which include this name brings in: a refusal if no further level is allowed below the line
 abbrev pub inclusion_by : List SourceFile → ℕ → Option (List ℕ) → Inclusion
 inclusion_by includes levels (Some name) = if levels == 0 then Refused else given includes name
 inclusion_by includes levels None = Nothing
@@ -40,7 +40,7 @@ inclusion_by includes levels None = Nothing
 abbrev pub inclusion_of : List SourceFile → ℕ → Result StmtTree ℕ → Inclusion
 inclusion_of includes levels said = inclusion_by includes levels (asked said)
 
--- an include that is brought in is one of so many, and a level may stand below the line
+-- an include that is brought in is one of `count`, and a level is allowed below the line
 abbrev pub IsAllowed : ℕ → ℕ → Inclusion → Type 0
 IsAllowed count levels (Given index) = (index < count) × (0 < levels)
 IsAllowed count levels inclusion = Unit {0}
@@ -57,14 +57,14 @@ abbrev pub bytes_of : Option SourceFile → List ℕ
 bytes_of (Some file) = file.bytes
 bytes_of None = []
 
--- the lines of the include that is brought in, below which so many levels may stand
+-- the lines of the include that is brought in, with `levels` levels of includes allowed below them
 abbrev pub include_lines : List SourceFile → (List ℕ → List TextLine) → ℕ → Inclusion → List TextLine
 include_lines includes brought levels (Given index) =
     lines_with brought levels (index + 1) 1 (lines (bytes_of (slice_get includes index)))
 include_lines includes brought levels Refused = []
 include_lines includes brought levels Nothing = []
 
--- the lines that a line brings in, below which so many levels may stand
+-- the lines that a line brings in, from the number of levels of includes allowed below it
 unfoldable pub brought : List SourceFile → ℕ → List ℕ → List TextLine
 brought includes zero line = []
 brought includes (suc levels) line =

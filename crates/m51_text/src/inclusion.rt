@@ -60,7 +60,7 @@ fn given(includes: &[SourceFile], name: &[u8]) -> Inclusion
     }
 }
 
-/// Which include a line names, if so many levels of includes are allowed below it.
+/// Which include a line names, if `levels` levels of includes are allowed below it.
 pub(crate) fn inclusion_of(includes: &[SourceFile], levels: u8, said: &Said) -> Inclusion
     ensures inclusion { result ≡ inclusion_of includes.now levels (said_tree said.now) }
     ensures allowed { IsAllowed (length includes.now) levels result }

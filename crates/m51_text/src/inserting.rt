@@ -9,8 +9,8 @@ use m51_cells::{NoMemory, first_line};
 use m51_module::SourceFile;
 use std::alloc::Global;
 
-/// Reads the lines of a file, each followed by those that it includes. So many levels of includes are allowed below.
-/// Where 65,536 lines are read, nothing more is.
+/// Reads the lines of a file, each followed by those that it includes. `levels` levels of includes are allowed below
+/// them. After 65,536 lines no more are read.
 ///
 /// Error: out of memory.
 #[cycle(inserting)]
@@ -42,7 +42,7 @@ pub(crate) fn read_file(
     Ok(())
 }
 
-// Reads the lines of the include that a line names, below which so many levels may be.
+// Reads the lines of the include that a line names, if `levels` levels of includes are allowed below the line.
 #[cycle(inserting)]
 #[tactic(auto, using(crate::proofs::Afters::after_last))]
 fn insert(

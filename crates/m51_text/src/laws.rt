@@ -9,9 +9,9 @@ pub fn lines_are_of_files()
     ensures { LinesAreOfFiles }
 {}
 
-/// Each instruction that a line of bytes writes has the length of a row of the instruction table, whichever form a
-/// generic jump takes; its code is that of the row with its operands, so none is E11 for want of a row, and has as many
-/// bytes as the row.
+/// Each instruction that a line of bytes writes has the length of a row of the instruction table, in any form of a
+/// generic jump; its code is that of the row with its operands, so none is E11 for lack of a row, and has as many bytes
+/// as the row.
 ///
 /// Source: own choice ("Instructions of a source").
 pub fn statements_have_rows()

@@ -69,7 +69,7 @@ fn is_refused(inclusion: Inclusion) -> bool
     }
 }
 
-/// The first fault by its place of a line that says a statement, with so many lines above it: E16 for text after the
+/// The first fault by its place of a line that says a statement, with `above` lines above it: E16 for text after the
 /// END of the source and for END in an include, E17 for an include that is refused, E19 for line 65,536.
 pub(crate) fn fault_by_place(
     ended: bool,

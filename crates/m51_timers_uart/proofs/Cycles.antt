@@ -1,4 +1,4 @@
--- Timer 1 over machine cycles in a row.
+-- Timer 1 over consecutive machine cycles.
 use Rattle.std.proofs.Common.{◌≡◌, ℕ, suc, ◌+◌, Bool, true, false, List, [], ◌∷◌, ◌++◌, length, refl, ap, ◌∙◌, subst, arith}
 use Rattle.std.specs.Prelude.{◌||◌}
 use Rattle.m51_flat.specs.declared.state.Cpu.{Cpu}
@@ -15,7 +15,7 @@ use Rattle.m51_timers_uart.specs.Timers.{bytes_at, is_split, mode0}
 use Rattle.m51_timers_uart.proofs.Counts.{timers_count_up}
 use Rattle.m51_timers_uart.proofs.Running.{runs_on, still_free, tf1_told, timer1_counts}
 
--- timer 1 after so many counts from these bytes, still free
+-- timer 1 after `k` counts from these bytes, still running free
 record IsAfter (mode : TimerMode) (t : TimerBytes) (k : ℕ) (cpu : Cpu) : Type 0 where
   free : RunsFree mode cpu
   bytes : bytes_at th1 tl1 cpu ≡ after_counts mode k t

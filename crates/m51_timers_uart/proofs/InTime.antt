@@ -1,4 +1,4 @@
--- A byte of mode 1 over machine cycles in a row.
+-- A byte of mode 1 over consecutive machine cycles.
 use Rattle.std.proofs.Common.{◌≡◌, ◌≢◌, ◌⊎◌, ⊎_elim, ℕ, zero, suc, ◌+◌, ◌-◌, ◌*◌, ◌<◌, Bool, true, false, List, [], ◌∷◌, ◌++◌, length, refl, sym, ap, ◌∙◌, subst, arith, inl, inr, lit≤}
 use Rattle.std.specs.Prelude.{Some, None, ◌==◌}
 use Rattle.std.proofs.Math.Nat.{suc-mul, zero-mul}
@@ -26,7 +26,7 @@ use Rattle.m51_timers_uart.proofs.Kept.{keeps_flag}
 use Rattle.m51_timers_uart.proofs.Rates.{Ends, Goes, OnItsWay, begins, last, step}
 use Rattle.m51_timers_uart.proofs.Running.{clocked_rate, runs_on, still_free, still_rated, ti_after, ti_clocked, ti_set, timer1_counts}
 
--- what the line is told in a tick
+-- what a tick gives the line: the processor, and the overflows of timers 1 and 2
 abbrev line_of : Cpu → Pins → Periph → LineTick
 line_of cpu ext p =
     let one = timers_ticked (levels_met p cpu ext) cpu in
@@ -38,11 +38,11 @@ ticked_is : (cpu : Cpu) (ext : Pins) (fs : List Frame) (p : Periph)
 unfolding ticked
 ticked_is cpu ext fs p = refl
 
--- the cycles to the overflow after so many more
+-- the cycles to an overflow that `more` others precede
 abbrev cycles_left : ℕ → TimerBytes → ℕ
 cycles_left more t = (256 - t.low) + more * (256 - t.high)
 
--- a byte on its way, so many cycles before its end
+-- a byte on its way, `due` cycles before its end
 record IsDue (twice : Bool) (byte due : ℕ) (cpu : Cpu) (p : Periph) : Type 0 where
   passed : ℕ
   more : ℕ

@@ -80,7 +80,8 @@ one_bit_passes cpu ext fs p =
     let t = line_passes _ _ _ p in
     record { least = t.least; most = t.most; mode = t.mode; byte = t.byte; ninth = t.ninth; sent = t.sent }
 
--- where a byte with a ninth bit is on its way, its bit times and the cycles since another was sent come to ten
+-- while a byte with a ninth bit is on its way, its bit times left and the cycles since another was sent are together
+-- ten or more
 abbrev AreTen : ℕ → Periph → Type 0
 AreTen k p = IsSome p.ninth → p.left ≢ 0 → 10 ≤ p.left + k
 

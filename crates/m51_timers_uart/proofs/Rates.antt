@@ -13,7 +13,7 @@ use Rattle.m51_timers_uart.specs.Sending.{Ticked, begun, bit_time, bit_times, cl
 use Rattle.m51_timers_uart.proofs.Bounds.{bit_most}
 use Rattle.m51_timers_uart.specs.RateLaws.{AreRatedBy, IsRatedBy, LineTick, ModeOneIsSentInTime, line_after, overflows_in, overflows_of_bit, tick_line}
 
--- a byte of mode 1 on its way, after so many overflows: its bit times, at so many overflows each, and what is counted
+-- a byte of mode 1 on its way, after `passed` overflows: its bit times, at `takes` overflows each, and what is counted
 pub record OnItsWay (takes byte passed : ℕ) (p : Periph) : Type 0 where
   pub mode : p.mode ≡ 1
   pub is : p.byte ≡ byte

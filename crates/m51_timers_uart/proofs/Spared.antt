@@ -19,7 +19,7 @@ pub record SameFlag (a k : ℕ) (old new : Cpu) : Type 0 where
   pub size : length new.regs ≡ length old.regs
   pub bit : length old.regs ≡ 128 → flag new a k ≡ flag old a k
 
--- a bit of a register that is there
+-- a bit of a register that exists
 pub record IsBit (a k : ℕ) : Type 0 where
   pub low : 128 ≤ a
   pub high : a < 256

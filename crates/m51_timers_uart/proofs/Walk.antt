@@ -1,4 +1,5 @@
--- What a part of a tick keeps, by the writes that it makes: any relation of the processor before and after that each write keeps.
+-- What a part of a tick keeps, by the writes that it makes: any relation of the processor before and after that each
+-- write keeps.
 use Rattle.std.proofs.Common.{ℕ, zero, suc, Bool, true, false, cond, List, [], ◌∷◌}
 use Rattle.std.specs.Prelude.{Some, None, ◌==◌}
 use Rattle.std.proofs.lemmas.Bool.{cond_both}
@@ -54,7 +55,7 @@ pub record ByInputs (R : Cpu → Cpu → Type 0) : Type 0 where
   pub ask1 : (b : Bool) (cpu : Cpu) → R cpu (with_flag cpu tcon ie1 b)
 
 module _ (R : Cpu → Cpu → Type 0) (chain : IsChain R) where
-  -- where both ways of a test keep it, so does what the test comes to
+  -- where both branches of a test keep it, so does the result of the test
   either_keeps : (a : Cpu) (t : Bool) (b c : Cpu) → R a b → R a c → R a (cond t b c)
   either_keeps a t b c p q = cond_both t b c (R a) (λ e. p) (λ e. q)
 

@@ -8,7 +8,7 @@ use Rattle.m51_timers_uart.specs.declared.levels.Input.TheVariants.{Int0, Int1}
 use Rattle.m51_flat.specs.Flags.{ie0, ie1, it0, it1}
 use Rattle.m51_timers_uart.specs.Levels.{falls, is_high}
 
--- with IT 1 a fall of the INT pin sets the flag; with IT 0 the flag is 1 exactly where the level is 0
+-- with IT 1 a fall of the INT pin sets the flag; with IT 0 the flag is 1 exactly if the level is 0
 unfoldable pub requested : Levels → Input → ℕ → ℕ → Cpu → Cpu
 requested levels pin it ask cpu =
     if flag cpu tcon it then (if falls levels pin then with_flag cpu tcon ask true else cpu)

@@ -1,4 +1,4 @@
--- When a byte of mode 1 is sent at the rate of timer 1, as the family manual tells it.
+-- When a byte of mode 1 is sent at the rate of timer 1, by the family manual.
 use Rattle.std.specs.Prelude.{◌≡◌, ℕ, ◌+◌, ◌*◌, ◌<◌, Bool, true, false, if◌then◌else◌, List, [], ◌∷◌, Some, None}
 use Rattle.m51_alu.specs.Arithmetic.{bit_of}
 use Rattle.m51_flat.specs.declared.state.Cpu.{Cpu}

@@ -1,4 +1,4 @@
--- Timer 1 and the serial line over machine cycles in a row, as the family manual tells them.
+-- Timer 1 and the serial line over consecutive machine cycles, by the family manual.
 use Rattle.std.specs.Prelude.{◌≡◌, ℕ, ◌+◌, ◌-◌, ◌*◌, ◌<◌, Bool, true, false, List, [], ◌∷◌, ◌++◌, length, Some, None}
 use Rattle.m51_flat.specs.declared.state.Cpu.{Cpu}
 use Rattle.m51_flat.specs.Flags.{smod, tclk, tf1, ti, tr1}
@@ -48,7 +48,7 @@ AreInRow Leaves left p (c ∷ cs) = Leaves left c.cpu × AreInRow Leaves (cycled
 abbrev pub cpu_after : List Cycle → Cycle → Periph → Cpu
 cpu_after before last p = (cycled last (after_cycles before p)).cpu
 
--- each cycle is a count: the number grows by one, and in the cycle in which it comes to the size TF1 is set, and the
+-- each cycle is a count: the number grows by one, and in the cycle in which it reaches the size TF1 is set, and the
 -- number is the reload value; before that TF1 stays
 pub record CountsCycles (mode : TimerMode) (t : TimerBytes) (n : ℕ) (last new : Cpu) : Type 0 where
   pub number : number_of mode t + n < size_of mode → number_of mode (bytes_at th1 tl1 new) ≡ number_of mode t + n

@@ -21,7 +21,7 @@ pub record Overflowed : Type 0 where
   pub cpu : Cpu
   pub overflows : ℕ
 
--- what an overflow goes on from: RCAP2 where timer 2 gives the rate or CP/RL2 is 0, else 0
+-- what the number continues from after an overflow: RCAP2 where timer 2 gives the rate or CP/RL2 is 0, else 0
 unfoldable pub reload2 : Cpu → ℕ
 reload2 cpu =
     if gives_rate cpu || not (flag cpu t2con cprl2) then number_of SixteenBits (bytes_at rcap2h rcap2l cpu) else 0

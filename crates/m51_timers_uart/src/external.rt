@@ -7,7 +7,7 @@ use m51_flat::Cpu;
 use m51_sfr::addresses::TCON;
 use m51_sfr::bits::{IE0, IE1, IT0, IT1};
 
-/// With IT 1 a fall of the pin sets the flag; with IT 0 the flag is 1 exactly where the level is 0.
+/// With IT 1 a fall of the pin sets the flag; with IT 0 the flag is 1 exactly if the level is 0.
 #[tactic(auto, unfolding(crate::specs::External::requested))]
 fn request(cpu: &mut Cpu, levels: &Levels, pin: Input, it: u8, ask: u8)
     requires it { it < 8 }

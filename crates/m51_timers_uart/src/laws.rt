@@ -5,8 +5,8 @@ ghost use Rattle.m51_timers_uart.specs.LineLaws.{LineIsBounded, NinthBitsAreApar
 ghost use Rattle.m51_timers_uart.specs.RateLaws.{ModeOneIsSentInTime};
 ghost use Rattle.m51_timers_uart.specs.RowLaws.{ModeOneIsSentAtItsCycle, TimerOneCountsCycles};
 
-/// A timer overflows at the count that reaches its size and at none before, and then goes on from its reload value: in
-/// mode 1 after 65,536 counts less its number, in mode 2 after 256 less TL, and from TH.
+/// A timer overflows at the count that reaches its size and at none before, and then continues from its reload value:
+/// in mode 1 after 65,536 counts less its number, in mode 2 after 256 less TL, and from TH.
 ///
 /// Source: family manual.
 pub fn timers_count_up()
@@ -14,7 +14,7 @@ pub fn timers_count_up()
 {}
 
 /// Timer 1 in modes 0 to 2, while it runs free: TR1 is 1, GATE and C/T are 0. Each cycle counts by one. In the cycle in
-/// which the number comes to its size, 65,536 less it in mode 1 and 256 less TL1 in mode 2, TF1 is set, and the number
+/// which the number reaches its size, 65,536 less it in mode 1 and 256 less TL1 in mode 2, TF1 is set, and the number
 /// is its reload value; in the cycles before it TF1 stays. The cycles come one after another; what runs between two
 /// ticks does not write TH1, TL1, TMOD and TR1, and timer 0 is not in mode 3 in the last of them.
 ///
@@ -46,7 +46,7 @@ pub fn ninth_bits_are_apart()
 
 /// A write to SBUF in mode 1, by what the line gets: while TCLK is 0 and SMOD stays, the byte is sent in the tick in
 /// which timer 1 overflows for the last time of its nine bit times, each of 32 overflows or with SMOD 16, and in none
-/// before. How timer 1 comes to overflow does not matter.
+/// before. What makes timer 1 overflow does not matter.
 ///
 /// Source: family manual; own choice ("Bit times").
 pub fn mode_1_is_sent_in_time()

@@ -23,7 +23,7 @@ fn rates(cpu: &Cpu) -> bool
     receives || sends
 }
 
-/// What an overflow goes on from.
+/// What the number continues from after an overflow.
 #[tactic(auto, unfolding(crate::specs::Timer2::reload2))]
 fn reload(cpu: &Cpu) -> TimerBytes
     ensures { number_of SixteenBits result ≡ reload2 cpu.now }
@@ -69,7 +69,7 @@ fn times(levels: &Levels, cpu: &Cpu) -> u8
     if rates(cpu) { 6 } else { 1 }
 }
 
-/// So many counts, and how many of them were overflows.
+/// Counts this number of times, and answers how many of the counts were overflows.
 fn count_times(cpu: &mut Cpu, times: u8) -> u8
     requires { times ≤ 6 }
     ensures value { record { cpu = cpu.new; overflows = result } ≡ counted_times times cpu.old }

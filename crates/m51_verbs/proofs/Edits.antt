@@ -18,13 +18,13 @@ refused_with error.Full answer is = is
 refused_with (error.Object why) answer is = is
 refused_with error.Memory answer is = tt
 
--- a call that wants no memory, as one that may
+-- a call that does not run out of memory, as one that may
 pub with_memory : {A V : Type 0} (view : A → V) (result : Result A LibError) (answer : Result V LibError) → Gives view Some result answer
     → Gives view refusal_of result answer
 with_memory view (Ok value) answer is = is
 with_memory view (Err why) answer is = refused_with why answer is
 
--- a queue whose first is not there is empty
+-- a queue without a first element is empty
 pub none_left : {A : Type 0} (left rest : List A) → left ≡ rest → rest ≡ drop 1 left → left ≡ []
 none_left [] rest same is = refl
 none_left (first ∷ left) rest same is = absurd (omega (arith, ap length same, ap length is))

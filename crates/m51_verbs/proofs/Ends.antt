@@ -1,4 +1,4 @@
--- What the work of a verb comes to.
+-- The outcome of the work of a verb.
 use Rattle.std.proofs.Common.{◌≡◌, ℕ, List, Option, Some, None, Result, Ok, Err, refl, ap, append-nil}
 use Rattle.std.specs.Prelude.{IfSome, codes, option_map}
 use Rattle.std.proofs.lemmas.Option.{IfSome_then}

@@ -1,4 +1,4 @@
--- What a shelf handed out, file by file.
+-- What a shelf returned, file by file.
 use Rattle.std.proofs.Common.{◌≡◌, ◌⊎◌, ℕ, suc, ◌+◌, ◌<◌, ◌≤◌, List, [], ◌∷◌, ◌++◌, length, map, take, drop, get_or, Option, Some, None, Result, Ok, refl, sym, ap, ◌∙◌, subst, arith, inr, append_assoc, append-nil}
 use Rattle.std.specs.List.{All}
 use Rattle.std.proofs.lemmas.List.Elements.{All-append, All-cons, All-head, All-nil, All-tail}
@@ -24,7 +24,7 @@ grows_more (Some old) None new first more one two = absurd (cc one)
 grows_more (Some old) (Some now) new first more one two =
     two ∙ ap (λ (x : List File). Some (x ++ more)) (inside now (old ++ first) one) ∙ ap (λ (x : List File). Some x) (append_assoc old first more)
 
--- one file more
+-- one more file
 files_more : (names contents : List (List ℕ)) (name bytes : List ℕ) → length contents ≡ length names
     → files_with (names ++ name ∷ []) (contents ++ bytes ∷ []) ≡ files_with names contents ++ (name, bytes) ∷ []
 files_more [] [] name bytes same = refl
@@ -62,7 +62,7 @@ one_more_few names contents name bytes all few =
     All-append FewOf (files_with names contents) ((name, bytes) ∷ []) (files_few names contents all)
     (All-cons FewOf (name, bytes) [] few (All-nil FewOf))
 
--- so many files were given, and one more
+-- the first `index` files were given, and one more
 pub given_more : (names contents more : List (List ℕ)) (index : ℕ) (name bytes : List ℕ) (old between new : Option (List File)) → index < length names
     → length contents ≡ length (take index names) → name ≡ get_or names index name → more ≡ contents ++ bytes ∷ []
     → Grows old between (files_with (take index names) contents) → Grows between new ((name, bytes) ∷ [])
@@ -97,7 +97,7 @@ reads_some names contents index name bytes before between after low count is nam
   most = most;
 })
 
--- what was handed out of a file of this name, and all of it
+-- what was returned of a file of this name, and all of it
 pub given_some : (before after : ReadAt) (text name : List ℕ) (result : Result (List ℕ) ReadError) → text ≡ name
     → (h : IsGiven before after text result) → Grows before.given after.given ((name, h.bytes) ∷ [])
 given_some before after text name result same h =

@@ -6,7 +6,7 @@ use Rattle.m51_verbs.specs.declared.editing.Edit.{Edit}
 use Rattle.m51_verbs.specs.Edits.{object_edit, object_edits, object_in, with_first}
 use Rattle.m51_verbs.specs.Outcome.{Outcome, then_do}
 
--- the edits with these in front
+-- the edits with these before them
 abbrev pub edits_before : List Edit → Result (List Edit) Outcome → Result (List Edit) Outcome
 edits_before edits (Ok more) = Ok (edits ++ more)
 edits_before edits (Err refusal) = Err refusal

@@ -14,7 +14,7 @@ use Rattle.m51_shelf.specs.States.{ReadAt}
 use Rattle.m51_shelf.specs.Reading.{IsWhole, IsLong, IsRead}
 use Rattle.m51_verbs.specs.Reading.{Reading, Whole, TooLong, Absent, with_file, read_one, read_of, AreRead, AreReadOr, IsReached}
 
--- contents in front of what is read on
+-- contents before those of the files that are read next
 abbrev pub with_files : List (List ℕ) → Reading → Reading
 with_files [] reading = reading
 with_files (bytes ∷ contents) reading = with_file bytes (with_files contents reading)
@@ -72,7 +72,7 @@ beyond_test a b h =
       | inr fails ↦ fails.0
     ]
 
--- a file that is there and within the limit, and one that is too long
+-- a file that exists and is within the limit, and one that is too long
 whole_one : (name : List ℕ) (file : Option (List ℕ)) (bytes : List ℕ) (rest : Reading) → file ≡ Some bytes → length bytes ≤ MOST_FILE_BYTES
     → read_one name file rest ≡ with_file bytes rest
 whole_one name file bytes rest is small = rw (is, within_test (length bytes) MOST_FILE_BYTES small) refl
@@ -102,14 +102,14 @@ one_more holds front contents name bytes after read whole named = record {
   held = one_more_held holds front contents name bytes whole.within read.held (subst (λ n. IfSome holds (λ files. files n ≡ Some bytes)) named whole.held);
 }
 
--- a file that is too long, behind files that were read whole
+-- a file that is too long, after files that were read whole
 pub long_after : (files : Files) (names : List (List ℕ)) (after : ReadAt) → IsReached (Some files) names after.named → IsLong (Some files) after
     → read_of files names ≡ TooLong
 long_after files names after reached long =
     ap (read_of files) reached.is ∙ read_after files reached.front (after.named ∷ reached.rest) reached.contents reached.read.held
     ∙ ap (with_files reached.contents) (long_one after.named (files after.named) (read_of files reached.rest) long.held) ∙ with_long reached.contents
 
--- the name at a index
+-- the name at an index
 pub at_index : (names : List (List ℕ)) (index : ℕ) (name : List ℕ) → index < length names → name ≡ get_or names index name
     → names ≡ take index names ++ name ∷ drop (suc index) names
 at_index names index name low is =
@@ -120,14 +120,14 @@ pub up_to : (names : List (List ℕ)) (index : ℕ) (name : List ℕ) → index 
     → take (index + 1) names ≡ take index names ++ name ∷ []
 up_to names index name low is = take_more names index name low ∙ ap (λ n. take index names ++ n ∷ []) (sym is)
 
--- the file at a index is reached
+-- the file at an index is reached
 pub reached : (holds : Option Files) (names contents : List (List ℕ)) (index : ℕ) (name named : List ℕ) → index < length names
     → AreRead holds (take index names) contents → name ≡ get_or names index name → named ≡ name → IsReached holds names named
 reached holds names contents index name named low read is same =
     subst (λ n. IsReached holds names n) (sym same)
     (record { front = take index names; rest = drop (suc index) names; contents = contents; is = at_index names index name low is; read = read })
 
--- and so many names are read
+-- and one more name is read
 pub read_more : (holds : Option Files) (names contents more : List (List ℕ)) (index : ℕ) (name bytes : List ℕ) (after : ReadAt) → index < length names
     → AreRead holds (take index names) contents → name ≡ get_or names index name → after.named ≡ name → IsWhole holds after bytes
     → more ≡ contents ++ bytes ∷ [] → AreRead holds (take (index + 1) names) more

@@ -20,7 +20,7 @@ pub record IsKept (answer : Answer) (before after : KeepAt) : Type 0 where
   pub files : Grows before.kept after.kept (kept_of answer)
   pub quiet : answer.keeps ≡ None → after ≡ before
 
--- a text is written whole, or a write failed after a front of it
+-- a text is written whole, or a write failed after a prefix of it
 abbrev pub IsWritten : Status → List ℕ → SinkState → SinkState → Result Status Failed → Type 0
 IsWritten status text before after (Ok told) = (told ≡ status) × Appends before.text after.text text
 IsWritten status text before after (Err failed) =
@@ -34,7 +34,7 @@ pub record IsWhole
   pub kept : IsKept answer before after
   pub text : Appends sink_before.text sink_after.text answer.text
 
--- Its file is kept, and a write failed after a front of its text.
+-- Its file is kept, and a write failed after a prefix of its text.
 pub record IsCut (answer : Answer) (before after : KeepAt) (sink_before sink_after : SinkState) : Type 0 where
   pub rose : Rose sink_before.faults sink_after.faults
   pub kept : IsKept answer before after
@@ -74,7 +74,7 @@ abbrev pub status_told : Result Status Failed → Status
 status_told (Ok told) = told
 status_told (Err failed) = status.WriteFault
 
--- told files stay, but for the one that is kept, if one is
+-- the files, if visible, stay, but for the one that is kept, if one is
 abbrev pub HoldsBut : Option File → Option Files → Option Files → Type 0
 HoldsBut None old new = new ≡ old
 HoldsBut (Some file) old new = HoldsOthers old new file.0

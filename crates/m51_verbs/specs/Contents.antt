@@ -5,7 +5,7 @@ use Rattle.m51_cells.specs.declared.limits.TheConstants.{MOST_FILES, MOST_FILE_B
 use Rattle.m51_jobs.specs.declared.job.Job.{Job}
 use Rattle.m51_jobs.specs.Files.{file_count, names_read}
 
--- There are few file words, and as many contents as files are read, each within the limit.
+-- There are at most MOST_FILES file arguments, and as many contents as files are read, each within the limit.
 pub record AreContentsOf (job : Job) (contents : List (List ℕ)) : Type 0 where
   pub few : file_count job ≤ MOST_FILES
   pub count : length contents ≡ length (names_read job)

@@ -23,7 +23,7 @@ overlaid_size mark size = 0
 abbrev pub overlaid_sizes : List Placed → ℕ
 overlaid_sizes placed = sum (map (λ p. overlaid_size p.mark p.size) placed)
 
--- the numbers of at most so many steps of an image with its layout, after a reset
+-- the numbers of at most `steps` steps of an image with its layout, after a reset
 abbrev pub run_tally : LayoutParts → List ℕ → ℕ → Tally
 run_tally layout image steps =
     let inputs = inputs_of plain_script in

@@ -5,11 +5,11 @@ use Rattle.std.specs.List.{filter, slice_index_or}
 use Rattle.m51_module.specs.declared.source.Fault.{Fault}
 use Rattle.m51_jobs.specs.Endings.{is_include}
 
--- the include of that number among the file words, counted from 0
+-- the include of that number among the file arguments, counted from 0
 abbrev pub include_at : List (List ℕ) → ℕ → List ℕ
 include_at files number = unwrap_or (slice_get (filter is_include files) number) []
 
--- the name of a file of a source: 0 is the source, k the k-th include among the file words
+-- the name of a file of a source: 0 is the source, k the k-th include among the file arguments
 abbrev pub file_of_text : List ℕ → List (List ℕ) → ℕ → List ℕ
 file_of_text source files number = if number == 0 then source else include_at files (number - 1)
 
@@ -23,6 +23,6 @@ fault_line source files fault =
 abbrev pub fault_lines : List ℕ → List (List ℕ) → List Fault → List ℕ
 fault_lines source files faults = flat_map (fault_line source files) faults
 
--- the file word of that index
+-- the file argument of that index
 abbrev pub word_at : List (List ℕ) → ℕ → List ℕ
 word_at files word = slice_index_or files word []

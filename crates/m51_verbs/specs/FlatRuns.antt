@@ -14,7 +14,7 @@ use Rattle.m51_verbs.specs.Optional.{content_if}
 use Rattle.m51_verbs.specs.Outcome.{Outcome, status_by}
 use Rattle.m51_verbs.specs.Refusals.{hex_outcome}
 
--- RUN, and the record of at most so many steps of the image on one memory, with a script
+-- RUN, and the record of at most `steps` steps of the image on one memory, with a script
 abbrev pub flat_report : List ℕ → Script → ℕ → Outcome
 flat_report image script steps = record {
   status = status_by (flat_report_of image script steps).event;

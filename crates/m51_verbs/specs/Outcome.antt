@@ -1,4 +1,4 @@
--- What the work of a verb comes to, and the answer that is written and kept.
+-- The outcome of the work of a verb, and the answer that is written and kept.
 use Rattle.std.specs.Prelude.{ℕ, List, [], ◌++◌, codes, Option, Some, None, Result, Ok, Err, IfSome}
 use Rattle.std.specs.Prelude.{option_map}
 use Rattle.m51_cells.specs.declared.event.Event.{Event}
@@ -27,7 +27,7 @@ use Rattle.m51_verbs.specs.declared.work.Stop.{Stop}
 use Rattle.m51_verbs.specs.declared.work.Stop.TheVariants as stop
 use Rattle.m51_shelf.specs.Shelf.{File}
 
--- What work comes to: a status, the text that is written, and the bytes of the file that is kept.
+-- The outcome of work: a status, the text that is written, and the bytes of the file that is kept.
 pub record Outcome : Type 0 where
   pub status : Status
   pub text : List ℕ
@@ -86,7 +86,7 @@ text_at ending.Event = []
 text_at (ending.Run board steps) = record_text (titles_of board.monitor.layout.placed) (run_of board steps)
 text_at (ending.FlatRun board steps) = record_text [] (flat_run_of board steps)
 
--- the status of a run that came to its end
+-- the status after a run, by how it ended
 abbrev pub status_after : RunEnd → Result Status Failed
 status_after ends.Finished = Ok status.Ran
 status_after (ends.Stopped event) = Ok status.Event
@@ -112,7 +112,7 @@ abbrev pub stopped : Stop → Option Outcome
 stopped (stop.Refused why text) = Some (refused why text)
 stopped stop.Memory = None
 
--- what is made comes to one of these outcomes, or is refused with one of them; out of memory is free
+-- what is made has one of these outcomes, or is refused with one of them; out of memory is free
 abbrev pub ComesAs : {A : Type 0} → (A → Outcome) → (Outcome → Type 0) → Result A Stop → Type 0
 ComesAs view Is (Ok made) = Is (view made)
 ComesAs view Is (Err why) = IfSome (stopped why) Is
@@ -144,12 +144,12 @@ named_answer name outcome =
 abbrev pub refusal : Status → List ℕ → Answer
 refusal status text = record { status = status; text = text; keeps = None }
 
--- faulty words
+-- faulty arguments
 abbrev pub usage_answer : Answer
 usage_answer =
     refusal status.Usage (codes "usage: m51 build [--control F] [--script F] [--hex F] --steps N FILE..\n")
 
--- more than 64 file words
+-- more than 64 file arguments
 abbrev pub many_answer : Answer
 many_answer = refusal status.Limit (codes "LIMIT FILES 64\n")
 

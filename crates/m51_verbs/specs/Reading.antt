@@ -9,13 +9,13 @@ use Rattle.m51_shelf.specs.Reading.{IsLong}
 use Rattle.m51_shelf.specs.Shelf.{File, Files, Grows}
 use Rattle.m51_shelf.specs.States.{ReadAt, HasFailed}
 
--- the files are all there and within the limit, with these contents; or the first that is not
+-- all files exist and are within the limit, with these contents; or the first that is too long or does not exist
 pub data Reading : Type 0 where
   Whole : List (List ℕ) → Reading
   TooLong : Reading
   Absent : List ℕ → Reading
 
--- the contents with one more in front
+-- the contents with those of one more file before them
 abbrev pub with_file : List ℕ → Reading → Reading
 with_file bytes (Whole contents) = Whole (bytes ∷ contents)
 with_file bytes TooLong = TooLong
@@ -31,7 +31,7 @@ abbrev pub read_of : Files → List (List ℕ) → Reading
 read_of files [] = Whole []
 read_of files (name ∷ names) = read_one name (files name) (read_of files names)
 
--- the contents of all files, each within the limit, and told files hold them
+-- the contents of all files, each within the limit; the files, if visible, hold them
 pub record AreRead (holds : Option Files) (names contents : List (List ℕ)) : Type 0 where
   pub count : length contents ≡ length names
   pub within : All (λ bytes. length bytes ≤ MOST_FILE_BYTES) contents
@@ -61,12 +61,12 @@ abbrev pub files_with : List (List ℕ) → List (List ℕ) → List File
 files_with (name ∷ names) (bytes ∷ contents) = (name, bytes) ∷ files_with names contents
 files_with names contents = []
 
--- the shelf handed out these files with all their bytes, and nothing else, where it tells what it hands out
+-- the shelf returned these files with all their bytes, and nothing else, if what it returns is visible
 abbrev pub AreGiven : List (List ℕ) → ReadAt → ReadAt → List (List ℕ) → Type 0
 AreGiven names before after contents = Grows before.given after.given (files_with names contents)
 
 -- The first of these names were started, in order, and no other file, and of each at most one byte past the limit was
--- taken, where the shelf tells what it hands out.
+-- returned, if what the shelf returns is visible.
 pub record AreStarted (names : List (List ℕ)) (before after : ReadAt) : Type 0 where
   pub files : List File
   pub rest : List (List ℕ)
@@ -74,8 +74,8 @@ pub record AreStarted (names : List (List ℕ)) (before after : ReadAt) : Type 0
   pub are : names ≡ map (λ (file : File). file.0) files ++ rest
   pub most : All (λ (file : File). length file.1 ≤ MOST_FILE_BYTES + 1) files
 
--- The file that was started last has one of these names, and at most one byte past the limit was taken of it, also where
--- the shelf does not tell which files were started.
+-- The file that was started last has one of these names, and at most one byte past the limit was read of it, even if it
+-- is not visible which files were started.
 pub record ReadsSome (names : List (List ℕ)) (before after : ReadAt) : Type 0 where
   pub started : AreStarted names before after
   pub named : Contains names after.named

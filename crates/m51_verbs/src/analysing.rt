@@ -40,7 +40,7 @@ fn reason_of(error: &StackError) -> Reason
     }
 }
 
-// A program has no stack bound. Its clause `error` hands the condition on to the proof of the caller.
+// A program has no stack bound. Clause `error` repeats the condition for the caller's proof.
 fn refuse_bound(alloc: Global, error: &StackError) -> Result<Stop, NoMemory>
     requires { error.now ≢ StackError.Memory }
     ensures error { error.now ≢ StackError.Memory }
@@ -72,7 +72,7 @@ pub fn stack_bound(alloc: Global, layout: &Layout, image: &Image) -> Result<Fini
     requires { (unit : ℕ) × IsRootAt layout.now 0 unit }
     ensures { Comes (IsBounded layout.now image.now) result }
 {
-    // A layout is sound by its type; asking for its units brings that in.
+    // For the proof only: reading the units exposes the layout's invariant.
     let _ = layout.units();
     match bound(alloc, layout, image) {
         Ok(bound) => Ok(bound_text(alloc, layout, &bound)?),

@@ -21,7 +21,7 @@ fn write<S: Sink>(out: &mut S, status: Status, text: &[u8]) -> Result<Status, Fa
     }
 }
 
-// The status of a run that came to its end.
+// The status after a run, by how it ended.
 fn status_after(end: RunEnd) -> Result<Status, Failed>
     ensures { result ≡ status_after end }
 {
@@ -94,8 +94,8 @@ fn keep_first<F: Shelf, S: Sink>(
     }
 }
 
-/// Keeps and writes what a plan says, up to the first failed call: first the file is kept, then the text is written, then
-/// what is to be run is run. Nothing is allocated.
+/// Keeps and writes what a plan says, up to the first failed call: first the file is kept, then the text is written,
+/// then what is to be run is run. Nothing is allocated.
 ///
 /// Source: own choice ("The top call").
 pub fn carry_out<F: Shelf, S: Sink>(plan: Plan, files: &mut F, out: &mut S) -> Status

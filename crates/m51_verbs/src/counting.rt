@@ -47,8 +47,8 @@ fn ending_of(tally: &Tally) -> Ending
     }
 }
 
-/// The summary of the run of a linked program, which is made after it: at most so many steps. The program has a root at
-/// the reset vector. The board and its text are the last that take memory; out of memory is the only error.
+/// The summary of the run of a linked program, which is made after it: at most `steps` steps. The program has a root at
+/// the reset vector. The board and its text are the last allocations; out of memory is the only error.
 ///
 /// Source: own choice ("Generated programs").
 pub fn summary(

@@ -12,7 +12,7 @@ use m51_cells::{Bytes, NoMemory};
 use m51_module::{Fault, SourceFile};
 use std::alloc::Global;
 
-// The include of that number among the file words, counted from 0.
+// The include of that number among the file arguments, counted from 0.
 fn include_at(files: &[FileName], number: usize) -> Option<&FileName>
     ensures { option_copied result ≡ slice_get (filter is_include files.now) number }
 {
@@ -28,7 +28,7 @@ fn include_at(files: &[FileName], number: usize) -> Option<&FileName>
     None
 }
 
-// Appends the name of a file of a source: 0 is the source, k the k-th include among the file words.
+// Appends the name of a file of a source: 0 is the source, k the k-th include among the file arguments.
 fn push_file(
     text: &mut Vec<u8>,
     source: &[u8],
@@ -65,8 +65,8 @@ fn push_fault(
     Ok(())
 }
 
-/// Appends the lines of the faults of a source of that name, whose includes are those among the file words. Out of memory
-/// is the only error.
+/// Appends the lines of the faults of a source of that name, whose includes are those among the file arguments. Out of
+/// memory is the only error.
 ///
 /// Source: own choice ("Statuses").
 pub fn push_faults(
@@ -84,7 +84,7 @@ pub fn push_faults(
     Ok(())
 }
 
-/// The file word of that index, from 0; none where there is no such word.
+/// The file argument of that index, from 0; none if there is no such argument.
 ///
 /// Source: own choice ("Statuses").
 pub fn word_at(files: &[FileName], word: usize) -> &str

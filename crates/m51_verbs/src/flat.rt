@@ -119,7 +119,7 @@ fn run_file(
 {
     match read_hex(alloc, file.as_slice()) {
         Ok(image) => {
-            // An image is whole by its type; asking for its bytes brings that in.
+            // For the proof only: reading the bytes exposes the image's invariant.
             let _ = image.bytes();
             run_image(alloc, job, image, script)
         }

@@ -34,7 +34,7 @@ pub struct Kept {
     pub bytes: Bytes,
 }
 
-// The bytes under the name, where both are there.
+// The bytes under the name, if both exist.
 fn under(target: Option<Target>, bytes: Option<Bytes>) -> Option<Kept>
     ensures { option_map file_of result ≡ under target bytes }
 {

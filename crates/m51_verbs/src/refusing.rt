@@ -49,7 +49,7 @@ fn refusal(alloc: Global, status: Status, text: &[u8]) -> Result<Plan, NoMemory>
     })
 }
 
-/// The words are faulty. Out of memory is the only error.
+/// The arguments are faulty. Out of memory is the only error.
 ///
 /// Source: own choice ("Statuses").
 pub fn refuse_words(alloc: Global) -> Result<Plan, NoMemory>
@@ -62,7 +62,7 @@ pub fn refuse_words(alloc: Global) -> Result<Plan, NoMemory>
     )
 }
 
-/// There are more than 64 file words. Out of memory is the only error.
+/// There are more than 64 file arguments. Out of memory is the only error.
 ///
 /// Source: own choice ("Statuses").
 pub fn refuse_many_files(alloc: Global) -> Result<Plan, NoMemory>
@@ -71,7 +71,7 @@ pub fn refuse_many_files(alloc: Global) -> Result<Plan, NoMemory>
     refusal(alloc, Status::Limit, b"LIMIT FILES 64\n")
 }
 
-/// A file has more bytes than the most. Out of memory is the only error.
+/// A file has more than `MOST_FILE_BYTES` bytes. Out of memory is the only error.
 ///
 /// Source: own choice ("Statuses").
 pub fn refuse_long_file(alloc: Global) -> Result<Plan, NoMemory>

@@ -8,7 +8,7 @@ use std::alloc::Global;
 use std::marker::Model;
 
 /// The name of the file that a job keeps, and the text that is written where it could not be kept. Contracts see the
-/// name. The text is made with it, so that keeping and what follows takes no memory.
+/// name. The text is made with it, so that keeping and what follows do not allocate.
 ///
 /// Source: own choice ("The top call").
 #[derive(Drop)]

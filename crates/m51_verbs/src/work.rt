@@ -1,4 +1,4 @@
-//! What the work of a verb comes to.
+//! The outcome of the work of a verb.
 ghost use Rattle.std.specs.Prelude.{◌≡◌};
 ghost use Rattle.m51_verbs.specs.Outcome.{outcome_of, status_of, written};
 
@@ -16,7 +16,7 @@ pub enum Reason {
     Source,
     /// The link is refused.
     Link,
-    /// An object, a library or a HEX file is refused.
+    /// An object, a library, a HEX file or an edit of a library is refused.
     Object,
     /// A control file or a script is refused.
     Script,
@@ -55,7 +55,7 @@ pub enum Ending {
     FlatRun { board: FlatBoard, steps: Steps },
 }
 
-/// What the work of a verb comes to, where it is accepted.
+/// The outcome of the work of a verb, if it is accepted.
 ///
 /// Source: own choice ("The top call").
 #[derive(Drop)]

@@ -1,4 +1,4 @@
--- Without a row no operand comes to anything.
+-- Without a row no operand has a fault or a reference.
 use Rattle.std.proofs.Common.{arith}
 use Rattle.m51_encode.proofs.OverThree.{over_three}
 use Rattle.m51_encode.proofs.coding.code.Goals as goal

@@ -6,7 +6,7 @@ use borrow.Rule.Slice.PartMut.{put_mid, post_of}
 use lib.Seq.{take-add, take-append-le}
 use Rattle.m51_shelf.proofs.folder.fill.Goals as goal
 
--- a front that stays, and the part after it
+-- a prefix that stays, and the part after it
 front_and_part : (a n : ℕ) (old new : List ℕ) → take a new ≡ take a old → take a old ++ slice_range new a (a + n) ≡ take (a + n) new
 front_and_part a n old new front =
     let same : (a + n) - a ≡ n = omega arith in

@@ -3,7 +3,7 @@ use Rattle.std.specs.Io.KnownBytes.{Consumes}
 use Rattle.m51_shelf.specs.declared.stdout.TheConstants.{MOST_TRIES}
 use Rattle.m51_shelf.proofs.folder.fill.Given as goal
 
--- what was read is the front of the slice
+-- what was read is a prefix of the slice
 abbrev pub invariant-loop-done : goal.invariant-loop-done
 invariant-loop-done g l = record {
   room : length l.into ≡ length l.initial.into;

@@ -3,7 +3,7 @@ use Rattle.std.specs.Io.KnownBytes.{Appends}
 use Rattle.m51_shelf.specs.declared.stdout.TheConstants.{MOST_TRIES}
 use Rattle.m51_shelf.proofs.keeping.write_all.Given as goal
 
--- what was taken is the front of the bytes
+-- what was taken is a prefix of the bytes
 abbrev pub invariant-loop-done : goal.invariant-loop-done
 invariant-loop-done g l = record {
   within : l.done ≤ length l.bytes;

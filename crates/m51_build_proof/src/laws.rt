@@ -2,7 +2,8 @@
 ghost use Rattle.m51_build_proof.specs.FromChain.{ChainKeepsPromise};
 ghost use Rattle.m51_build_proof.specs.Headline.{EachHasOneOutcome, Headline};
 ghost use Rattle.m51_build_proof.specs.Laws.{PrintedFigureIsWeight};
-ghost use Rattle.m51_build_proof.specs.Overlay.{BuildHasWeight, BuildPrintsLeast, BuildRefusesOverlay, L12OnlyAtPlacing};
+ghost use Rattle.m51_build_proof.specs.Overlay.{BuildHasWeight, BuildPrintsLeast, BuildRefusesOverlay};
+ghost use Rattle.m51_build_proof.specs.Overlay.{L12OnlyAtPlacing};
 
 /// What holds of each outcome of `build`, for all contents of its files and all numbers of steps.
 ///

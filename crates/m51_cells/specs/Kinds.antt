@@ -3,7 +3,8 @@ use Rattle.std.specs.Prelude.{ℕ, Bool, true, false, not, ◌&&◌}
 use Rattle.m51_cells.specs.declared.kind.Kind.{Kind}
 use Rattle.m51_cells.specs.declared.kind.Kind.TheVariants.{Code, Xdata, Direct, Idata, Bits, Number}
 use Rattle.m51_cells.specs.declared.kind.Reloc.{Reloc}
-use Rattle.m51_cells.specs.declared.kind.Reloc.TheVariants.{Abs, Unit as UnitType, Bitaddressable, Inpage, Inblock, Page}
+use Rattle.m51_cells.specs.declared.kind.Reloc.TheVariants.{Abs, Unit as UnitType, Bitaddressable, Inpage, Inblock}
+use Rattle.m51_cells.specs.declared.kind.Reloc.TheVariants.{Page}
 
 -- the kinds are one
 abbrev pub same_kind : Kind → Kind → Bool

@@ -1,5 +1,6 @@
 -- What party makes of its files: each program is linked by itself and is a board, and the boards run on one line.
-use Rattle.std.specs.Prelude.{◌≡◌, ℕ, ◌≤◌, Bool, true, false, List, [], ◌∷◌, length, All, None, Result, Ok, Err, IfSome, Vec}
+use Rattle.std.specs.Prelude.{◌≡◌, ℕ, ◌≤◌, Bool, true, false, List, [], ◌∷◌, length, All, None, Result, Ok, Err}
+use Rattle.std.specs.Prelude.{IfSome, Vec}
 use Rattle.std.specs.declared.alloc.Global.{Global}
 use Rattle.m51_cells.specs.Outcome.{◌>>=◌}
 use Rattle.m51_inputs.specs.Inputs.{InputsTree}

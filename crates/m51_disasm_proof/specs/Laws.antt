@@ -23,7 +23,8 @@ use Rattle.m51_disasm_proof.specs.Meaning.{body_of, meant, read_from}
 use Rattle.m51_disasm_proof.specs.Module.{module_of, GivesModule}
 use Rattle.m51_disasm_proof.specs.Places.{Spot, spots_from, lines_before, IsSpot}
 use Rattle.m51_disasm_proof.specs.Sound.{AreBytes, HaveSizes, IsSound}
-use Rattle.m51_disasm_proof.specs.Standing.{StandsAt, IsNamed, GivesBytes, LineGives, AreFaultless, code_value, bytes_at}
+use Rattle.m51_disasm_proof.specs.Standing.{StandsAt, IsNamed, GivesBytes, LineGives, AreFaultless, code_value}
+use Rattle.m51_disasm_proof.specs.Standing.{bytes_at}
 
 -- each line that can be written is read as the statement that is meant
 abbrev pub LinesReadBack : Type 0

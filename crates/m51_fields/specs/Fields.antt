@@ -51,7 +51,8 @@ abbrev pub block_field : ℕ → ℕ → FieldBytes
 block_field target first = Two (high_of target % 8 * 32 + first % 32) (low_of target)
 
 abbrev pub inblock_field : ℕ → ℕ → ℕ → Option FieldBytes
-inblock_field target place first = if in_one_block target ((place + 2) % 65536) then Some (block_field target first) else None
+inblock_field target place first =
+    if in_one_block target ((place + 2) % 65536) then Some (block_field target first) else None
 
 -- BIT: T is at most 00FFH
 abbrev pub bit_field : ℕ → Option FieldBytes

@@ -88,8 +88,8 @@ fn conv_field(target: u16, bit: u8) -> Option<FieldBytes>
     Some(FieldBytes::One(address as u8))
 }
 
-/// The field of a fixup of that form and bit, with that target, at that address, where content has that first byte; `None`
-/// if the rule of the form fails. The bit is at most 7.
+/// The field of a fixup of that form and bit, with that target, at that address, where content has that first byte;
+/// `None` if the rule of the form fails. The bit is at most 7.
 ///
 /// Source: RL51 guide; OMF-51.
 pub fn field_of(form: Form, bit: u8, target: u16, place: u16, first: u8) -> Option<FieldBytes>

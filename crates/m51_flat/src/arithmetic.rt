@@ -72,7 +72,8 @@ pub(crate) fn assign<M: CellStore>(
     place: Place,
     from: ByteOperand,
 ) -> Result<(), Missing>
-    ensures value { with_effect result effect.new ≡ answer (M.cells store.now) (assigned ext.now effect.old place from) }
+    ensures value { with_effect result effect.new ≡ answer (M.cells store.now)
+        (assigned ext.now effect.old place from) }
     ensures missing { IfErr result (IsMissing (M.cells store.now)) }
 {
     let location = locate(store, &effect.cpu, place)?;
@@ -111,7 +112,8 @@ pub(crate) fn combine<M: CellStore>(
     place: Place,
     from: ByteOperand,
 ) -> Result<(), Missing>
-    ensures value { with_effect result effect.new ≡ answer (M.cells store.now) (combined ext.now effect.old op place from) }
+    ensures value { with_effect result effect.new ≡ answer (M.cells store.now)
+        (combined ext.now effect.old op place from) }
     ensures missing { IfErr result (IsMissing (M.cells store.now)) }
 {
     let location = locate(store, &effect.cpu, place)?;
@@ -188,7 +190,8 @@ pub(crate) fn exchange_digit<M: CellStore>(
     effect: &mut Effect,
     place: Place,
 ) -> Result<(), Missing>
-    ensures value { with_effect result effect.new ≡ answer (M.cells store.now) (digits_exchanged ext.now effect.old place) }
+    ensures value { with_effect result effect.new ≡ answer (M.cells store.now)
+        (digits_exchanged ext.now effect.old place) }
     ensures missing { IfErr result (IsMissing (M.cells store.now)) }
 {
     let location = locate(store, &effect.cpu, place)?;

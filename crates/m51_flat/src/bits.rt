@@ -100,7 +100,8 @@ pub(crate) fn carry_with<M: CellStore>(
     by: CarryMerge,
     bit: u8,
 ) -> Result<(), Missing>
-    ensures value { with_effect result effect.new ≡ answer (M.cells store.now) (carry_merged ext.now effect.old by bit) }
+    ensures value { with_effect result effect.new ≡ answer (M.cells store.now)
+        (carry_merged ext.now effect.old by bit) }
     ensures missing { IfErr result (IsMissing (M.cells store.now)) }
 {
     let value = find_bit(store, &effect.cpu, ext, bit)?;
@@ -140,7 +141,8 @@ pub(crate) fn branch_on_bit<M: CellStore>(
     bit: u8,
     rel: u8,
 ) -> Result<(), Missing>
-    ensures value { with_effect result effect.new ≡ answer (M.cells store.now) (branched_on_bit ext.now effect.old test bit rel) }
+    ensures value { with_effect result effect.new ≡ answer (M.cells store.now)
+        (branched_on_bit ext.now effect.old test bit rel) }
     ensures missing { IfErr result (IsMissing (M.cells store.now)) }
 {
     let value = find_bit(store, &effect.cpu, ext, bit)?;

@@ -35,7 +35,8 @@ pub(crate) fn compare<M: CellStore>(
     second: ByteOperand,
     rel: u8,
 ) -> Result<(), Missing>
-    ensures value { with_effect result effect.new ≡ answer (M.cells store.now) (compared ext.now effect.old first second rel) }
+    ensures value { with_effect result effect.new ≡ answer (M.cells store.now)
+        (compared ext.now effect.old first second rel) }
     ensures missing { IfErr result (IsMissing (M.cells store.now)) }
 {
     let a = read_operand(store, &effect.cpu, ext, first)?;

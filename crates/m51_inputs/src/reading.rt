@@ -58,7 +58,8 @@ fn inputs_with(
 ) -> Result<Inputs, InputError>
     requires count { length contents.now ≡ length sorted.now.endings }
     requires within { All (λ bytes. length bytes ≤ MOST_FILE_BYTES) contents.now }
-    ensures { Gives inputs_tree refusal_of result (inputs_by sorted.now.endings contents.now (option_copied control.entry)
+    ensures { Gives inputs_tree refusal_of result
+        (inputs_by sorted.now.endings contents.now (option_copied control.entry)
         (option_copied script.entry) (words_of answers) (answers_of answers)) }
 {
     let sources = modules_of(alloc, answers)?;

@@ -1,5 +1,5 @@
--- Where the operand of a jump, a branch or a call leads, which targets it reaches, and which bits have addresses. All is
--- counted from the address of the next instruction, in a program memory of 65,536 bytes.
+-- Where the operand of a jump, a branch or a call leads, which targets it reaches, and which bits have addresses. All
+-- is counted from the address of the next instruction, in a program memory of 65,536 bytes.
 use Rattle.std.specs.Prelude.{ℕ, ◌+◌, ◌-◌, ◌*◌, ◌/◌, ◌%◌, ◌==◌, Bool, ◌&&◌, ◌||◌, nat_le, nat_lt, if◌then◌else◌}
 use Rattle.std.specs.Prelude.{Option, Some, None}
 use Rattle.m51_isa.specs.declared.instr.Instr.{Instr}

@@ -26,7 +26,8 @@ AreNames modules (Some names) = AreNamesOf modules names
 -- the table has the names no more of these items
 pub record LacksNames {X : Type 0} (name_of : X → List ℕ) (old : List (List ℕ)) (items : List X) (new : List (List ℕ))
     : Type 0 where
-  pub each : (name : List ℕ) → is_in new name ≡ (is_in old name && not (list_any (λ x. bytes_eq (name_of x) name) items))
+  pub each : (name : List ℕ)
+      → is_in new name ≡ (is_in old name && not (list_any (λ x. bytes_eq (name_of x) name) items))
 
 -- the publics of the modules are those of the others and of this one, which has none of theirs
 pub record IsBeside (modules others : List ModuleParts) (m : ModuleParts) : Type 0 where

@@ -20,7 +20,8 @@ use Rattle.m51_records.specs.Spelling.{fixup_record, end_record}
 -- of a module, in the order in which they follow each other; and of a library
 pub record RecordsHaveTypes : Type 0 where
   -- the name of the module, and the version of the object
-  pub header : (name : List ℕ) (version : ℕ) → header_record name version ≡ record_of 0x02 (header_contents name version)
+  pub header : (name : List ℕ) (version : ℕ)
+      → header_record name version ≡ record_of 0x02 (header_contents name version)
   -- a segment
   pub segment : (s : Segment) → segment_record s ≡ record_of 0x0E (segment_contents s)
   -- an external

@@ -23,8 +23,8 @@ pub fn reserved_words_stand_for_nothing()
     ensures { ReservedStandForNothing }
 {}
 
-/// Each register at a multiple of 8 has eight bits with addresses, from its own upward; the numbers of its named bits are
-/// below 8, and the name of a bit is what the dot gives.
+/// Each register at a multiple of 8 has eight bits with addresses, from its own upward; the numbers of its named bits
+/// are below 8, and the name of a bit is what the dot gives.
 ///
 /// Source: family manual.
 pub fn bytes_have_bits()

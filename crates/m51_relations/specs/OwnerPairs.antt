@@ -1,4 +1,5 @@
--- Of the code: how it decides from tables which units may be active together, each of which lies under at most one root.
+-- Of the code: how it decides from tables which units may be active together, each of which lies under at most one
+-- root.
 use Rattle.std.specs.Prelude.{◌≡◌, ℕ, ◌<◌, Bool, true, false, not, ◌||◌, nat_eq, List, slice_index}
 use Rattle.m51_relations.specs.declared.owner_pairs.OwnerPairs.{OwnerPairs}
 use Rattle.m51_relations.specs.Rows.{BitTable, flipped, pairs, passed_below}

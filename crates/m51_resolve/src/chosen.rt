@@ -143,7 +143,8 @@ impl Chosen {
         }
     }
 
-    // The least number of a member that has, first of all members, a name that the chosen modules want and do not define.
+    // The least number of a member that has, first of all members, a name that the chosen modules need and do not
+    // define.
     pub(crate) fn first_supplier(&self, members: &Definitions) -> Option<usize>
         ensures { let supplier = supplier self.now (definition_in members.now.entries) in
             IsEarliest supplier (IsWanted self.now) result }

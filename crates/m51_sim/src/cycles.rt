@@ -120,7 +120,8 @@ fn tick(
 ) -> Option<Sent>
     requires { AreFew extra.now }
     ensures { record { cpu = cpu.new; periph = periph.new; sent = result } ≡ ticked cpu.old
-        ((inputs_of script.now).pins cycle) ((inputs_of script.now).frames cycle ++ frames_in cycle extra.now) periph.old }
+        ((inputs_of script.now).pins cycle) ((inputs_of script.now).frames cycle ++ frames_in cycle extra.now)
+        periph.old }
 {
     let pins = script.pins_at(cycle);
     let frames = script.frames_at(cycle);

@@ -2,7 +2,8 @@
 ghost use Rattle.std.specs.Prelude.{◌≡◌, ◌<◌};
 ghost use Rattle.m51_timers_uart.specs.Counting.{mode_of};
 ghost use Rattle.m51_timers_uart.specs.Timers.{bytes_at, counts0, counts1, flagged, is_split, is_met, is_open, mode0};
-ghost use Rattle.m51_timers_uart.specs.Timers.{mode1, th0_ticked, timer0_ticked, timer1_ticked, timers_rest, timers_ticked};
+ghost use Rattle.m51_timers_uart.specs.Timers.{mode1, th0_ticked, timer0_ticked, timer1_ticked, timers_rest};
+ghost use Rattle.m51_timers_uart.specs.Timers.{timers_ticked};
 ghost use Rattle.m51_timers_uart.specs.Timers.{with_bytes};
 
 use crate::counting::{TimerBytes, TimerMode, count_in};

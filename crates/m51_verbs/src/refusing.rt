@@ -1,7 +1,8 @@
 //! Refusals by their texts, and those before the work of a verb.
 ghost use Rattle.std.specs.Prelude.{◌≡◌, IfOk, Some};
 ghost use Rattle.m51_jobs.specs.Texts.{lent};
-ghost use Rattle.m51_verbs.specs.Outcome.{answer_of, long_answer, many_answer, refusal, refused, stopped, unread_answer};
+ghost use Rattle.m51_verbs.specs.Outcome.{answer_of, long_answer, many_answer, refusal, refused, stopped};
+ghost use Rattle.m51_verbs.specs.Outcome.{unread_answer};
 ghost use Rattle.m51_verbs.specs.Outcome.{usage_answer};
 ghost use Rattle.m51_verbs.specs.Refusals.{joined};
 

@@ -14,14 +14,14 @@ use Rattle.m51_cells.specs.Fits.{Fits}
 use Rattle.m51_bases.specs.declared.searching.Search.{Search}
 use Rattle.m51_bases.specs.declared.searching.Search.TheVariants.{Clear, Raised, Full}
 
--- the two memories are one
+-- the two memories are the same
 abbrev pub same_space : Space → Space → Bool
 same_space Ram Ram = true
 same_space Xram Xram = true
 same_space CodeSpace CodeSpace = true
 same_space _ _ = false
 
--- the first base from there on whose block of that many bytes has room for the segment, or the next block
+-- `from`, if the segment lies in one block of `block` bytes there; else the start of the next block
 abbrev pub in_block : ℕ → ℕ → ℕ → ℕ
 in_block block zero from = from
 in_block block (suc more) from =

@@ -1,4 +1,4 @@
--- Blanks in a line: spaces and tabs. Lines that say nothing.
+-- Blanks in a line: spaces and tabs. Lines that are skipped.
 use Rattle.std.specs.Prelude.{ℕ, Bool, true, ◌||◌, ◌==◌, List, [], ◌∷◌}
 use Rattle.std.specs.List.{list_all}
 
@@ -16,7 +16,7 @@ semicolon = 0x3B
 abbrev pub is_blank : ℕ → Bool
 is_blank byte = byte == space || byte == tab
 
--- a line that says nothing: it is empty, has only blanks, or begins with a semicolon
+-- a line that is skipped: it is empty, has only blanks, or begins with a semicolon
 abbrev pub is_skipped : List ℕ → Bool
 is_skipped [] = true
 is_skipped (first ∷ rest) = first == semicolon || list_all is_blank (first ∷ rest)

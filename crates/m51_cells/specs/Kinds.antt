@@ -6,7 +6,7 @@ use Rattle.m51_cells.specs.declared.kind.Reloc.{Reloc}
 use Rattle.m51_cells.specs.declared.kind.Reloc.TheVariants.{Abs, Unit as UnitType, Bitaddressable, Inpage, Inblock}
 use Rattle.m51_cells.specs.declared.kind.Reloc.TheVariants.{Page}
 
--- the kinds are one
+-- the kinds are the same
 abbrev pub same_kind : Kind → Kind → Bool
 same_kind Code Code = true
 same_kind Xdata Xdata = true
@@ -16,7 +16,7 @@ same_kind Bits Bits = true
 same_kind Number Number = true
 same_kind _ _ = false
 
--- the types are one
+-- the types are the same
 abbrev pub same_reloc : Reloc → Reloc → Bool
 same_reloc Abs Abs = true
 same_reloc UnitType UnitType = true

@@ -14,7 +14,7 @@ whole_step : (p : ℕ → Bool) (x : ℕ) (xs : List ℕ) (b : Bool) → length 
 whole_step p x xs true h more = absurd (omega (arith, h))
 whole_step p x xs false h more = ap (onto_first x) (more (omega (arith, h)))
 
--- where the sign is not there, the text is the one part
+-- where the text has no such sign, the text is the one part
 pub whole : (p : ℕ → Bool) (text : List ℕ) → length text ≤ position_or_len p text → slice_split p text ≡ text ∷ []
 whole p [] h = refl
 whole p (x ∷ xs) h = whole_step p x xs (p x) h (whole p xs)

@@ -18,7 +18,7 @@ class_of kind.Xdata _ = Some Xdata
 class_of kind.Code _ = Some Code
 class_of kind.Number _ = None
 
--- the classes are one
+-- the classes are the same
 abbrev pub same_class : Class → Class → Bool
 same_class Bitaddressable Bitaddressable = true
 same_class Bits Bits = true

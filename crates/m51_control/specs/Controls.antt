@@ -22,7 +22,7 @@ with_line number None after = Err (C1 number)
 with_line number (Some control) (Ok controls) = Ok ((number, control) ∷ controls)
 with_line number (Some control) (Err error) = Err error
 
--- The controls of lines, of which the first has this number; or the number of the first line that is out of the
+-- The controls of lines, of which the first has this number; or the number of the first line that is not in the
 -- grammar. Lines that are skipped count.
 abbrev pub read_from : ℕ → List (List ℕ) → Read
 read_from number [] = Ok []

@@ -54,7 +54,7 @@ fn cut(alloc: Global, inside: &[u8]) -> Result<Option<Control>, NoMemory>
     }
 }
 
-// What is in the parentheses of OVERLAY.
+// The control that the text in the parentheses of OVERLAY writes.
 fn overlay(alloc: Global, inside: &[u8]) -> Result<Option<Control>, NoMemory>
     ensures control { IfOk result (λ control. control ≡ overlay inside.now) }
     ensures allowed { IfOk result (λ control. IfSome control IsAllowed) }
@@ -66,7 +66,7 @@ fn overlay(alloc: Global, inside: &[u8]) -> Result<Option<Control>, NoMemory>
     }
 }
 
-// What is in the parentheses of NOOVERLAY.
+// The control that the text in the parentheses of NOOVERLAY writes.
 fn no_overlay(inside: &[u8]) -> Option<Control>
     ensures { result ≡ no_overlay inside.now }
 {
@@ -95,7 +95,7 @@ fn class_named(word: &[u8]) -> Option<Class>
     }
 }
 
-// The class of an order, and what comes after its comma.
+// The class of an order, and the text after its comma.
 fn ordered_of(inside: &[u8]) -> Option<(Class, &[u8])>
     ensures { option_map (λ o. (o.0, o.1.now)) result ≡ ordered_of inside.now }
 {
@@ -104,7 +104,7 @@ fn ordered_of(inside: &[u8]) -> Option<(Class, &[u8])>
     Some((class_named(class.bytes())?, segments))
 }
 
-// What is in the parentheses of ORDER.
+// The control that the text in the parentheses of ORDER writes.
 fn order(alloc: Global, inside: &[u8]) -> Result<Option<Control>, NoMemory>
     ensures { IfOk result (λ control. control ≡ order inside.now) }
 {
@@ -117,7 +117,7 @@ fn order(alloc: Global, inside: &[u8]) -> Result<Option<Control>, NoMemory>
     }
 }
 
-// What a word says with what is in its parentheses.
+// The control of a word and of the text in its parentheses.
 #[tactic(auto, unfolding(crate::specs::Grammar::by_word))]
 fn by_word(alloc: Global, word: &[u8], inside: &[u8]) -> Result<Option<Control>, NoMemory>
     ensures control { IfOk result (λ control. control ≡ by_word word.now inside.now) }
@@ -136,7 +136,7 @@ fn by_word(alloc: Global, word: &[u8], inside: &[u8]) -> Result<Option<Control>,
     }
 }
 
-// The word of a line, and what is in its parentheses.
+// The word of a line, and the text in its parentheses.
 fn call_of(line: &[u8]) -> Option<(Name, &[u8])>
     ensures { option_map (λ c. (c.0, c.1.now)) result ≡ call_of line.now }
 {

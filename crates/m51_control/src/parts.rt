@@ -14,7 +14,7 @@ fn sign_place(sign: u8, text: &[u8]) -> usize
     text.iter().take_while(|byte| **byte != sign).count()
 }
 
-// What comes before the first of these signs, and what follows it.
+// The text before the first of these signs, and the text after it.
 pub(crate) fn cut_at(sign: u8, text: &[u8]) -> Option<(&[u8], &[u8])>
     ensures cut { option_map (λ cut. (cut.0.now, cut.1.now)) result ≡ cut_at sign text.now }
     ensures parts { MatchOption result (IsOnePart sign text.now) (λ cut. SplitsInto sign text.now cut.0.now cut.1.now) }
@@ -28,7 +28,7 @@ pub(crate) fn cut_at(sign: u8, text: &[u8]) -> Option<(&[u8], &[u8])>
     }
 }
 
-// What comes before this sign, where it is the last byte.
+// The text before this sign, where that is the last byte.
 pub(crate) fn before_last(sign: u8, text: &[u8]) -> Option<&[u8]>
     ensures { option_map (λ front. front.now) result ≡ before_last sign text.now }
 {
@@ -40,7 +40,7 @@ pub(crate) fn before_last(sign: u8, text: &[u8]) -> Option<&[u8]>
     }
 }
 
-// The part that comes first, after which there are only blanks.
+// The part that comes first, with only blanks after it.
 pub(crate) fn before_blanks(text: &[u8]) -> Option<&[u8]>
     ensures { option_map (λ part. part.now) result ≡ before_blanks text.now }
 {

@@ -46,7 +46,7 @@ fn read_lines(alloc: Global, bytes: &[u8]) -> Result<Controls, ControlError>
 pub fn read_controls(alloc: Global, bytes: &[u8]) -> Result<Controls, ControlError>
     // The controls of the lines, or which refusal it is.
     ensures gives { Gives (λ controls. controls) refusal_of result (controls_of bytes.now) }
-    // What a line is read as is what is written in it, and nothing else is.
+    // A line is read as a control exactly if it writes that control.
     ensures grammar { (line : List ℕ) (control : Control) → (control_of line ≡ Some control) ↔ Writes line control }
 {
     if line_count(bytes) > MOST_CONTROL_LINES {

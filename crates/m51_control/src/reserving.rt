@@ -118,7 +118,7 @@ fn reserve_of(space: Space, low: u16, high: u16) -> Option<Control>
     }
 }
 
-// What is in parentheses of which the first is passed, and after which there are only blanks.
+// The text in parentheses, from after the opening one; only blanks follow the closing one.
 fn closed(text: &[u8]) -> Option<&[u8]>
     ensures { option_map (λ inside. inside.now) result ≡ closed text.now }
 {
@@ -130,7 +130,7 @@ fn closed(text: &[u8]) -> Option<&[u8]>
     }
 }
 
-// The memory of a reserve, and what is in its parentheses.
+// The memory of a reserve, and the text in its parentheses.
 fn memory_of(text: &[u8]) -> Option<(Space, &[u8])>
     ensures { option_map (λ m. (m.0, m.1.now)) result ≡ memory_of text.now }
 {

@@ -78,7 +78,7 @@ fn child_of(units: &[DrawnUnit], parent: usize, seed: u32) -> DrawnUnit
     }
 }
 
-// Adds the unit of this number, and answers the seed after its draws.
+// Adds the unit of this number, and returns the seed after its draws.
 fn add_unit(units: &mut Vec<DrawnUnit>, number: usize, seed: u32) -> Result<u32, NoMemory>
     requires { 0 < number }
     ensures { IfOk result (λ next. record { units = units.new.items; seed = next }

@@ -43,7 +43,7 @@ fn label_line(alloc: Global, label: &str, local: &str) -> Result<String, NoMemor
     Ok(format!(in alloc; "{label}: MOV {local},A")?)
 }
 
-// The instruction that takes a local to ACC.
+// The instruction that loads a local into ACC.
 pub(crate) fn load_line(alloc: Global, local: &str) -> Result<String, NoMemory>
     ensures { IfOk result (λ line. string_bytes line ≡ codes "MOV A," ++ local.now) }
 {

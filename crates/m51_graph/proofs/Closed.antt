@@ -28,7 +28,7 @@ edge_tells edges u v =
       λ h. list_any_at (same_edge (u, v)) edges h.0 (u, v) h.1 (ap (same_edge (u, v)) h.2 ∙ (same (u, v)).1 (refl, refl)),
     )
 
--- one edge more
+-- one more edge
 pub or_swap : (a b : Bool) → (a || b) ≡ (b || a)
 or_swap true true = refl
 or_swap true false = refl
@@ -50,7 +50,7 @@ and_swap true false = refl
 and_swap false true = refl
 and_swap false false = refl
 
--- one edge more, the other way round
+-- one more edge, reversed
 pub caller_more : (edges : Edges) (i : ℕ) (d : ℕ × ℕ) (has : ℕ → ℕ → Bool) → i < length edges → has ≡ flipped (edge_test (take i edges))
     → with_pair (get_or edges i d).1 (get_or edges i d).0 has ≡ flipped (edge_test (take (i + 1) edges))
 caller_more edges i d has below is =

@@ -36,7 +36,7 @@ swap_or a false true = refl
 swap_or true false false = refl
 swap_or false false false = refl
 
--- one name more
+-- one more name
 pub names_more : (test : List ℕ → Bool) (names : List (List ℕ)) (i : ℕ) (d : List ℕ) (old now new : Bool) → i < length names
     → new ≡ (test (get_or names i d) || now) → now ≡ (old || list_any test (take i names)) → new ≡ (old || list_any test (take (i + 1) names))
 names_more test names i d old now new below is before =
@@ -58,7 +58,7 @@ same_tests p q h i = λ edge. h edge.0 edge.1 i
 pub same_left : (p q : ℕ × ℕ → Bool) (edges : Edges) → ((u v : ℕ) → p (u, v) ≡ q (u, v)) → filter (λ edge. not (p edge)) edges ≡ filter (λ edge. not (q edge)) edges
 same_left p q edges h = ap (λ (r : ℕ × ℕ → Bool). filter (λ edge. not (r edge)) edges) (same_tests p q h)
 
--- a row of bits has one unit more, and then all that lines keep apart
+-- a row of bits has one more unit, and then all that lines keep apart
 pub apart_more : (titles : List (List ℕ)) (controls : List (ℕ × Control)) (i : ℕ) (d : ℕ × Control) (unit : ℕ) (now new : Bool) → i < length controls
     → new ≡ (keeps_apart titles unit (get_or controls i d).1 || now) → now ≡ is_apart titles (take i controls) unit → new ≡ is_apart titles (take (i + 1) controls) unit
 apart_more titles controls i d unit now new below is before =

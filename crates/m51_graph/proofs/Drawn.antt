@@ -105,7 +105,7 @@ module _ (modules : List ModuleParts) (m : ℕ) (parts : ModuleParts) (here : sl
       let piece : IsPieceValid parts.segments held.piece = All-contains (IsPieceValid parts.segments) parts.pieces held.piece valid.pieces held.is in
       subst (λ s. IsSome (segment_at modules m s)) held.same (segment_there held.piece.segment piece.segment piece.is)
 
-  -- the fixup of that place
+  -- the fixup of that index
   module _ (valid : IsValid parts) (fixups : List Fixup) (are : fixups ≡ parts.fixups) (i : ℕ) (d : Fixup) (below : i < length fixups) where
     valid_fixup : IsFixupValid parts.segments parts.externals parts.pieces (get_or fixups i d)
     valid_fixup = All-contains (IsFixupValid parts.segments parts.externals parts.pieces) fixups (get_or fixups i d)

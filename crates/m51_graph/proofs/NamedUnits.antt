@@ -13,7 +13,7 @@ use Rattle.m51_resolve.specs.declared.segment.JoinedSegment.{JoinedSegment}
 use Rattle.m51_graph.specs.Numbered.{AreNumbers, IsUnitTable, number_in, units_by_segment}
 use Rattle.m51_graph.specs.Units.{named, units_from, units_of}
 
--- one item more
+-- one more item
 from_push : {X : Type 0} (p : X → Bool) (n : ℕ) (xs : List X) (x : X)
     → position_from p n (xs ++ x ∷ []) ≡ option_or (position_from p n xs) (cond (p x) (Some (n + length xs)) None)
 from_push p n [] x = ap (λ k. cond (p x) (Some k) None) (omega arith)
@@ -47,7 +47,7 @@ pub record AreBefore (titles : List (List ℕ)) (i : ℕ) (numbers : List (List 
 pub before_first : (titles : List (List ℕ)) → AreBefore titles 0 []
 before_first titles = record { each = λ name. refl }
 
--- one title more
+-- one more title
 pub before_more : (titles : List (List ℕ)) (i : ℕ) (d title : List ℕ) (now new : List (List ℕ × ℕ)) → i < length titles → title ≡ get_or titles i d → AreBefore titles i now
     → ((name : List ℕ) → number_in new name ≡ cond (bytes_eq title name) (Some (unwrap_or (number_in now title) i)) (number_in now name))
     → AreBefore titles (i + 1) new

@@ -16,7 +16,7 @@ swap_last false false = refl
 pub seen_none : no_pair ≡ edge_test []
 seen_none = same_pairs no_pair (edge_test []) (λ u v. refl)
 
--- the pair of one edge more
+-- the pair of one more edge
 pub seen_more : (edges : Edges) (edge : ℕ × ℕ) (seen : ℕ → ℕ → Bool) → seen ≡ edge_test edges → with_pair edge.0 edge.1 seen ≡ edge_test (edges ++ edge ∷ [])
 seen_more edges edge seen is =
     same_pairs (with_pair edge.0 edge.1 seen) (edge_test (edges ++ edge ∷ []))

@@ -71,7 +71,7 @@ pub record IsDrawn (modules : List ModuleParts) (controls : List (ℕ × Control
   pub differ : u ≢ v
   pub uncut : IsCut (unit_titles (segments_of modules)) controls u v → ⊥
 
--- there is an edge from one unit to another exactly there
+-- an edge leads from one unit to another exactly if it is drawn so
 abbrev pub EdgesAre : Type 0
 EdgesAre = (modules : List ModuleParts) (controls : List (ℕ × Control)) (u v : ℕ)
     → HasEdge (edges_of (unit_titles (segments_of modules)) controls (fixup_edges modules)) u v

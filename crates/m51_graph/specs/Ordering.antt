@@ -18,7 +18,7 @@ class_number Idata = 3
 class_number Xdata = 4
 class_number Code = 5
 
--- two numbers with names are one
+-- two pairs of a number and a name are the same
 abbrev pub same_key : ℕ × List ℕ → ℕ × List ℕ → Bool
 same_key one two = nat_eq one.0 two.0 && bytes_eq one.1 two.1
 

@@ -20,11 +20,11 @@ public_unit modules m NoBase = None
 public_unit modules m (InSegment s) = unit_with modules m s
 public_unit modules m (OfExternal e) = None
 
--- the base of the public of that place, counted from 0; none where it is not there
+-- the base of the public of that index, from 0; none if no public has it
 abbrev pub base_at : List Public → ℕ → Base
 base_at publics place = option_map_or (λ (p : Public). p.base) (slice_get publics place) NoBase
 
--- the base of the public of that place of the module of that number
+-- the base of the public of that index of the module of that number
 abbrev pub public_base : List ModuleParts → ℕ → ℕ → Base
 public_base modules m place =
     option_map_or (λ (parts : ModuleParts). base_at parts.publics place) (slice_get modules m) NoBase

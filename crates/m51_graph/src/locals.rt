@@ -65,7 +65,7 @@ fn is_unit_of(title: &[u8], rest: &[u8]) -> bool
     title[4..] == rest[..]
 }
 
-// The place of the first title that is ?PR? and then these bytes.
+// The index of the first title that is ?PR? and then these bytes.
 fn place_of(titles: &[Name], rest: &[u8]) -> Option<usize>
     ensures place { result ≡ position (λ title. bytes_eq title (unit_front ++ rest.now)) titles.now }
     ensures inside { IfSome result (λ place. place < length titles.now) }

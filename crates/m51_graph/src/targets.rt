@@ -34,7 +34,7 @@ fn public_unit(joined: &Joined, units: &UnitTable, module: u8, base: Base) -> Op
     }
 }
 
-// The base of the public of that place; none where it is not there.
+// The base of the public of that index, from 0; none if no public has it.
 fn base_at(parts: &Module, place: usize) -> Base
     ensures base { result ≡ base_at parts.now.publics place }
     ensures there { IsBaseIn parts.now result }
@@ -45,7 +45,7 @@ fn base_at(parts: &Module, place: usize) -> Base
     }
 }
 
-// The base of the public of that place of the module.
+// The base of the public of that index of the module.
 fn public_base(joined: &Joined, module: u8, place: usize) -> Base
     ensures base { result ≡ public_base joined.now «module» place }
     ensures there { IsBaseThere joined.now «module» result }

@@ -42,7 +42,7 @@ pub(crate) fn unit_titles(alloc: Global, segments: &[JoinedSegment]) -> Result<V
     Ok(code_titles(alloc, segments)?)
 }
 
-// A place among units or their titles, as the number of the unit.
+// An index among units or their titles, as the number of the unit.
 pub(crate) fn as_unit(place: Option<usize>) -> Option<u16>
     requires { IfSome place (λ p. p < 65536) }
     ensures { result ≡ place }

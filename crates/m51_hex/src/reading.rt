@@ -46,7 +46,7 @@ fn record_in(line: u32, bytes: &[u8]) -> Result<Record<'_>, HexError>
     Ok(record_from(bytes))
 }
 
-// Reads a line, and puts the data of its record into the image. The answer is the type of the record.
+// Reads a line, and puts the data of its record into the image. Returns the type of the record.
 #[tactic(auto, unfolding(crate::specs::Line::record_of, crate::specs::Reading::line_read))]
 fn read_line(
     alloc: Global,
@@ -66,7 +66,7 @@ fn read_line(
 
 /// The image that a HEX file describes: the data of its records, of which later bytes replace earlier ones, and FFH at
 /// each address that no record has. Lines end in a line feed, or in a carriage return and a line feed; the last may
-/// lack its end. Digits are of either case. What follows a record of type 01 is not looked at.
+/// lack its end. Digits are of either case. What follows a record of type 01 is ignored.
 ///
 /// Condition: the file has fewer than 4,294,967,296 bytes.
 ///

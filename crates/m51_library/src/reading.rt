@@ -36,7 +36,7 @@ fn library_of(alloc: Global, bytes: &[u8]) -> Result<Library, LibError>
 
 /// The library whose bytes these are: less than 4,294,967,296 of them.
 ///
-/// Errors: `Object` with the first refusal of the bytes, `O1` to `O5`, where places count from the first byte and
+/// Errors: `Object` with the first refusal of the bytes, `O1` to `O5`, where offsets count from the first byte and
 /// record numbers from the first record, which is 0: the first record must say how many modules follow, at most 255,
 /// and nothing may follow them. Then, for each module in order, `B1` where one before it has its name, else `B3` with
 /// its first public that one before it has. `Memory` is the only other error; `Object` never holds it.

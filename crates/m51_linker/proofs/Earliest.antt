@@ -20,7 +20,7 @@ least-append [] ys = refl
 least-append (x ∷ xs) ys =
     ap (λ (o : Option Spot). Some (first_of x o)) (least-append xs ys) ∙ ap (λ (s : Spot). Some s) (earlier_first x (least_of xs) (least_of ys))
 
--- one more spot that may be there
+-- one more spot, which may be missing
 least_option : (o : Option Spot) → least_of (option_to_list o) ≡ o
 least_option None = refl
 least_option (Some spot) = refl

@@ -38,12 +38,12 @@ broken_of modules placing = of_modules (module_broken modules placing) modules
 abbrev pub is_before : Spot → Spot → Bool
 is_before one two = nat_lt one.number two.number || (nat_eq one.number two.number && nat_le one.offset two.offset)
 
--- the one of the two that comes first, where there is another
+-- the first of a spot and another one, if there is another
 abbrev pub first_of : Spot → Option Spot → Spot
 first_of spot None = spot
 first_of spot (Some other) = if is_before spot other then spot else other
 
--- the same, where there may be none at all
+-- the same for two spots, each of which may be missing
 abbrev pub earlier_of : Option Spot → Option Spot → Option Spot
 earlier_of None other = other
 earlier_of (Some spot) other = Some (first_of spot other)

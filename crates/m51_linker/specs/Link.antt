@@ -1,4 +1,4 @@
--- What linking answers: the first rule that fails, or the layout, the image, its runs and the roots of the units.
+-- The result of linking: the first rule that fails, or the layout, the image, its runs and the roots of the units.
 use Rattle.std.specs.Prelude.{◌≡◌, ℕ, ◌+◌, ◌<◌, ◌≤◌, List, length, slice_index, Result, Ok, Err}
 use Rattle.std.specs.List.{All, AllPairs}
 use Rattle.m51_cells.specs.Outcome.{and_then, RefusesWith}

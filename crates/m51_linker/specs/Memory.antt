@@ -1,4 +1,4 @@
--- Of the code: the bytes of program memory while they are put there, of which each may be there or not.
+-- Of the code: program memory while it is filled, where an address has a byte or none.
 use Rattle.std.specs.Prelude.{◌≡◌, ℕ, ◌+◌, ◌<◌, ◌≤◌, true, List, length, slice_index, slice_index_or, is_some}
 use Rattle.std.specs.Prelude.{unwrap_or, Option, Some, None}
 use Rattle.std.specs.Option.{option_or}

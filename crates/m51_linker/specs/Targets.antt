@@ -1,4 +1,4 @@
--- What fixups refer to: where a segment of a module begins, what a public is worth, and the address of a target.
+-- What fixups refer to: where a segment of a module begins, the value of a public, and the address of a target.
 -- Modules are counted from 0, segments and externals of a module from 1.
 use Rattle.std.specs.Prelude.{ℕ, ◌+◌, ◌%◌, List, slice_get, slice_index}
 use Rattle.std.specs.Option.{option_map_or}

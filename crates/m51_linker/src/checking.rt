@@ -39,7 +39,7 @@ fn is_before(one: Spot, two: Spot) -> bool
     one.number < two.number || one.number == two.number && one.offset <= two.offset
 }
 
-// The one that comes first, where there is another.
+// The first of a spot and another one, if there is another.
 fn first_of(spot: Spot, other: Option<Spot>) -> Spot
     ensures { result ≡ first_of spot other }
 {
@@ -49,7 +49,7 @@ fn first_of(spot: Spot, other: Option<Spot>) -> Spot
     }
 }
 
-// The one that comes first of two that may be there.
+// The first of two spots, each of which may be missing.
 pub(crate) fn earlier_of(one: Option<Spot>, other: Option<Spot>) -> Option<Spot>
     ensures { result ≡ earlier_of one other }
 {

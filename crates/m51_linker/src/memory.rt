@@ -1,5 +1,4 @@
-//! The bytes of program memory while they are put there: those of content, each of which may be there or not, and the
-//! image.
+//! Program memory while it is filled: the bytes of content, which not each address has, and the image.
 ghost use Rattle.std.specs.Prelude.{◌≡◌, ◌+◌, ◌≤◌, ℕ, [], ◌∷◌, IfOk, None, length, slice_index_or, unwrap_or, vec_len};
 ghost use Rattle.m51_fields.specs.Fields.{bytes_of};
 ghost use Rattle.m51_linker.specs.Stretches.{stretch_at};
@@ -62,7 +61,7 @@ fn put_bytes(image: &mut Image, at: usize, bytes: &[u8])
     requires { at + length bytes.now ≤ IMAGE_LEN }
     ensures { AreWritten ((record { at = at; bytes = bytes.now }) ∷ []) (image_at image.old) (image_at image.new) }
 {
-    // How long an image is, is known where it is read.
+    // For the proof only: reading the image exposes its length.
     let _bytes = image.bytes();
     for (index, byte) in bytes.iter().enumerate() {
         image.set((at + index) as u16, *byte);

@@ -8,7 +8,7 @@ use Rattle.std.proofs.lemmas.List.Folds.{find_at, map_fixed}
 use Rattle.std.proofs.lemmas.List.Recursion.{found_at}
 use Rattle.std.proofs.lemmas.Option.{slice_get_past}
 
--- the element at that place passes, and no other
+-- the element at that index passes, and no other
 pub record PassesAlone {X : Type 0} (p : X → Bool) (xs : List X) (i : ℕ) : Type 0 where
   pub within : i < length xs
   pub here : (d : X) → p (get_or xs i d) ≡ true
@@ -30,7 +30,7 @@ none_past : (b : Bool) (n : ℕ) → cond b (Some n) None ≡ None → b ≡ fal
 none_past true n h = absurd (cc h)
 none_past false n h = refl
 
--- where there is no place, the search finds nothing
+-- where no index is found, the search finds nothing
 pub found_nowhere : {X : Type 0} (p : X → Bool) (xs : List X) → position p xs ≡ None → find p xs ≡ None
 found_nowhere p xs h =
     let past : nat_lt (position_or_len p xs) (length xs) ≡ false = none_past _ _ h in

@@ -36,7 +36,7 @@ pub replace_nowhere : (ms : List ModuleParts) (new : ModuleParts) → position (
 replace_nowhere ms new none =
     ap (λ (r : Result ModuleParts LibError). and_then r (λ _. unless (clash (others_than new.name ms) new) (with_replaced new ms))) (extract_nowhere ms new.name none)
 
--- what replaces at a place, by the place
+-- replacing the module of a name, by its index
 pub put_there : (ms : List ModuleParts) (new : ModuleParts) (i : ℕ) → PassesAlone (is_named new.name) ms i
     → unless (clash (others_than new.name ms) new) (with_replaced new ms) ≡ unless (clash (remove ms i) new) (slice_set ms i new)
 put_there ms new i alone =

@@ -100,7 +100,7 @@ delete_keeps ms i lt h = record {
   publics = all_pairs_remove ShareNoPublic ms i lt h.publics;
 }
 
--- the others share no public with what takes the place
+-- the others share no public with the module that replaces one
 others_apart : (ms : List ModuleParts) (i : ℕ) (new : ModuleParts) → i < length ms → clash (remove ms i) new ≡ None
     → (k : ℕ) (d : ModuleParts) → k < length ms → k ≢ i → ShareNoPublic (get_or ms k d) new
 others_apart ms i new in_it free k d lt ne =
@@ -126,13 +126,13 @@ replace_keeps ms i new h alone free =
           let r : ShareNoPublic (get_or ms k d) new = others_apart ms i new alone.within free k d lt ne in (r, swapped (get_or ms k d) new r));
     }
 
--- what lies before a place and what lies after it is the list without it
+-- the items before an index and those after it are the list without its item
 pub around : (ms : List ModuleParts) (i : ℕ) → take i ms ++ take (length ms - (i + 1)) (drop (i + 1) ms) ≡ remove ms i
 around ms i =
     let all : take (length ms - (i + 1)) (drop (i + 1) ms) ≡ drop (i + 1) ms = take_all _ _ (omega (arith, length-drop (i + 1) ms)) in
     rw (all, add-one) refl
 
--- a module that is raised in its place leaves a library
+-- a library stays one where a module of it is raised
 pub raise_keeps : (ms : List ModuleParts) (i : ℕ) (d : ModuleParts) → i < length ms → IsLibrary ms → IsLibrary (slice_set ms i (raised (get_or ms i d)))
 raise_keeps ms i d within h = record {
   few = omega (arith, length-set ms i (raised (get_or ms i d)), h.few);

@@ -1,4 +1,4 @@
--- The rows of owners and of locals, one pair and one segment more at a time.
+-- The rows of owners and of locals, extended by one pair and by one segment at a time.
 use Rattle.std.proofs.Common.{◌≡◌, ◌≢◌, ◌⊎◌, inl, inr, ℕ, zero, suc, ◌+◌, ◌<◌, List, [], ◌∷◌, ◌++◌, length, refl, sym, ap, subst, ◌∙◌, arith, length-append}
 use Rattle.std.specs.Prelude.{slice_index_or, slice_set, take}
 use Rattle.std.specs.List.{Contains}
@@ -15,7 +15,7 @@ use Rattle.m51_module.specs.Sound.{IsSound}
 use Rattle.m51_module.proofs.Owning.{first_or_behind, contains_behind, none_in_empty}
 use Rattle.m51_module.proofs.Units.{same_or_not}
 
--- a pair more is an owner more of its segment
+-- one more pair is one more owner of its segment
 more_owner : (pairs : List (ℕ × ℕ)) (pair : ℕ × ℕ) (s : ℕ) → pair.0 ≡ s → owners_of (pairs ++ pair ∷ []) s ≡ owners_of pairs s ++ pair.1 ∷ []
 more_owner [] pair s e = elim (eqb_tells pair.0 s) as (λ _. owners_of (pair ∷ []) s ≡ pair.1 ∷ []) [
   | inl same ↦ rw same.0 refl
@@ -37,7 +37,7 @@ same_owners (p ∷ ps) pair s ne = elim (eqb_tells p.0 s) as (λ _. owners_of ((
   | inr other ↦ rw other.0 (same_owners ps pair s ne)
 ]
 
--- a row more with nothing in it
+-- one more row, which is empty
 empty_more : (rows : List (List ℕ)) → ((s : ℕ) → slice_index_or rows s [] ≡ []) → (s : ℕ) → slice_index_or (rows ++ [] ∷ []) s [] ≡ []
 empty_more [] h zero = refl
 empty_more [] h (suc s) = refl
@@ -51,7 +51,7 @@ empty_rows_more count rows h = record { len = omega (arith, h.len, length-append
 pub owner_rows_start : (count : ℕ) (rows : List (List ℕ)) → AreEmptyRows count rows → AreOwnerRows [] count rows
 owner_rows_start count rows h = record { len = h.len; each = λ s below. h.each s }
 
--- a pair more
+-- one more pair
 pub owner_rows_more : (owners : List (ℕ × ℕ)) (count : ℕ) (rows : List (List ℕ)) (pair : ℕ × ℕ) → AreOwnerRows owners count rows → pair.0 < count
     → AreOwnerRows (owners ++ pair ∷ []) count (slice_set rows pair.0 (slice_index_or rows pair.0 [] ++ pair.1 ∷ []))
 owner_rows_more owners count rows pair h below = record {
@@ -85,7 +85,7 @@ among_or_not (y ∷ ys) x = elim (same_or_not y x) as (λ _. Contains (y ∷ ys)
 pub added_start : (segment : ℕ) (rows : List (List ℕ)) → IsAddedAt [] segment rows rows
 added_start segment rows = record { len = refl; added = λ u c. absurd (none_in_empty u c); same = λ u _. refl }
 
--- a unit more, which is not among those before it
+-- one more unit, which is not among those before it
 pub added_more : (units : List ℕ) (segment : ℕ) (old new : List (List ℕ)) (u : ℕ) → IsAddedAt units segment old new → u < length old → (Contains units u → ⊥)
     → IsAddedAt (units ++ u ∷ []) segment old (slice_set new u (slice_index_or new u [] ++ segment ∷ []))
 added_more units segment old new u h below without =
@@ -153,7 +153,7 @@ local_rows_start owner_rows units rows h = record {
   each = λ u below. subst (AreSegmentsOf owner_rows u 0) (sym (h.each u)) (segments_start owner_rows u);
 }
 
--- a row more
+-- one more row
 pub local_rows_more : (owner_rows : List (List ℕ)) (units count : ℕ) (old new : List (List ℕ)) (row : List ℕ) → AreLocalRows owner_rows units count old
     → slice_index_or owner_rows count [] ≡ row → IsAddedAt row count old new → AreLocalRows owner_rows units (count + 1) new
 local_rows_more owner_rows units count old new row h is added = record {

@@ -1,4 +1,4 @@
--- The tables of edges and of units by address, one edge, one address and one unit more at a time.
+-- The tables of edges and of units by address, extended by one edge, one address and one unit at a time.
 use Rattle.std.proofs.Common.{◌≡◌, ◌≢◌, inl, inr, ℕ, zero, suc, ◌+◌, ◌<◌, ◌≤◌, Bool, true, false, List, [], ◌∷◌, ◌++◌, length, Option, Some, None, replicate, refl, sym, ap, subst, ◌∙◌, arith, length-append}
 use Rattle.std.specs.Prelude.{slice_index_or, slice_set}
 use Rattle.std.specs.List.{Contains}
@@ -20,7 +20,7 @@ use Rattle.m51_module.proofs.CellLemmas.{code_covers, inside_end}
 use Rattle.m51_module.proofs.Owning.{none_in_empty}
 use Rattle.m51_module.proofs.Units.{same_or_not, at_from_covers, covers_from_at, one_unit}
 
--- a row more
+-- one more row
 clear_at : (wide : ℕ) (rows : List (List Bool)) → ((u : ℕ) → u < length rows → slice_index_or rows u [] ≡ replicate wide false)
     → (u : ℕ) → u < length rows + 1 → slice_index_or (rows ++ replicate wide false ∷ []) u [] ≡ replicate wide false
 clear_at wide [] h zero below = refl
@@ -45,7 +45,7 @@ edges_start units rows h = record {
   );
 }
 
--- what an edge more sets
+-- what one more edge sets
 module _ (edges : Edges) (units : ℕ) (rows : List (List Bool)) (f t : ℕ) (h : AreEdgeRows edges units rows) (f_in : f < units) (t_in : t < units) where
   abbrev row : List Bool
   row = slice_set (slice_index_or rows f []) t true
@@ -115,7 +115,7 @@ entered_start base unit table = record {
   after = λ address _. refl;
 }
 
--- at an address more
+-- at one more address
 pub entered_more : (base size unit : ℕ) (old new : List (Option ℕ)) → IsEntered base size unit old new → base + size < length old
     → IsEntered base (size + 1) unit old (slice_set new (base + size) (Some unit))
 entered_more base size unit old new h there = record {
@@ -170,7 +170,7 @@ lies base size address = by_order base address (λ low. IsBefore low) (λ from. 
   by_order : (a b : ℕ) → (b < a → Lies base size address) → (a ≤ b → Lies base size address) → Lies base size address
   by_order a b below above = elim (cases_lt b a) as (λ _. Lies base size address) [ inl less ↦ below less | inr not_less ↦ above not_less ]
 
--- a unit more
+-- one more unit
 pub units_more : (l : LayoutParts) (unit : ℕ) (p : Placed) (old new : List (Option ℕ)) → IsSound l → AreUnitsAt l unit old → IsUnit l unit p → p.kind ≡ Code
     → IsEntered p.base p.size unit old new → AreUnitsAt l (unit + 1) new
 units_more l unit p old new sound h is code entered = record {

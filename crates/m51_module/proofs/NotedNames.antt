@@ -26,7 +26,7 @@ module _ {X : Type 0} (name_of : X → List ℕ) where
   pub note_none : (old : List (List ℕ)) (items : List X) → NotesNames name_of old (take 0 items) old
   note_none old items = record { each = λ name. sym (or-false (is_in old name)) }
 
-  -- one item more is noted
+  -- one more item is noted
   pub note_more : (old now new : List (List ℕ)) (items : List X) (index : ℕ) (x : X) → NotesNames name_of old (take index items) now → index < length items
       → x ≡ get_or items index x → ((name : List ℕ) → is_in new name ≡ cond (bytes_eq (name_of x) name) true (is_in now name)) → NotesNames name_of old (take (index + 1) items) new
   note_more old now new items index x noted below is puts =
@@ -45,7 +45,7 @@ module _ {X : Type 0} (name_of : X → List ℕ) where
     each = λ name. noted.each name ∙ ap (λ xs. is_in old name || list_any (λ x. bytes_eq (name_of x) name) xs) (take_all index items past);
   }
 
--- the names of the publics of one module more
+-- the names of the publics of one more module
 pub names_push : (ms : List ModuleParts) (m : ModuleParts) (old new : List (List ℕ)) (publics : List Public) → AreNamesOf ms old
     → NotesNames (λ (p : Public). p.name) old publics new → publics ≡ m.publics → AreNamesOf (ms ++ m ∷ []) new
 names_push ms m old new publics are noted is = record {

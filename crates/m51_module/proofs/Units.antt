@@ -35,7 +35,7 @@ pub same_unit : (l : LayoutParts) (unit : ℕ) (p q : Placed) → IsUnit l unit 
 same_unit l unit p q h k = let e : h.segment ≡ k.segment = cc (h.unit_is, k.unit_is) in cc (h.placed, k.placed, e)
 
 module _ (l : LayoutParts) (sound : IsSound l) where
-  -- its place among the extents is one
+  -- its index is that of an extent
   pub unit_place : (unit : ℕ) → unit < length l.units → slice_index l.units unit < length l.placed
   unit_place unit h = let k = sound.is_code unit (slice_index l.units unit) (slice_get-get_or l.units unit 0 h) in slice_get_within l.placed (slice_index l.units unit) k.0 k.1
 
@@ -83,7 +83,7 @@ unit_below l address u h = is_unit_below l u h.is h.unit_is
 pub root_below : (l : LayoutParts) (vector u : ℕ) → IsRootAt l vector u → u < length l.units
 root_below l vector u h = is_unit_below l u h.is h.unit_is
 
--- a unit, by its place among the extents
+-- a unit, by its index among the extents
 pub unit_at_place : (l : LayoutParts) (unit : ℕ) (p : Placed) → unit < length l.units → slice_index l.units unit < length l.placed
     → slice_index_or l.placed (slice_index l.units unit) p ≡ p → IsUnit l unit p
 unit_at_place l unit p h k e = record {

@@ -1,4 +1,4 @@
--- Libraries: which modules one may hold, and what each edit answers.
+-- Libraries: which modules one may hold, and the result of each edit.
 use Rattle.std.specs.Prelude.{◌≢◌, ℕ, ◌≤◌, nat_le, Bool, not, if◌then◌else◌, List, [], ◌∷◌, ◌++◌, length, map, filter}
 use Rattle.std.specs.Prelude.{bytes_eq, Option, Some, None, option_map, Result, Ok, Err}
 use Rattle.std.specs.List.{AllPairs, Contains, find, list_any}
@@ -45,7 +45,7 @@ defines modules name = list_any (has_public name) modules
 abbrev pub others_than : List ℕ → List ModuleParts → List ModuleParts
 others_than name modules = filter (λ m. not (is_named name m)) modules
 
--- the module in the place of the one of its name
+-- the module at the index of the one of its name
 abbrev pub with_replaced : ModuleParts → List ModuleParts → List ModuleParts
 with_replaced new modules = map (λ m. if is_named new.name m then new else m) modules
 
@@ -77,13 +77,13 @@ extracted modules name = ok_or (find (is_named name) modules) (B2 name)
 abbrev pub deleted : List ModuleParts → List ℕ → Result (ModuleParts × List ModuleParts) LibError
 deleted modules name = and_then (extracted modules name) (λ m. Ok (m, others_than name modules))
 
--- replace: the module in the place of the one of its name, which must be there; then B3 beside the others
+-- replace: the module at the index of the one of its name, B2 where there is none; then B3 beside the others
 abbrev pub replaced : List ModuleParts → ModuleParts → Result (List ModuleParts) LibError
 replaced modules new =
     and_then (extracted modules new.name)
     (λ _. unless (clash (others_than new.name modules) new) (with_replaced new modules))
 
--- raise: the module of that name raised in its place, and the others as they are; B2 where there is none
+-- raise: the module of that name raised at its index, and the others as they are; B2 where there is none
 abbrev pub raised_in : List ModuleParts → List ℕ → Result (List ModuleParts) LibError
 raised_in modules name =
     and_then (extracted modules name) (λ _. Ok (map (λ m. if is_named name m then raised m else m) modules))

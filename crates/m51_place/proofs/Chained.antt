@@ -163,7 +163,7 @@ pub first_all : (l : LayoutParts) (addresses : List ℕ) (i : ℕ) (chains : Lis
 first_all l addresses i chains past h =
     subst (λ (cs : List Chain). ChainsAt l addresses cs) (append-nil chains) (h.all [] (subst (λ (xs : List ℕ). ChainsAt l xs []) (sym (drop_all i addresses past)) tt))
 
--- the least of the units that lead on, one edge more
+-- the least of the units that lead on, one more edge
 module _ (xs : Edges) (weights best : List ℕ) (u i : ℕ) (d : ℕ × ℕ) (below : i < length xs) where
   more_is : take (i + 1) xs ≡ take i xs ++ get_or xs i d ∷ []
   more_is = take_more xs i d below

@@ -132,7 +132,7 @@ module _ (g : GraphParts) (w : ℕ → ℕ) (low : ℕ) (top : ℕ → ℕ) (fre
   still_high done later unit end (Rooted before own k walk few_own h) = Rooted before own k walk (omega (arith, few_own, more_sum (unit_bytes g unit) done later)) h
   still_high done later unit end (Rootless own k few_own h) = Rootless own k (omega (arith, few_own, more_sum (free_bytes g free) done later)) h
 
-  -- with one segment of the unit more
+  -- with one more segment of the unit
   module _ (done : List Numbered) (e : Numbered) (unit : ℕ) (own_is : own_of g e ≡ Some unit) where
     abbrev pub size : ℕ
     size = e.placed.size

@@ -67,7 +67,7 @@ module _ (g : GraphParts) (is : IsGraph g) where
   short : (unit count : ℕ) → EndsWalk g.edges unit count → count ≤ 1000
   short unit count walk = omega (arith, walk_short (length g.units) g.edges is.units.edges is.no_cycle unit count walk, is.units.few_units)
 
-  -- of two overlaid segments, the one that comes first is under no later root, and under the same root on no higher level
+  -- the overlaid segment that comes first is under no later root, and under the same root on no higher level
   by_groups : (first second level next : ℕ) (rest : Bool) → before_by 2 2 (group_before (Overlaid first level) (Overlaid second next) rest) ≡ true
       → AreNotAfter first second level next
   by_groups first second level next rest h =

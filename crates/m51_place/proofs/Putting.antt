@@ -13,7 +13,7 @@ use Rattle.m51_graph.proofs.Relations.{above_tells}
 use Rattle.m51_place.specs.declared.ranked.Ranked.{Ranked}
 use Rattle.m51_place.specs.Order.{comes_before, put}
 
--- the place of the first that passes, or the end
+-- the index of the first that passes, or the end
 abbrev pub place_in : {X : Type 0} → (X → Bool) → List X → ℕ
 place_in p xs = unwrap_or (position p xs) (length xs)
 

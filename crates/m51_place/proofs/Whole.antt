@@ -121,7 +121,7 @@ whole modules controls g located is joined kept few h =
           );
     }
 
--- the place of a joined segment
+-- extents with the number of a joined segment, and how many there are
 number_is : (m : ℕ) (number : Option ℕ) → option_map_or (nat_eq m) number false ≡ true → number ≡ Some m
 number_is m None h = absurd (false≢true h)
 number_is m (Some n) h = ap (λ (k : ℕ). Some k) (sym ((Decides-eqb m n).0 h))

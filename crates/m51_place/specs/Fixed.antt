@@ -89,7 +89,7 @@ absolutes_from number (j ∷ more) =
 abbrev pub fixed_of : List ModuleParts → List (ℕ × Control) → List JoinedSegment → List Numbered
 fixed_of modules controls segments = banks_of modules ++ reserves_of controls ++ absolutes_from 0 segments
 
--- the place of the first of the earlier extents that the next one meets
+-- the index of the first earlier extent that shares a cell with the next one
 abbrev pub first_met : List Numbered → Numbered → Option ℕ
 first_met earlier e = position (λ (q : Numbered). share (extent_at q.placed) (extent_at e.placed)) earlier
 

@@ -131,7 +131,7 @@ fn lesser(found: Option<u16>, unit: u16) -> Option<u16>
     }
 }
 
-// Of the units to which edges lead from this one and from which the rest of its bytes can be had, the least.
+// The least of the units to which edges lead from this one and whose heaviest walks have the rest of its bytes.
 fn least_on(layout: &Layout, weights: &[u32], best: &[u32], unit: u16) -> Option<u16>
     requires sound { IsSound layout.now }
     requires weights { AreWeights layout.now weights.now }
@@ -239,7 +239,7 @@ fn chains_at(
 pub fn heaviest(alloc: Global, layout: &Layout) -> Result<Vec<Chain>, NoMemory>
     ensures { IfOk result (λ chains. AreHeaviest layout.now chains.items) }
 {
-    // What a layout keeps is known where its units are read.
+    // For the proof only: reading the units exposes the layout's invariant.
     let _units = layout.units();
     let weights = weights(alloc, layout)?;
     let best = best_of(alloc, layout, &weights)?;

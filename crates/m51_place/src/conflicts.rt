@@ -20,7 +20,7 @@ fn in_conflict(graph: &Graph, one: u16, two: u16) -> bool
     requires two { two < length graph.now.own }
     ensures { result ≡ in_conflict graph.now one two }
 {
-    // What a graph keeps is known where its parts are read.
+    // For the proof only: reading the parts exposes the graph's invariant.
     let _parts = graph.parts();
     one != two && graph.conflict(one, two)
 }
@@ -37,7 +37,7 @@ fn in_conflict_with(graph: &Graph, number: u16, extent: &Numbered) -> bool
     }
 }
 
-// The cells of the extents of this memory that are in conflict with the joined segment. The memory is asked first.
+// The cells of the extents of this memory that are in conflict with the joined segment. The memory is compared first.
 pub(crate) fn in_the_way(
     alloc: Global,
     graph: &Graph,

@@ -32,7 +32,7 @@ fn first_numbered(located: &[Numbered], number: u16) -> Option<usize>
     located.iter().position(|extent| is_number(number, extent))
 }
 
-// The same; 0 where it is not there.
+// The same; 0 if none of them has that number.
 #[tactic(auto, unfolding(crate::specs::Placement::place_of))]
 fn place_of(located: &[Numbered], number: u16) -> u16
     requires { length located.now < 65536 }

@@ -20,7 +20,7 @@ use m51_graph::Graph;
 use m51_resolve::JoinedSegment;
 use std::alloc::Global;
 
-// The place of the class in the order; what has none comes last.
+// The index of the class in the order of classes; a segment without one comes last.
 fn class_number(class: Option<Class>) -> usize
     ensures { result ≡ class_number class }
 {
@@ -47,7 +47,7 @@ fn group_number(group: Group) -> usize
     }
 }
 
-// By what a segment comes in its group first: a named one by its naming, an overlaid one by its root.
+// The first key within a group: the naming of a named segment, the root of an overlaid one.
 fn first_of(group: Group) -> usize
     ensures { result ≡ first_of group }
 {
@@ -58,7 +58,7 @@ fn first_of(group: Group) -> usize
     }
 }
 
-// And then: an overlaid one by the level of its unit.
+// The second key within a group: the level of the unit of an overlaid segment.
 fn second_of(group: Group) -> u16
     ensures { result ≡ second_of group }
 {
@@ -96,7 +96,7 @@ fn plain_group(segment: &JoinedSegment, naming: Option<usize>) -> Group
     }
 }
 
-// The place among the vectors of the first root above the unit; 7 where there is none.
+// The index among the vectors of the first root above the unit; 7 where there is none.
 fn root_number(graph: &Graph, unit: u16) -> usize
     requires { unit < length graph.now.units }
     ensures { result ≡ root_number graph.now unit }
@@ -139,7 +139,7 @@ fn comes_before(one: &Rank, two: &Rank) -> bool
     before_by(class_number(one.class), class_number(two.class), by_group)
 }
 
-// The place in the order of the first segment before which one of this rank comes.
+// The index in the order of the first segment before which one of this rank comes.
 fn first_after(order: &[Ranked], rank: &Rank) -> Option<usize>
     ensures place { result ≡ position (λ t. comes_before rank.now t.rank) order.now }
     ensures inside { IfSome result (λ place. place < length order.now) }
@@ -149,7 +149,7 @@ fn first_after(order: &[Ranked], rank: &Rank) -> Option<usize>
         .position(|ranked| comes_before(rank, &ranked.rank))
 }
 
-// The place in the order for one of this rank: the end, where it comes before none.
+// The index in the order for one of this rank: the end, where it comes before none.
 fn place_for(order: &[Ranked], rank: &Rank) -> usize
     ensures place { result ≡ unwrap_or (position (λ t. comes_before rank.now t.rank) order.now) (length order.now) }
     ensures inside { result ≤ length order.now }

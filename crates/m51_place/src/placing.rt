@@ -99,7 +99,7 @@ fn locate(
     ensures { Gives (λ (located : Vec Numbered). located.items) but_memory result
         (located_of joined.now controls.now graph.now) }
 {
-    // What the chosen modules keep is known where they are read.
+    // For the proof only: reading the modules exposes their invariant.
     let _modules = joined.modules();
     let fixed = fixed(alloc, joined, controls)?;
     check_shared(&fixed)?;
@@ -124,7 +124,7 @@ pub fn place_all(
     ensures value { Gives (λ p. p) but_memory result (placing_of joined.now controls.now graph.now) }
     ensures places { IfOk result (λ p. ArePlaces (segments_of joined.now) p) }
 {
-    // What modules, lines and a graph keep is known where they are read.
+    // For the proof only: reading modules, lines and graph exposes their invariants.
     let _modules = joined.modules();
     let _lines = controls.lines();
     let _parts = graph.parts();

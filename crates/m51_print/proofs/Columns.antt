@@ -5,7 +5,7 @@ use Rattle.std.proofs.lemmas.List.{replicate-append-replicate, get_or-map}
 use Rattle.m51_cells.specs.Hex.{hex2}
 use Rattle.m51_print.specs.Listing.{blanks, left_in}
 
--- one blank more
+-- one more blank
 pub blanks_more : (count : ℕ) → blanks (count + 1) ≡ blanks count ++ 32 ∷ []
 blanks_more count = sym (replicate-append-replicate count 1 32)
 

@@ -51,5 +51,5 @@ overlaid_no placed address h =
     let e : overlaid_below placed address + 0 ≡ overlaid_below placed address = omega arith in
     counted_more (λ a. list_any (overlays a) placed) address ∙ ap (λ b. overlaid_below placed address + cond b 1 0) h ∙ e
 
--- the overlaid bytes, one address more at a time
+-- the overlaid bytes, one more address at a time
 pub ruleset overlaid_steps = (none_overlaid, overlaid_yes, overlaid_no)

@@ -1,4 +1,4 @@
--- What lines that are lent hold.
+-- The texts of borrowed lines.
 use Rattle.std.specs.Prelude.{ℕ, List, Vec, map}
 use Rattle.std.specs.Borrow.{Bor}
 use Rattle.std.specs.declared.alloc.Global.{Global}

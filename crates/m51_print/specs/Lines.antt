@@ -39,7 +39,7 @@ why_text NoHandler = codes "NOHANDLER"
 why_text RootBusy = codes "ROOTBUSY"
 why_text PastEnd = codes "PASTEND"
 
--- a cell: the byte and the bit of internal RAM, or the address; never asked of program memory, which events do not name
+-- a cell: the byte and the bit of internal RAM, or the address; never used for program memory, which events do not name
 abbrev pub cell_text : Space → ℕ → List ℕ
 cell_text Ram at = codes "D:" ++ hex2 (at / 8) ++ codes "." ++ decimal (at % 8)
 cell_text Xram at = codes "X:" ++ hex4 at

@@ -29,7 +29,7 @@ quantity_word Parts = codes "PARTS"
 quantity_word Lines = codes "LINES"
 quantity_word Points = codes "POINTS"
 
--- how many there may be
+-- the number of a limit
 abbrev pub most_of : Quantity → ℕ
 most_of Files = MOST_FILES
 most_of Bytes = MOST_FILE_BYTES
@@ -46,7 +46,7 @@ most_of Points = MOST_POINTS
 abbrev pub limit_text : Quantity → List ℕ
 limit_text what = quantity_word what ++ codes " " ++ decimal (most_of what)
 
--- a refusal: its number and the names, each after a blank; never asked of out of memory, which has no text
+-- a refusal: its number and the names, each after a blank; never used for out of memory, which has no text
 abbrev pub refusal_words : Refusal → List ℕ
 refusal_words (L1 name) = codes "LINK L1" ++ after_blank name
 refusal_words (L2 name) = codes "LINK L2" ++ after_blank name

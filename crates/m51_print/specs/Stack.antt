@@ -53,7 +53,7 @@ pub record IsBoundOf (l : LayoutParts) (bound : StackBound) : Type 0 where
 abbrev pub placed_at : Start → ℕ → List ℕ
 placed_at start at = start_text start ++ codes " AT " ++ hex4 at
 
--- why there is no bound; never asked of out of memory, which has no text
+-- why there is no bound; never used for out of memory, which has no text
 abbrev pub stack_words : StackError → List ℕ
 stack_words (K1 start at) = codes "STACK K1 " ++ placed_at start at
 stack_words (K2 start at) = codes "STACK K2 " ++ placed_at start at

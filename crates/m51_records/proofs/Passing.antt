@@ -15,7 +15,7 @@ use Rattle.m51_records.specs.WorkPieces.{ends_by, EndBy, ArePassed}
 use Rattle.m51_records.proofs.Latest.{latest_push}
 use Rattle.m51_records.proofs.Tools.{some_is, all_push}
 
--- what a piece that ends by a place means
+-- what it means that a piece ends by an offset of a segment
 record IsBy (segment offset : ℕ) (p : Piece) : Type 0 where
   pub low : p.segment ≤ segment
   pub inside : p.segment ≡ segment → p.offset + length p.bytes ≤ offset
@@ -52,7 +52,7 @@ by_of segment offset p h = cases (nat_lt p.segment segment) refl where
       let same : p.segment ≡ segment = omega (arith, h.low, ltb-false p.segment segment lt) in
       rw (eq-eqb p.segment segment same) (inside_of offset p (h.inside same))
 
--- a piece that ends by a place ends by each later one
+-- a piece that ends by an offset ends by each later one
 later : (segment offset segment' offset' : ℕ) (p : Piece) → segment ≤ segment' → (segment ≡ segment' → offset ≤ offset') → ends_by segment offset p ≡ true → ends_by segment' offset' p ≡ true
 later segment offset segment' offset' p le more h =
     let by = by_is segment offset p h in
@@ -117,7 +117,7 @@ at_last pieces passed f few h = record { few = few; none = λ e. absurd cc; some
 pub passed_on : (pieces : List Piece) (passed : ℕ) (before : List Fixup) (f : Fixup) → passed ≤ length pieces → EndBy f.segment f.offset (take passed pieces) → ArePassed pieces passed (latest (before ++ f ∷ []))
 passed_on pieces passed before f few h = subst (ArePassed pieces passed) (sym (latest_push before f)) (at_last pieces passed f few h)
 
--- a further piece that ends by the place
+-- one more piece that ends by the offset
 pub one_passed : (segment offset passed : ℕ) (pieces : List Piece) (p : Piece) → passed < length pieces → get_or pieces passed p ≡ p → EndBy segment offset (take passed pieces) → ends_by segment offset p ≡ true
     → EndBy segment offset (take (passed + 1) pieces)
 one_passed segment offset passed pieces p below is so_far h =

@@ -49,7 +49,7 @@ fixup_offset_at previous segment end bytes = do
   offset ← pair_at end bytes
   checked (field_follows previous segment offset.0) end bytes offset
 
--- the piece holds the byte at that place of the segment
+-- the piece holds the byte at that offset of the segment
 abbrev pub holds : ℕ → ℕ → Piece → Bool
 holds segment offset p =
     (p.segment == segment) && (nat_le p.offset offset && nat_lt (offset - p.offset) (length p.bytes))

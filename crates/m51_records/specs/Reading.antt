@@ -18,7 +18,7 @@ use Rattle.m51_records.specs.Publics.{public_in}
 use Rattle.m51_records.specs.Contents.{piece_in}
 use Rattle.m51_records.specs.Fixups.{fixup_in}
 
--- What reads the contents of a record: they end at a place.
+-- What reads the contents of a record, which end at an offset of the file.
 abbrev pub Reader : Type 0 → Type 0
 Reader X = ℕ → List ℕ → Result X ObjError
 

@@ -31,7 +31,7 @@ fn field_segment_follows(before: &[Fixup], segment: u8) -> bool
     }
 }
 
-// The number of a segment, and the bytes after it. O5 where it is not there, O4 where a field before is in a later
+// The number of a segment, and the bytes after it. O5 where no segment has it, O4 where a field before is in a later
 // one.
 #[tactic(auto, unfolding(crate::specs::Fixups::fixup_segment_at))]
 fn fixup_segment_at<'a>(
@@ -123,7 +123,7 @@ fn passed_by(pieces: &[Piece], known: usize, segment: u8, offset: u16) -> usize
     passed
 }
 
-// Whether the piece holds the byte at that place of the segment.
+// Whether the piece holds the byte at that offset of the segment.
 fn holds(piece: &Piece, segment: u8, offset: usize) -> bool
     ensures { result ≡ holds segment offset piece.now }
 {
@@ -215,7 +215,7 @@ fn tag_at(end: u32, bytes: &[u8]) -> Result<(u8, &[u8]), ObjError>
     Ok((tag, rest))
 }
 
-// The target of that tag and number. O5 where it is not there.
+// The target of that tag and number. O5 where it does not exist.
 fn target_of(
     segments: &[Segment],
     externals: &[External],
@@ -238,7 +238,7 @@ fn target_of(
     Ok(Base::External(number))
 }
 
-// The target, and the bytes after it. O4 where its tag is none, O5 where it is not there.
+// The target, and the bytes after it. O4 where its tag is none, O5 where it does not exist.
 #[tactic(auto, unfolding(crate::specs::Fixups::target_at))]
 fn target_at<'a>(
     segments: &[Segment],

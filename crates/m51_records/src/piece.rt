@@ -24,8 +24,8 @@ fn segment_follows(before: &[Piece], segment: u8) -> bool
     }
 }
 
-// A segment of program memory, its number, and the bytes after the number. O5 where it is not there; O4 where it is of
-// another memory, or the piece before is in a later one.
+// A segment of program memory, its number, and the bytes after the number. O5 where no segment has it; O4 where it is
+// of another memory, or the piece before is in a later one.
 #[tactic(auto, unfolding(crate::specs::Contents::code_segment_at))]
 fn code_segment_at<'a>(
     segments: &[Segment],

@@ -89,7 +89,7 @@ impl<'a> Reader for PublicReader<'a> {
 
 // The public whose record has these contents: they end at that offset; the module has these segments, and these
 // publics, with these names, come before it. O4 for a field that breaks a rule, or for bytes left over; O5 for a
-// segment that is not there.
+// segment that does not exist.
 #[tactic(auto, unfolding(crate::specs::Publics::public_in))]
 fn read_public(
     segments: &[Segment],

@@ -173,8 +173,8 @@ fn parts_at(
 /// with the file, at its total length, and the first record of the module has that number. The number and the length of
 /// the bytes must make less than 4,294,967,296.
 ///
-/// Errors: the first test that fails, record by record and in a record field by field, with its place in the file. `O1`
-/// where the bytes end inside a record or before one that must come; `O2` where a checksum is wrong; `O3` where a
+/// Errors: the first test that fails, record by record and in a record field by field, with its offset in the file.
+/// `O1` where the bytes end inside a record or before one that must come; `O2` where a checksum is wrong; `O3` where a
 /// record of another type must come; `O4` where a field is cut off, out of range or against a rule; `O5` where a field
 /// names a segment or an external that does not exist. `Memory` is the only other error.
 ///

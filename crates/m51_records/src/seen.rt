@@ -27,7 +27,7 @@ impl Model for Seen {
 }
 
 impl Seen {
-    /// No name is noted yet.
+    /// The empty list of names.
     ///
     /// Source: own choice ("Object records").
     pub(crate) fn new(alloc: Global) -> Seen

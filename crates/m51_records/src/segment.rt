@@ -73,7 +73,7 @@ fn may_mark(version: u8, kind: Kind, overlay: bool) -> bool
     version == 2 && overlay && same_kind(kind, Kind::Direct)
 }
 
-// Whether a segment of the kind and type may be OVERLAYABLE and ARGUMENT so.
+// Whether a segment of the kind and type may have these marks, OVERLAYABLE and ARGUMENT.
 fn are_marks(version: u8, kind: Kind, reloc: Reloc, overlay: bool, argument: bool) -> bool
     ensures { result ≡ are_marks version kind reloc overlay argument }
 {

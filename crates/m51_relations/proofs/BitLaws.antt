@@ -43,7 +43,7 @@ bits_joined old more new same same' each v = elim (cases_lt (v / 64) (length old
       ∙ ap (λ x. nat_eq (bit_at x (v % 64)) 1) none'' ∙ zeros)
 ]
 
--- one bit more
+-- one more bit
 pub bits_put : (words : List ℕ) (number : ℕ) → number < 64 * length words → (v : ℕ)
     → bit (set words (number / 64) (bit_or (get_or words (number / 64) 0) (1 * 2 ^ (number % 64) % 2 ^ 64))) v ≡ (nat_eq v number || bit words v)
 unfolding bit
@@ -110,7 +110,7 @@ and_true false = refl
 pub same_pairs : (p q : ℕ → ℕ → Bool) → ((u v : ℕ) → p u v ≡ q u v) → p ≡ q
 same_pairs p q h i = λ u v. h u v i
 
--- the rows are closed below one unit more
+-- the rows are closed below one more unit
 pub close_more : (has : ℕ → ℕ → Bool) (k : ℕ) (old new : List (List ℕ)) (through : List ℕ) → through ≡ get_or old k [] → pair_at old ≡ closed_below k has
     → ((u v : ℕ) → pair_at new u v ≡ (pair_at old u v || (pair_at old u k && bit through v))) → pair_at new ≡ closed_below (k + 1) has
 unfolding closed_below

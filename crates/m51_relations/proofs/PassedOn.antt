@@ -6,7 +6,7 @@ pub passed_first : (tests others has : ℕ → ℕ → Bool) (u v : ℕ) → has
 unfolding passed_below
 passed_first tests others has u v = refl
 
--- one unit more
+-- one more unit
 pub passed_more : (tests others has : ℕ → ℕ → Bool) (k u v : ℕ) (now new : Bool) → new ≡ (now || (tests u k && others k v)) → now ≡ passed_below tests others has k u v
     → new ≡ passed_below tests others has (k + 1) u v
 unfolding passed_below

@@ -8,11 +8,11 @@ use Rattle.m51_relations.specs.Bits.{bit, words_for}
 abbrev pub no_pair : ℕ → ℕ → Bool
 no_pair u v = false
 
--- one pair more is
+-- one more pair is in the set
 abbrev pub with_pair : ℕ → ℕ → (ℕ → ℕ → Bool) → ℕ → ℕ → Bool
 with_pair from to has u v = (nat_eq u from && nat_eq v to) || has u v
 
--- the pairs the other way round
+-- the pairs reversed
 abbrev pub flipped : (ℕ → ℕ → Bool) → ℕ → ℕ → Bool
 flipped has u v = has v u
 

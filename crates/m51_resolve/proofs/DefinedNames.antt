@@ -51,7 +51,7 @@ noted_known x number index name (p ∷ more) =
 abbrev unshared : Definition → Defined
 unshared d = record { first = d; shared = false }
 
--- the publics of one module more of a new name
+-- the publics of one more module of a new name
 new_by : (q : Bool) (number index : ℕ) (name : List ℕ) (p : Public) (more : List Public)
     → noted None number (index + 1) name more ≡ option_map unshared (definition_among number (index + 1) name more)
     → noted (cond q (Some (again None (definition_at number index p))) None) number (index + 1) name more
@@ -74,7 +74,7 @@ or_three : (a b c : Option Definition) → option_or a (option_or b c) ≡ optio
 or_three None b c = refl
 or_three (Some d) b c = refl
 
--- the definition of a name among one module more
+-- the definition of a name among the modules and one more
 definition_push : (number : ℕ) (name : List ℕ) (ms : List ModuleParts) (m : ModuleParts)
     → definition_from number name (ms ++ m ∷ []) ≡ option_or (definition_from number name ms) (definition_among (number + length ms) 0 name m.publics)
 definition_push number name [] m = or_none (definition_among number 0 name m.publics) ∙ ap (λ n. definition_among n 0 name m.publics) (plus_none number) where
@@ -101,7 +101,7 @@ two_by : (hx d t t' h : Bool) → t' ≡ (t || (d && h)) → cond hx (d || (h ||
 two_by true d t t' h e = either d h
 two_by false d t t' h e = e
 
--- two of one module more define the name
+-- whether two modules define the name, with one more module
 two_push : (name : List ℕ) (ms : List ModuleParts) (m : ModuleParts)
     → two_define (ms ++ m ∷ []) name ≡ (two_define ms name || (defines ms name && has_public name m))
 two_push name [] m = neither (has_public name m)
@@ -144,7 +144,7 @@ no_two : (name : List ℕ) (ms : List ModuleParts) → defines ms name ≡ false
 no_two name [] h = refl
 no_two name (m ∷ more) h = no_two_by (has_public name m) (defines more name) (two_define more name) h (no_two name more)
 
--- what is known of a name after one module more
+-- what is known of a name after one more module
 pushed_by : (ms : List ModuleParts) (m : ModuleParts) (name : List ℕ) (o : Option Definition) → definition_of ms name ≡ o
     → noted (option_map (λ d. record { first = d; shared = two_define ms name }) o) (length ms) 0 name m.publics
     ≡ option_map (λ d. record { first = d; shared = two_define (ms ++ m ∷ []) name }) (option_or o (definition_among (length ms) 0 name m.publics))
@@ -163,7 +163,7 @@ pushed_by ms m name (Some d) is =
     ∙ ap (λ b. Some (record { first = d; shared = two_define ms name || (not b && has_public name m) })) other
     ∙ ap (λ s. Some (record { first = d; shared = s })) (sym two)
 
--- of one name: the value with the publics of one module more
+-- of one name: the value with the publics of one more module
 push_at : (ms : List ModuleParts) (m : ModuleParts) (name : List ℕ) (old new : Option Defined) (number : ℕ) (ps : List Public) → old ≡ defined_by ms name → new ≡ noted old number 0 name ps
     → number ≡ length ms → ps ≡ m.publics → new ≡ defined_by (ms ++ m ∷ []) name
 push_at ms m name old new number ps are notes number_is ps_are =
@@ -185,7 +185,7 @@ asked_push asked ms m old new number ps are notes number_is ps_are = record {
 pub none_asked_for : (asked : List (List ℕ)) → AreAskedFor asked [] []
 none_asked_for asked = record { each = λ name is. refl }
 
--- the table has the publics of one module more
+-- the table has the publics of one more module
 pub definitions_push : (ms : List ModuleParts) (m : ModuleParts) (old new : List (List ℕ × Defined)) (number : ℕ) (ps : List Public)
     → AreDefinitions ms old → Notes old number ps new → number ≡ length ms → ps ≡ m.publics → AreDefinitions (ms ++ m ∷ []) new
 definitions_push ms m old new number ps are notes number_is ps_are = record {
@@ -236,7 +236,7 @@ same_again : (q : Bool) (name own : List ℕ) (table : List (List ℕ × Defined
 same_again true name own table d now h = ap (λ n. Some (again (value_in table n) d)) ((bytes_eq-Decides own name).0 h)
 same_again false name own table d now h = refl
 
--- one public more is noted
+-- one more public is noted
 pub note_more : (old now new : List (List ℕ × Defined)) (number : ℕ) (publics : List Public) (index : ℕ) (p : Public) (d : Definition)
     → NotesFrom old number publics index now → index < length publics → p ≡ get_or publics index p → d ≡ definition_at number index p
     → ((name : List ℕ) → value_in new name ≡ cond (bytes_eq p.name name) (Some (again (value_in now p.name) d)) (value_in now name))

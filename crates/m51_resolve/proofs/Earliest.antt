@@ -24,7 +24,7 @@ use Rattle.m51_resolve.proofs.Alike.{not_true}
 use Rattle.m51_resolve.proofs.DefinedNames.{among_some, definition_some, found_at}
 use Rattle.m51_resolve.proofs.Entries.{among_number}
 
--- the earliest of names, one name more at a time
+-- the earliest of names, one more name at a time
 pub earliest_none : (gives : List ℕ → Option ℕ) → IsEarliest gives (λ name. Contains [] name) None
 earliest_none gives = λ name k. absurd (omega (arith, k.1))
 

@@ -46,7 +46,7 @@ pub push_by : (c : Bool) (x : Segment) (more last : List Segment) → cond c (mo
 push_by true x more last = refl
 push_by false x more last = refl
 
--- one segment more is seen first where it is not a part with one before
+-- one more segment is seen first where it is not a part with one before
 pub firsts_push : (before xs : List Segment) (s : Segment)
     → firsts_after before (xs ++ s ∷ []) ≡ firsts_after before xs ++ cond (list_any (are_parts s) (before ++ xs)) [] (s ∷ [])
 firsts_push before [] s = ap (λ ys. cond (list_any (are_parts s) ys) [] (s ∷ [])) (sym (append-nil before))

@@ -1,4 +1,4 @@
--- Joining one segment more.
+-- Joining one more segment.
 use Rattle.std.proofs.Common.{◌≡◌, ℕ, zero, suc, ◌+◌, Bool, true, false, cond, not, ◌&&◌, ◌||◌, List, [], ◌∷◌, ◌++◌, length, map, refl, sym, ap, ◌∙◌, append_assoc, zero-add, Option, Some, None}
 use Rattle.std.specs.Prelude.{nat_lt, option_map, position, slice_get, slice_set, unwrap_or}
 use Rattle.std.specs.List.{filter, list_any, list_all, position_or_len, prefix_len, slice_index_or}
@@ -57,7 +57,7 @@ not_both false b = refl
 mixed_push : (p : Segment → Bool) (xs : List Segment) (s : Segment) → not (list_all p (xs ++ s ∷ [])) ≡ (not (list_all p xs) || not (p s))
 mixed_push p xs s = ap not (list_all-append p xs (s ∷ [])) ∙ not_both (list_all p xs) (p s)
 
--- one part more
+-- one more part
 growing_push : (f : Segment) (xs : List Segment) (s : Segment) → growing_from f (xs ++ s ∷ []) ≡ grown (growing_from f xs) s
 growing_push f xs s =
     ap (λ e. record { first = f; end = e; mixed = not (list_all (parts_agree f) (xs ++ s ∷ [])) }) (end_push 0 xs s)
@@ -180,7 +180,7 @@ join_by : (before : List Segment) (s : Segment) (part : Part) (new : List Growin
 join_by before s part new None is j = join_none before s part new is j
 join_by before s part new (Some n) is j = join_some before s part new n is j
 
--- One segment more is joined, and its part is the one that the definition gives.
+-- One more segment is joined, and its part is the one that the definition gives.
 pub joins : (before : List Segment) (s : Segment) (part : Part) (new : List Growing) → Joins (all_growing before) s part new
     → (part ≡ part_after before s) × (new ≡ all_growing (before ++ s ∷ []))
 joins before s part new j = join_by before s part new (joined_with (all_growing before) s) refl j

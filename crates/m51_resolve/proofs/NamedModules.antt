@@ -9,7 +9,7 @@ use Rattle.m51_resolve.specs.WorkNames.{AreAskedFor, AreNamed, AreWanted, NotesA
 use Rattle.m51_resolve.proofs.DefinedNames.{asked_push, definitions_push, no_definitions}
 use Rattle.m51_resolve.proofs.WantedNames.{none_wanted, wanted_push}
 
--- an item of what is lent
+-- an item of the borrowed list
 pub lent_is : {X : Type 0} (f : X → ModuleParts) (xs : List X) (i : ℕ) (x : X) → i < length xs → x ≡ get_or xs i x → f x ≡ get_or (map f xs) i (f x)
 lent_is f xs i x below is = ap f is ∙ sym (get_or-map f xs i x (f x) below)
 
@@ -17,7 +17,7 @@ lent_is f xs i x below is = ap f is ∙ sym (get_or-map f xs i x (f x) below)
 pub none_named : AreNamed [] [] []
 none_named = record { definitions_are = no_definitions; wanted_are = none_wanted }
 
--- the tables with the names of one module more
+-- the tables with the names of one more module
 pub named_push : (ms : List ModuleParts) (m : ModuleParts) (old new : List (List ℕ × Defined)) (names names' : List (List ℕ)) (number : ℕ) (ps : List Public) (es : List External)
     → AreNamed ms old names → number ≡ length ms → Notes old number ps new → ps ≡ m.publics → Wants names es names' → es ≡ m.externals → AreNamed (ms ++ m ∷ []) new names'
 named_push ms m old new names names' number ps es are number_is notes ps_are want es_are = record {
@@ -25,7 +25,7 @@ named_push ms m old new names names' number ps es are number_is notes ps_are wan
   wanted_are = wanted_push ms m names names' es are.wanted_are want es_are;
 }
 
--- the definitions of one module more, of those that are lent
+-- the definitions of one more module, of those that are borrowed
 pub definitions_more : {X : Type 0} (asked : List (List ℕ)) (f : X → ModuleParts) (xs : List X) (count : ℕ) (x : X) (old new : List (List ℕ × Defined)) (ps : List Public)
     → AreAskedFor asked (take count (map f xs)) old → count < length xs → x ≡ get_or xs count x → NotesAsked asked old count ps new → ps ≡ (f x).publics
     → AreAskedFor asked (take (count + 1) (map f xs)) new

@@ -27,7 +27,7 @@ pub record AreSegmentsOf (modules : List ModuleParts) (count : ℕ) (all : List 
 pub flat_start : {A : Type 0} (items : ModuleParts → List A) (modules : List ModuleParts) → AreFlat items modules 0 [] []
 flat_start items modules = record { few = omega arith; flat = refl; len = refl; each = λ m below. absurd (omega (arith, below)) }
 
--- the items of one module more
+-- the items of one more module
 pub flat_more : {A : Type 0} (items : ModuleParts → List A) (modules : List ModuleParts) (count : ℕ) (all : List A) (starts : List ℕ) (m : ModuleParts) (start : ℕ)
     → AreFlat items modules count all starts → count < length modules → m ≡ get_or modules count m → start ≡ length all
     → AreFlat items modules (count + 1) (all ++ items m) (starts ++ start ∷ [])
@@ -45,7 +45,7 @@ flat_more {A} items modules count all starts m start h below is start_is =
       ];
     }
 
--- one valid module more
+-- one more valid module
 pub valid_more : (modules : List ModuleParts) (count : ℕ) (m : ModuleParts) → ((k : ℕ) → k < count → (d : ModuleParts) → IsValid (get_or modules k d)) → count < length modules
     → m ≡ get_or modules count m → IsValid m → (k : ℕ) → k < count + 1 → (d : ModuleParts) → IsValid (get_or modules k d)
 valid_more modules count m valid below is own k inside d = elim (below_or_last k count inside) as (λ _. IsValid (get_or modules k d)) [

@@ -45,7 +45,7 @@ more_by : (r : Bool) (e : List ℕ × ℕ) (xs ys : List (List ℕ × ℕ)) → 
 more_by true e xs ys = refl
 more_by false e xs ys = refl
 
--- one joined segment more
+-- one more joined segment
 pub numbers_push : (number : ℕ) (growing : List Growing) (g : Growing)
     → numbers_from number (growing ++ g ∷ []) ≡ numbers_from number growing ++ cond (is_relocatable g.first.reloc) ((g.first.name, number + length growing) ∷ []) []
 numbers_push number [] g = ap (λ n. cond (is_relocatable g.first.reloc) ((g.first.name, n) ∷ []) []) (plus_none number) where

@@ -9,7 +9,7 @@ use Rattle.m51_module.proofs.NotedNames.{note_all, note_more, note_none, or_last
 use Rattle.m51_resolve.specs.Choice.{wants}
 use Rattle.m51_resolve.specs.WorkNames.{AreWanted, wanted_in, Wants}
 
--- the set has the externals of one module more
+-- the set has the externals of one more module
 pub wanted_push : (ms : List ModuleParts) (m : ModuleParts) (old new : List (List ℕ)) (externals : List External) → AreWanted ms old → Wants old externals new
     → externals ≡ m.externals → AreWanted (ms ++ m ∷ []) new
 wanted_push ms m old new externals are want externals_are = record {
@@ -25,7 +25,7 @@ none_wanted = record { each = λ name. refl }
 pub want_none : (old : List (List ℕ)) (externals : List External) → Wants old (take 0 externals) old
 want_none old externals = note_none (λ (e : External). e.name) old externals
 
--- one external more is noted
+-- one more external is noted
 pub want_more : (old now new : List (List ℕ)) (externals : List External) (index : ℕ) (e : External) → Wants old (take index externals) now → index < length externals
     → e ≡ get_or externals index e → ((name : List ℕ) → wanted_in new name ≡ cond (bytes_eq e.name name) true (wanted_in now name))
     → Wants old (take (index + 1) externals) new

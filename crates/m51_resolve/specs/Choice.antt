@@ -1,4 +1,4 @@
--- Which modules are chosen: the given ones, and the members of libraries that they want.
+-- Which modules are chosen: the given ones, and the members of libraries that they need.
 use Rattle.std.specs.Prelude.{◌≡◌, ℕ, zero, suc, Bool, true, false, not, ◌&&◌, if◌then◌else◌, List, [], ◌∷◌, ◌++◌}
 use Rattle.std.specs.Prelude.{length, flat_map, Option, Some, None, option_map}
 use Rattle.std.specs.List.{All, list_any}

@@ -88,7 +88,7 @@ segments_before modules m s =
     all_segments (take m modules)
     ++ option_map_or (λ (chosen : ModuleParts). take (s - 1) chosen.segments) (slice_get modules m) []
 
--- The joined number and the offset of the part that a segment is; 0 and 0 where it is not there.
+-- The joined number and the offset of the part that a segment is; 0 and 0 where no segment has that number.
 abbrev pub part_of : List ModuleParts → ℕ → ℕ → ℕ × ℕ
 part_of modules m s =
     option_map_or

@@ -107,11 +107,11 @@ abbrev pub unless_refused : List ModuleParts → Option Refusal → Result (List
 unless_refused modules None = Ok modules
 unless_refused modules (Some refusal) = Err refusal
 
--- what is answered where these modules are chosen: them, or the refusal of the first rule that fails
+-- the result where these modules are chosen: them, or the refusal of the first rule that fails
 abbrev pub answer_of : List ModuleParts → Result (List ModuleParts) Refusal
 answer_of chosen = unless_refused chosen (first_refusal chosen)
 
--- What resolving answers.
+-- The result of resolving.
 abbrev pub resolved_of : List ModuleParts → List (List ModuleParts) → Result (List ModuleParts) Refusal
 resolved_of given libraries = answer_of (chosen_of given (members_of libraries))
 

@@ -24,7 +24,7 @@ numbers_from number (g ∷ more) =
     if is_relocatable g.first.reloc then (g.first.name, number) ∷ numbers_from (number + 1) more
     else numbers_from (number + 1) more
 
--- a joined segment of one part, and one with a part more
+-- a joined segment of one part, and one with one more part
 abbrev pub begun : Segment → Growing
 begun s = record { first = s; end = s.size; mixed = false }
 
@@ -39,7 +39,7 @@ grown g s = record {
 abbrev pub joined_with : List Growing → Segment → Option ℕ
 joined_with growing s = position (λ g. are_parts s g.first) growing
 
--- the joined segments with a segment more, and the part that it is, by the number of what it is joined with
+-- the joined segments with one more segment, and the part that it is, by the number of what it is joined with
 abbrev pub JoinsAt : List Growing → Segment → Option ℕ → Part → List Growing → Type 0
 JoinsAt old s None part new = (part ≡ record { number = length old; offset = 0 }) × (new ≡ old ++ begun s ∷ [])
 JoinsAt old s (Some number) part new =

@@ -1,4 +1,4 @@
--- Of the code: the tables of names that modules define and want, as they are filled module by module.
+-- Of the code: the tables of names that modules define and need, as they are filled module by module.
 use Rattle.std.specs.Prelude.{◌≡◌, ℕ, ◌+◌, ◌==◌, Bool, true, false, not, ◌||◌, is_none, if◌then◌else◌, List, [], ◌∷◌}
 use Rattle.std.specs.Prelude.{Option}
 use Rattle.std.specs.Prelude.{Some, None, option_map, unwrap_or}
@@ -36,7 +36,7 @@ definition_in table name = first_defined (value_in table name)
 abbrev pub shared_in : List (List ℕ × Defined) → List ℕ → Bool
 shared_in table name = is_shared (value_in table name)
 
--- what is known of a name with one definition more
+-- what is known of a name with one more definition
 abbrev pub again : Option Defined → Definition → Defined
 again None d = record { first = d; shared = false }
 again (Some old) d = record { first = old.first; shared = old.shared || not (old.first.number == d.number) }

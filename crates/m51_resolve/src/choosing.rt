@@ -73,7 +73,7 @@ fn choose_of(alloc: Global, given: Chosen, members: &[&Module]) -> Result<Chosen
     Ok(chosen)
 }
 
-// The given modules, and then the members of libraries that they want: each the first, in order of library and member,
+// The given modules, and then the members of libraries that they need: each the first, in order of library and member,
 // that is not chosen and has a public which a chosen module needs and none defines, until there is none, or until more
 // modules are chosen than a link takes. Error: out of memory.
 pub(crate) fn choose(

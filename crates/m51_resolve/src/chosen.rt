@@ -1,4 +1,4 @@
-//! Modules that are chosen, and the names that they define and want.
+//! Modules that are chosen, and the names that they define and need.
 ghost use Rattle.std.specs.Prelude.{◌≡◌, [], ◌∷◌, ◌++◌, length, map, IfOk, OnOk};
 ghost use Rattle.m51_resolve.specs.WorkChoice.{earlier, IsEarliest, IsWanted, number_of, supplier};
 ghost use Rattle.m51_resolve.specs.WorkNames.{AreNamed, AreWanted, definition_in, Wants};
@@ -65,7 +65,7 @@ fn earlier(one: Option<usize>, two: Option<usize>) -> Option<usize>
     }
 }
 
-// The names that these modules define and want. Error: out of memory.
+// The names that these modules define and need. Error: out of memory.
 fn names_of(alloc: Global, modules: &[Module]) -> Result<(Definitions, IndexSet<Name>), NoMemory>
     ensures { IfOk result (λ names. AreNamed modules.now names.0.entries names.1.keys) }
 {
@@ -91,7 +91,7 @@ impl Chosen {
         })
     }
 
-    // The names that the chosen modules or these members want. Error: out of memory.
+    // The names that the chosen modules or these members need. Error: out of memory.
     pub(crate) fn asked(
         &self,
         alloc: Global,
@@ -114,7 +114,7 @@ impl Chosen {
         self.modules.len()
     }
 
-    // With one module more. Error: out of memory.
+    // With one more module. Error: out of memory.
     pub(crate) fn with(self, member: Module) -> Result<Chosen, NoMemory>
         ensures { IfOk result (λ chosen. chosen ≡ self ++ member ∷ []) }
     {
@@ -143,8 +143,7 @@ impl Chosen {
         }
     }
 
-    // The least number of a member that has, first of all members, a name that the chosen modules need and do not
-    // define.
+    // The least number of a member that is the first to have a name which the chosen modules need and do not define.
     pub(crate) fn first_supplier(&self, members: &Definitions) -> Option<usize>
         ensures { let supplier = supplier self.now (definition_in members.now.entries) in
             IsEarliest supplier (IsWanted self.now) result }

@@ -19,7 +19,7 @@ pub(crate) struct Defined {
 // The names that modules define, in order of first sight.
 pub(crate) type Definitions = IndexMap<Name, Defined>;
 
-// What is known of a name with one definition more.
+// What is known of a name with one more definition.
 fn again(known: Option<Defined>, definition: Definition) -> Defined
     ensures { result ≡ again known definition }
 {

@@ -70,7 +70,7 @@ fn start_after(reloc: Reloc, end: usize) -> usize
     }
 }
 
-// The joined segment with one part more.
+// The joined segment with one more part.
 fn grown(growing: &Growing, segment: &Segment) -> Growing
     requires { growing.now.end < 2 ^ 40 }
     ensures grown { result ≡ grown growing.now segment.now }
@@ -127,7 +127,7 @@ fn number_next(
     Ok(())
 }
 
-// Joins one segment more, and answers the part that it is.
+// Joins one more segment, and returns the part that it is.
 fn join(
     growing: &mut Vec<Growing>,
     numbers: &mut IndexMap<Name, usize>,

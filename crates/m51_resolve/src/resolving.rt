@@ -137,7 +137,7 @@ fn join_chosen(
 
 /// Chooses the modules of a link, resolves their externals and joins their segments.
 ///
-/// The given modules are chosen, and then the members of libraries that they want: each the first, in order of library
+/// The given modules are chosen, and then the members of libraries that they need: each the first, in order of library
 /// and member, that is not chosen and has a public which a chosen module needs and none defines, until there is none.
 ///
 /// The first rule that fails is the refusal, in this order: `Limit` where there are more than 255 modules; `L1`, the

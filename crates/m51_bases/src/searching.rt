@@ -145,8 +145,8 @@ fn ascend(extents: &[Extent]) -> bool {
     true
 }
 
-/// Puts the same extents into another order, in which going over them is faster. Contracts see only that they are the
-/// same, also where memory runs out. Error: out of memory.
+/// Puts the extents into an order in which going over them is faster. Contracts see only that they are the same
+/// extents, also where memory runs out. Error: out of memory.
 ///
 /// Source: own choice ("Bases that fit").
 pub fn arrange(extents: &mut Vec<Extent>) -> Result<(), NoMemory>

@@ -7,7 +7,7 @@ RefusesWith None answer = Unit {0}
 RefusesWith (Some refusal) answer = answer ≡ Err refusal
 
 -- The call returns what the definition gives, out of memory aside: view is what contracts see of its value, and
--- refusal sends an error to the definition's refusal, or to none for out of memory.
+-- refusal maps an error to the definition's refusal, or to none for out of memory.
 abbrev pub Gives : {T V E R : Type 0} → (T → V) → (E → Option R) → Result T E → Result V R → Type 0
 Gives view refusal (Ok value) answer = answer ≡ Ok (view value)
 Gives view refusal (Err error) answer = RefusesWith (refusal error) answer

@@ -18,7 +18,7 @@ use Rattle.m51_chain.specs.Due as due
 use Rattle.m51_chain.specs.Due.{IsWorkFor, IsAtFor, IsDueFor, IsDue}
 use Rattle.m51_chain.specs.Told.{Written, Ended, IsSaid, IsWorked, IsKeepFault, IsCaused}
 
--- ---- what is known of files that are visible, as if they were not
+-- ---- what is known of files, without what only visible files give
 
 read_untold : (holds : Option Files) (names contents : List (List ℕ)) → AreRead holds names contents → AreRead None names contents
 read_untold holds names contents read = record { count = read.count; within = read.within; held = tt }

@@ -46,7 +46,8 @@ pub data IsDue (words : List (List ℕ)) (holds : Option Files) (before after : 
   Asked : (job : Job) → job_of words ≡ Some job → IsDueFor job holds before after answer
       → IsDue words holds before after answer
 
--- The files that the arguments name were started, as far as it came, and no other.
+-- There are not too many file arguments, and the file that was started last is one that the arguments name. If what the
+-- shelf returns is visible, the files that were started are the first of these, in order.
 pub record ReadsOnly (words : List (List ℕ)) (before after : ReadAt) : Type 0 where
   pub job : Job
   pub asked : job_of words ≡ Some job

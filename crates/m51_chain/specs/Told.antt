@@ -63,7 +63,7 @@ pub record IsMany (words : List (List ℕ)) (c : Change) : Type 0 where
   pub many : MOST_FILES < file_count job
   pub done : Written many_answer c status.Limit
 
--- more than 1,048,576 bytes were read of a file that the arguments name
+-- more than 1,048,576 bytes were read from a file that the arguments name
 pub record IsLongFile (words : List (List ℕ)) (c : Change) : Type 0 where
   pub job : Job
   pub asked : job_of words ≡ Some job

@@ -45,9 +45,9 @@ pub fn chain<F: Shelf, S: Sink>(
     // Faulty arguments are refused before a file is touched.
     ensures usage { job_of (texts words.now) ≡ None → files.new ≡ files.old }
 
-    // No files but those that the arguments name are started, in their order. At most one byte past the limit is read:
-    // of the last one in any case, and of each if what the shelf returns is visible. With too many file arguments no
-    // file is opened.
+    // If what the shelf returns is visible, the files that were started are the first of those that the arguments name,
+    // in their order, and at most one byte past the limit was read from each. In any case the last one is one of those,
+    // and at most one byte past the limit was read from it. With too many file arguments no file is started.
     ensures reads { ((F.state files.new).reads ≡ (F.state files.old).reads)
         ⊎ ReadsOnly (texts words.now) (F.state files.old).reads (F.state files.new).reads }
 

@@ -146,7 +146,7 @@ impl SegmentContent {
         push_run(alloc, &mut self.runs, at, bytes)
     }
 
-    // The pieces of the segment more.
+    // Appends the pieces of the segment.
     fn push_pieces(&self, alloc: Global, pieces: &mut Vec<Piece>) -> Result<(), NoMemory>
         ensures { OnOk result (pieces.new.items ≡ pieces.old.items ++ pieces_in self.now) }
     {

@@ -21,7 +21,7 @@ use Rattle.m51_encode.specs.Taking.{takes_class}
 use Rattle.m51_encode.specs.FieldValues.{field_of}
 use Rattle.m51_encode.specs.JumpForm.{jump_form_of, address_after}
 
--- the field of this slot can hold the target; `next` is the address after the statement
+-- the slot has a field, which can hold the target; `next` is the address after the statement
 abbrev pub HasFieldIn : Meanings → Value → ℕ → Option FieldSlot → Type 0
 HasFieldIn names v next (Some slot) = IsSome (field_of names slot.field next v)
 HasFieldIn names v next None = ⊥

@@ -49,7 +49,7 @@ err_step (Fault k) None whole go h is = ap or_no_expression is ∙ h
 err_step (Fault k) (Some r) whole go h is = absurd (cc h)
 err_step Memory part whole go h is = tt
 
--- what a function gave, by another name for what is read
+-- a result that gives what `part` reads gives what `whole` reads, if the two are equal
 pub gives_same : (r : Result (Expr × ℕ) ReadError) (part whole : Reads) → GivesTree r part → whole ≡ part → GivesTree r whole
 gives_same r part whole h is = subst (GivesTree r) (sym is) h
 

@@ -13,7 +13,7 @@ pub data Outcome : Type 0 where
   Unset : Cell → Outcome
   PowerDown : Outcome
 
--- the outcome of a function that answers this and leaves its effect in a variable of its caller
+-- the outcome of a function, from its answer and the effect that it leaves in a variable of its caller
 abbrev pub outcome_by : {A : Type 0} → Result A NoEffect → Effect → Outcome
 outcome_by (Ok a) e = Done e
 outcome_by (Err (lacks.Outside c)) e = Outside c

@@ -7,7 +7,7 @@ use Rattle.m51_flat.specs.Sfr.{is_one_of, p0, p1, p2, p3, sp}
 abbrev pub reset_value : ℕ → ℕ
 reset_value a = if a == sp then 0x07 else (if is_one_of (p0 ∷ p1 ∷ p2 ∷ p3 ∷ []) a then 0xFF else 0)
 
--- what this number of registers hold from an address on
+-- the values after a reset of a number of registers, from an address on
 abbrev pub reset_values : ℕ → ℕ → List ℕ
 reset_values zero a = []
 reset_values (suc k) a = reset_value a ∷ reset_values k (a + 1)

@@ -112,7 +112,7 @@ fn unless_shut<M: CellStore>(
 }
 
 /// Whether an effect that is no instruction's may be performed over a store: `Outside` with the lowest cell of the
-/// first put, then of the second, that may not be written. PCON is not asked.
+/// first put, then of the second, that may not be written. PCON is not examined.
 ///
 /// Source: own choice ("Effects").
 #[inline(always)]

@@ -16,7 +16,7 @@ pub trait CellStore {
     /// The cells that may not be written.
     ghost barred: { Self → Cell → Bool };
 
-    /// A byte of internal RAM: its value exactly if its eight cells hold bits, or else the answer of the lowest that
+    /// A byte of internal RAM: its value if each of its eight cells holds a bit, or else the answer of the lowest that
     /// holds none.
     ///
     /// Source: own choice ("Stores of cells").

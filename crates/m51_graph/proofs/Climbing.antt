@@ -37,7 +37,7 @@ pub tally_mono : (p q : ℕ → Bool) (n : ℕ) → ((w : ℕ) → p w ≡ true 
 tally_mono p q zero h = omega arith
 tally_mono p q (suc n) h = omega (arith, tally_mono p q n h, one_le (p n) (q n) (h n))
 
--- and where only the weaker test passes it, it counts more under that
+-- and more numbers pass the weaker test if one of them passes only that
 pub tally_lt : (p q : ℕ → Bool) (n w : ℕ) → w < n → ((u : ℕ) → p u ≡ true → q u ≡ true) → p w ≡ false → q w ≡ true → tally p n < tally q n
 tally_lt p q zero w below h lacks passes = absurd (omega (arith, below))
 tally_lt p q (suc n) w below h lacks passes = elim (same_or_not w n) as (λ _. tally p (suc n) < tally q (suc n)) [

@@ -42,7 +42,7 @@ pub record NoneIsTakenAtOnce : Type 0 where
   pub written : (cpu : Cpu) (instr : Instr) (image : List ℕ) (ext : Pins) → writes_ie_or_ip cpu instr ≡ true
       → Always TakesNone (plan_of cpu instr image ext)
 
--- the source chosen is the manual's, and one is chosen whenever the manual has one
+-- a source is chosen exactly if it is the one that is taken by the manual
 abbrev pub FirstIsChosen : Type 0
 FirstIsChosen = (cpu : Cpu) (s : Source) → (chosen cpu ≡ Some s) ↔ IsTaken cpu s
 

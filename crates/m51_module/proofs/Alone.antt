@@ -30,7 +30,7 @@ none_past : (b : Bool) (n : ℕ) → cond b (Some n) None ≡ None → b ≡ fal
 none_past true n h = absurd (cc h)
 none_past false n h = refl
 
--- where no index is found, the search finds nothing
+-- where no index is found, no element is
 pub found_nowhere : {X : Type 0} (p : X → Bool) (xs : List X) → position p xs ≡ None → find p xs ≡ None
 found_nowhere p xs h =
     let past : nat_lt (position_or_len p xs) (length xs) ≡ false = none_past _ _ h in

@@ -34,9 +34,9 @@ impl Model for Library {
     ghost invariant = { λ l. AreMembers l.members.items l.names };
 }
 
-/// The library of these modules. It is refused as if they were added one by one to none: at the first that can't be
-/// added, by `B1`, then `Full`, then `B3`. Without memory for a table of names the result is the same, but takes
-/// longer.
+/// The library of these modules. It is refused as if they were added one by one to an empty one: at the first that
+/// can't be added, by `B1`, then `Full`, then `B3`. Without memory for a table of names the result is the same, but
+/// takes longer.
 ///
 /// Source: own choice ("Libraries").
 pub fn build(alloc: Global, modules: Vec<Module>) -> Result<Library, LibError>

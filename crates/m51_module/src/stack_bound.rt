@@ -47,8 +47,8 @@ pub struct StackBound {
     /// The starts other than the reset.
     pub procs: Procs,
     pub roots: RootDepths,
-    /// A value that SP does not pass before an event: the depth of the reset, and the greatest sum of 2 and the depth
-    /// over at most two different handlers.
+    /// A value that SP does not pass before an event: the depth of the reset, plus the most that up to two different
+    /// handlers add. A handler adds 2, for its return address, and its depth.
     pub total: u8,
 }
 

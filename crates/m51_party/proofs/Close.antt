@@ -73,7 +73,7 @@ over n s h =
     (λ (x : (event : Event) × (s.event ≡ Some event)). inr x)
     (over_by (nat_lt s.steps n) s.event s.board.chip.cycle h)
 
--- else it starts one, in the cycle in which it is
+-- else it starts one, in the cycle that it has reached
 pub record IsStarting (n cycle : ℕ) (s : Seat) : Type 0 where
   pub below : s.steps < n
   pub event : s.event ≡ None

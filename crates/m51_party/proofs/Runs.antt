@@ -72,7 +72,7 @@ start_by : (b : Bool) (least cycle : ℕ) → least ≤ cycle → StartsFrom lea
 start_by true least cycle h = h
 start_by false least cycle h = tt
 
--- it starts no step before the cycle in which it is
+-- it starts no step before the cycle that it has reached
 pub start_late : (n least : ℕ) (s : Seat) → least ≤ s.board.chip.cycle → StartsFrom least (start_of n s)
 start_late n least s h = start_by (is_going n s) least s.board.chip.cycle h
 

@@ -1,4 +1,4 @@
--- Types of values that are passed on the way of a step, by what takes or gives them.
+-- Types of values of a step, by the definitions that take or give them.
 use Rattle.m51_sim.specs.Effects.{changed_by}
 use Rattle.m51_sim.specs.Runs.{entries_of}
 use Rattle.m51_sim.specs.SeparateMachine.{memory_after}

@@ -3,7 +3,8 @@ use Rattle.std.specs.Prelude.{ℕ, zero, suc, ◌^◌, List, []}
 use Rattle.m51_sim.specs.Boards.{BoardState}
 use Rattle.m51_party.specs.Family.{Family, records_from}
 
--- the records that boards make of no frames, of the frames of these records, and so on, in this number of rounds
+-- the records that boards make if they receive no frames, then the frames of these records, and so on, after this
+-- number of rounds
 unfoldable pub family_after : List BoardState → ℕ → ℕ → Family
 family_after boards n zero = []
 family_after boards n (suc rounds) = records_from 0 boards n (family_after boards n rounds)

@@ -45,8 +45,8 @@ Lifts l u v old new true =
     × (new ≡ slice_set old u (weight_of l u + slice_index old v))
 Lifts l u v old new false = (weight_of l u + slice_index old v ≤ slice_index old u) × (new ≡ old)
 
--- the next unit of the heaviest walk: the least of those to which an edge leads and whose heaviest walk has the rest of
--- the bytes
+-- `v` follows `u` in the heaviest walk: it is the least of the units to which an edge leads from `u` and whose heaviest
+-- walk has, with the bytes of `u`, as many bytes as that from `u`
 pub record IsNext (l : LayoutParts) (best : List ℕ) (u v : ℕ) : Type 0 where
   pub edge : HasEdge l.edges u v
   pub rest : weight_of l u + slice_index best v ≡ slice_index best u
@@ -57,7 +57,8 @@ abbrev pub GoesOn : LayoutParts → List ℕ → ℕ → List ℕ → Type 0
 GoesOn l best u [] = slice_index best u ≡ weight_of l u
 GoesOn l best u (v ∷ more) = (slice_index best u ≢ weight_of l u) × IsNext l best u v × GoesOn l best v more
 
--- the edge leads from the unit to one whose heaviest walk has the rest of its bytes
+-- the edge leads from the unit to one whose heaviest walk has, with the bytes of the unit, as many bytes as that from
+-- the unit
 pub record LeadsOn (weights best : List ℕ) (unit : ℕ) (edge : ℕ × ℕ) : Type 0 where
   pub from : edge.0 ≡ unit
   pub rest : slice_index weights unit + slice_index best edge.1 ≡ slice_index best unit

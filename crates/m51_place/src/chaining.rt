@@ -109,7 +109,8 @@ fn best_of(alloc: Global, layout: &Layout, weights: &[u32]) -> Result<Vec<u32>, 
     Ok(best)
 }
 
-// Whether the edge leads from the unit to one whose heaviest walk has the rest of its bytes.
+// Whether the edge leads from the unit to one whose heaviest walk has, with the bytes of the unit, as many bytes as
+// that from the unit.
 fn leads_on(weights: &[u32], best: &[u32], unit: u16, edge: (u16, u16)) -> bool
     requires weight { unit < length weights.now }
     requires unit { unit < length best.now }
@@ -131,7 +132,7 @@ fn lesser(found: Option<u16>, unit: u16) -> Option<u16>
     }
 }
 
-// The least of the units to which edges lead from this one and whose heaviest walks have the rest of its bytes.
+// The least unit to which an edge leads from this one that passes `leads_on`; `None` if no edge does.
 fn least_on(layout: &Layout, weights: &[u32], best: &[u32], unit: u16) -> Option<u16>
     requires sound { IsSound layout.now }
     requires weights { AreWeights layout.now weights.now }

@@ -57,7 +57,7 @@ fn push_last(text: &mut Vec<u8>, tally: &Tally, placed: &[Placed]) -> Result<(),
 
 /// The summary of a run, four lines: the number of units, how many bytes overlaid segments of DATA cover and the
 /// sizes of all overlaid segments added up, all three as given; how many entries the run has, and its last line. The
-/// segment of an  event is one of the placed extents of the layout, and its cell one of internal RAM or of external
+/// segment of an event is one of the placed extents of the layout, and its cell one of internal RAM or of external
 /// data memory.
 /// Error: out of memory.
 ///

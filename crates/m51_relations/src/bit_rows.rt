@@ -171,7 +171,7 @@ impl BitRows {
         has_pair(&self.rows, usize::from(from), usize::from(to))
     }
 
-    /// Adds the pair, both of which are units of the set.
+    /// Adds the pair. Both must be units of the set.
     ///
     /// Source: own choice ("Closed rows").
     pub fn put(&mut self, from: u16, to: u16)
@@ -183,7 +183,8 @@ impl BitRows {
         self.rows[usize::from(from)].put(usize::from(to));
     }
 
-    /// The row of the first unit of pairs, which must be a unit of the set, borrowed.
+    /// The row of `from`, which must be a unit of the set, borrowed: bit v is set exactly if the set has the pair of
+    /// `from` and v. There are as many words as hold a bit for each unit.
     ///
     /// Source: own choice ("Closed rows").
     pub fn row(&self, from: u16) -> &[u64]
@@ -204,7 +205,7 @@ impl BitRows {
         close_rows(alloc, &mut self.rows)
     }
 
-    /// Adds the pair, both of which are units of the set, if `holds`.
+    /// Adds the pair if `holds`. Both must be units of the set.
     ///
     /// Source: own choice ("Closed rows").
     pub fn put_if(&mut self, from: u16, to: u16, holds: bool)
@@ -219,8 +220,8 @@ impl BitRows {
         }
     }
 
-    /// The pairs of this set, and those joined by a pair of the tests and then one of the other set, which is of as
-    /// many units.
+    /// The pairs of this set, and those joined by a pair of the tests and then one of the other set, which must
+    /// have the same number of units.
     /// Error: out of memory.
     ///
     /// Source: own choice ("Closed rows").

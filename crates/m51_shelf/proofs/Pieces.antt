@@ -29,7 +29,7 @@ all_read None bytes piece taken count is front room piece_is none = tt
 all_read (Some file) bytes piece taken count is front room piece_is none =
     sym (front ∙ take_all (length bytes) file (omega (arith, piece_is.at_end none room, is)))
 
--- all that was read of an open file is what the files hold under its name, if they are visible
+-- all that was read from an open file is what the files hold under its name, if they are visible
 pub whole_held : (holds : Option Files) (name : List ℕ) (opened : Option (List ℕ)) (bytes : List ℕ) → Opens holds name opened → IsAll opened bytes
     → IfSome holds (λ files. files name ≡ Some bytes)
 whole_held None name opened bytes opens all = tt
@@ -65,7 +65,7 @@ pub most_with : (bytes piece : List ℕ) (count : ℕ) → length bytes ≤ MOST
 most_with bytes piece count few within room =
     omega (arith, few, within, room, length-append bytes (take count piece), length-take-le count piece within)
 
--- what was read of the open file, after a piece of it
+-- what was read from the open file, after a piece of it
 pub taken_on : (before after : ReadAt) (bytes piece more : List ℕ) (count : ℕ) → HasTaken before bytes → length bytes ≤ MOST_FILE_BYTES
     → after.opened ≡ before.opened → after.ready ≡ true → after.taken ≡ min (before.taken + count) (2 ^ 64 - 1) → count ≤ length piece
     → 0 < length piece → length piece ≤ 4096 → length piece ≤ MOST_FILE_BYTES + 1 - length bytes

@@ -31,7 +31,7 @@ pub record MemoryShelf : Type 0 where
   pub faults : ℕ
   pub store : MemoryStore
 
--- the shelf before its first call, with places for this number of files and room for this number of bytes in all
+-- the shelf before its first call, with places for `places` files and room for `room` bytes in all
 abbrev pub made : List File → List (Call × ℕ) → ℕ → ℕ → MemoryShelf
 made files fails places room = record {
   files = files;

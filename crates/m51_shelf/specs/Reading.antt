@@ -14,7 +14,7 @@ pub record IsWhole (holds : Option Files) (after : ReadAt) (bytes : List ℕ) : 
   pub taken : after.taken ≡ length bytes
   pub held : IfSome holds (λ files. files after.named ≡ Some bytes)
 
--- one byte past the limit was read of that file
+-- one byte past the limit was read from that file
 pub record IsLong (holds : Option Files) (after : ReadAt) : Type 0 where
   pub taken : after.taken ≡ MOST_FILE_BYTES + 1
   pub held : IfSome holds (λ files. IsSomeAnd (files after.named) (λ file. MOST_FILE_BYTES < length file))
@@ -30,8 +30,8 @@ abbrev pub IsThat : List ℕ → Result (List ℕ) ReadError → Type 0
 IsThat bytes (Ok all) = all ≡ bytes
 IsThat bytes (Err error) = Unit {0}
 
--- The file of this name was started, and these bytes were returned of it, at most one past the limit; if the answer has
--- bytes, it has these.
+-- The file of this name was started, and these bytes were returned from it, at most one past the limit; if the answer
+-- has bytes, it has these.
 pub record IsGiven (before after : ReadAt) (name : List ℕ) (result : Result (List ℕ) ReadError) : Type 0 where
   pub bytes : List ℕ
   pub most : length bytes ≤ MOST_FILE_BYTES + 1
@@ -53,7 +53,7 @@ IsFront opened bytes = IfSome opened (λ file. bytes ≡ take (length bytes) fil
 abbrev pub IsAll : Option (List ℕ) → List ℕ → Type 0
 IsAll opened bytes = IfSome opened (λ file. file ≡ bytes)
 
--- these bytes were read of the open file, which can be read on
+-- these bytes were read from the open file, which can be read on
 pub record HasTaken (at : ReadAt) (bytes : List ℕ) : Type 0 where
   pub ready : at.ready ≡ true
   pub taken : at.taken ≡ length bytes
@@ -73,7 +73,7 @@ IsPieceError before after (Err error.TooLong) = ⊥
 IsPieceError before after (Err error.Failed) = HasFailed before after
 IsPieceError before after (Err error.Memory) = Unit {0}
 
--- These bytes were returned of the open file, at most one past the limit; if the answer has bytes, it has these.
+-- These bytes were returned from the open file, at most one past the limit; if the answer has bytes, it has these.
 pub record HandsOver (before after : ReadAt) (result : Result (List ℕ) ReadError) : Type 0 where
   pub bytes : List ℕ
   pub most : length bytes ≤ MOST_FILE_BYTES + 1

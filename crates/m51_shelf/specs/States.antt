@@ -6,7 +6,7 @@ use Rattle.m51_shelf.specs.Shelf.{File, Files}
 -- Reading: what the open file holds, if visible; the name last passed to `start`, empty before, and whether its file
 -- can be read on; how many bytes of it were returned, and how many starts and pieces have failed, of which each count
 -- stops at the last value of a u64; and, if visible, the files that were started, in order, each with the bytes that
--- were returned of it.
+-- were returned from it.
 pub record ReadAt : Type 0 where
   pub opened : Option (List ℕ)
   pub named : List ℕ

@@ -9,8 +9,8 @@ use m51_cells::NoMemory;
 use std::alloc::Global;
 use std::marker::Model;
 
-/// A sink whose text contracts see. A call fails exactly if its number, counted from 1, is listed, or it would pass the
-/// room; else it takes the whole piece.
+/// A sink whose text is visible to contracts. A call fails exactly if its number, counted from 1, is listed, or it
+/// would pass the room; else it takes the whole piece.
 ///
 /// Source: own choice ("Sinks in memory").
 #[derive(Drop)]

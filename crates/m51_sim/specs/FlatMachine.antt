@@ -44,7 +44,7 @@ unless_powers_down cpu e = if flag e.cpu pcon pd then Err (PowerDown cpu.pc) els
 unfoldable pub instr_effect : List ℕ → Cpu → CellMap → Pins → Instr → Result Effect Event
 instr_effect image cpu m pins instr = unless_powers_down cpu (result_over m (plan_of cpu instr image pins))
 
--- the result of a function that answers this and leaves its effect in a variable of its caller
+-- the result of a function, from its answer and the effect that it leaves in a variable of its caller
 abbrev pub left_in : {A : Type 0} → Result A Event → Effect → Result Effect Event
 left_in (Ok a) e = Ok e
 left_in (Err event) e = Err event

@@ -36,7 +36,7 @@ pub record IsRegular (cpu : Cpu) (e : Effect) : Type 0 where
   pub follows : FollowsLevels e.transfer (levels cpu) (levels e.cpu)
   pub stores : StoresAddress e.transfer e
 
--- an interrupt is taken while at most one other is in progress
+-- if an interrupt is taken, at most one other is in progress
 abbrev pub HasRoom : Monitored → Transfer → Type 0
 HasRoom m (Vector source) = interrupts m.records.returns ≤ 1
 HasRoom m other = Unit {0}

@@ -31,11 +31,11 @@ pub enum Step {
 /// Source: own choice ("Runs").
 #[derive(Clone, Copy, Debug, PartialEq, Eq)]
 pub enum RunEnd {
-    /// All its steps are performed, and its record is written.
+    /// All its steps are performed, and its trace is written.
     Finished,
-    /// This event has stopped it, and its record is written.
+    /// This event has stopped it, and its trace is written.
     Stopped(Event),
-    /// The sink has failed, and a prefix of the record is written.
+    /// The sink has failed, and a prefix of the trace is written.
     WriteFault,
 }
 

@@ -44,7 +44,7 @@ abbrev pub after_at : List Symbol → ℕ
 after_at (symbol.Word word ∷ symbol.Plus ∷ rest) = if bytes_eq word (codes "A") then 2 else 0
 after_at other = 0
 
--- these symbols close an open parenthesis; inside it `depth` more are open
+-- these symbols close a parenthesis that is open before them, with `depth` more open inside it
 abbrev pub is_closed : List Symbol → ℕ → Bool
 is_closed [] depth = false
 is_closed (s ∷ more) depth =
@@ -87,7 +87,8 @@ abbrev pub begins_if : Option (List Symbol) → Bool
 begins_if (Some symbols) = operand_begins symbols
 begins_if None = false
 
--- after an opening parenthesis: its first operand is whole, and the parenthesis is closed further on
+-- the symbols after an opening parenthesis begin with a whole operand, operators before it passed over, and close the
+-- parenthesis further on
 abbrev pub is_parenthesis : List Symbol → Bool
 is_parenthesis symbols = begins_if (operand_in prefix.Nothing symbols) && is_closed symbols 0
 
@@ -101,9 +102,9 @@ abbrev pub is_start : Want → Symbol → Bool
 is_start want.Names symbol.Open = false
 is_start w s = begins_expression s
 
--- How many symbols after one belong to it, if no expression has to begin with it; `None` if something is missing. In
--- the parenthesis of a list an expression begins, and it is closed. An expression follows # and an operator, no
--- operator follows a text, and what is required follows a comma.
+-- How many symbols after one belong to it, if no expression has to begin with it; `None` if something is missing. The
+-- parenthesis of a list begins with a whole operand and is closed. An expression follows # and an operator, no operator
+-- follows a text, and what is required follows a comma.
 abbrev pub passed_behind : Want → Symbol → List Symbol → Option ℕ
 passed_behind w symbol.Open rest = none_if (is_parenthesis rest)
 passed_behind w symbol.Hash rest = many (expression_in rest)

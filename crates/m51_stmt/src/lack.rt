@@ -14,7 +14,7 @@ use std::alloc::Global;
 
 /// What is needed after each comma of a line: an operand of an instruction, an expression of DW, an expression or a
 /// text of DB, or nothing: in a line with one expression, and in one with names only, where a parenthesis begins a
-/// list. The first operand of an instruction may be missing, but no text is in its place.
+/// list. The first operand of an instruction may be missing, but a text can't be in its place.
 #[derive(Clone, Copy)]
 pub(crate) enum Want {
     Operand,
@@ -168,7 +168,7 @@ pub(crate) fn lacks(
     }
 }
 
-// Whether these symbols close an open parenthesis; inside it `depth` more are open.
+// Whether these symbols close a parenthesis that is open before them, with `depth` more open inside it.
 fn is_closed(symbols: &[Symbol], depth: usize) -> bool
     requires { depth + length symbols.now < 2 ^ 64 }
     ensures { result ≡ is_closed symbols.now depth }
@@ -264,7 +264,8 @@ fn operand_begins(alloc: Global, symbols: &[Symbol]) -> Result<bool, NoMemory>
     }
 }
 
-// Whether, after an opening parenthesis, its first operand is whole and the parenthesis is closed further on.
+// Whether the symbols after an opening parenthesis begin with a whole operand, operators before it passed over, and
+// close the parenthesis further on.
 fn is_parenthesis(alloc: Global, symbols: &[Symbol]) -> Result<bool, NoMemory>
     ensures { IfOk result (λ holds. holds ≡ is_parenthesis symbols.now) }
 {

@@ -97,7 +97,7 @@ reads_some names contents index name bytes before between after low count is nam
   most = most;
 })
 
--- what was returned of a file of this name, and all of it
+-- what was returned from a file of this name, and all of it
 pub given_some : (before after : ReadAt) (text name : List ℕ) (result : Result (List ℕ) ReadError) → text ≡ name
     → (h : IsGiven before after text result) → Grows before.given after.given ((name, h.bytes) ∷ [])
 given_some before after text name result same h =

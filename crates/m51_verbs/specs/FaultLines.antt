@@ -23,6 +23,6 @@ fault_line source files fault =
 abbrev pub fault_lines : List ℕ → List (List ℕ) → List Fault → List ℕ
 fault_lines source files faults = flat_map (fault_line source files) faults
 
--- the file argument of that index
+-- the file argument of that index; the empty text if there is no such argument
 abbrev pub word_at : List (List ℕ) → ℕ → List ℕ
 word_at files word = slice_index_or files word []

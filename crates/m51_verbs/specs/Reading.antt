@@ -65,8 +65,8 @@ files_with names contents = []
 abbrev pub AreGiven : List (List ℕ) → ReadAt → ReadAt → List (List ℕ) → Type 0
 AreGiven names before after contents = Grows before.given after.given (files_with names contents)
 
--- The first of these names were started, in order, and no other file, and of each at most one byte past the limit was
--- returned, if what the shelf returns is visible.
+-- If what the shelf returns is visible: the files that were started are those of the first of these names, in order,
+-- and at most one byte past the limit was returned from each.
 pub record AreStarted (names : List (List ℕ)) (before after : ReadAt) : Type 0 where
   pub files : List File
   pub rest : List (List ℕ)
@@ -74,8 +74,8 @@ pub record AreStarted (names : List (List ℕ)) (before after : ReadAt) : Type 0
   pub are : names ≡ map (λ (file : File). file.0) files ++ rest
   pub most : All (λ (file : File). length file.1 ≤ MOST_FILE_BYTES + 1) files
 
--- The file that was started last has one of these names, and at most one byte past the limit was read of it, even if it
--- is not visible which files were started.
+-- The file that was started last has one of these names, and at most one byte past the limit was read from it, even if
+-- it is not visible which files were started.
 pub record ReadsSome (names : List (List ℕ)) (before after : ReadAt) : Type 0 where
   pub started : AreStarted names before after
   pub named : Contains names after.named

@@ -84,7 +84,7 @@ pub fn push_faults(
     Ok(())
 }
 
-/// The file argument of that index, from 0; none if there is no such argument.
+/// The file argument of that index, from 0; the empty text if there is no such argument.
 ///
 /// Source: own choice ("Statuses").
 pub fn word_at(files: &[FileName], word: usize) -> &str

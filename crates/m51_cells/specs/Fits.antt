@@ -6,7 +6,7 @@ use Rattle.m51_cells.specs.declared.kind.Reloc.{Reloc}
 use Rattle.m51_cells.specs.declared.kind.Reloc.TheVariants.{Bitaddressable, Inpage, Inblock, Page}
 pub use Rattle.m51_cells.specs.Kinds.{allows}
 
--- first and last byte lie in one block of that many bytes, and the end in the memory; size 0 fits anywhere
+-- first and last byte lie in one block of `block` bytes, and the end in the memory; size 0 fits anywhere
 abbrev pub FitsBlock : ℕ → ℕ → ℕ → Type 0
 FitsBlock block base zero = Unit {0}
 FitsBlock block base (suc more) = (base / block ≡ (base + more) / block) × (base + suc more ≤ 0x10000)

@@ -16,7 +16,7 @@ faulty_lines files faulty = fault_lines (word_at files faulty.file) files faulty
 abbrev pub faults_text : List (List ℕ) → List SourceFaults → List ℕ
 faults_text files all = flat_map (faulty_lines files) all
 
--- the files of a build are refused; out of memory is never asked for
+-- the files of a build are refused; never used for out of memory
 abbrev pub input_outcome : List (List ℕ) → InputError → Outcome
 input_outcome files (input.Sources faulty) = refused reason.Source (faults_text files faulty)
 input_outcome files (input.Object word error) = object_outcome (word_at files word) error

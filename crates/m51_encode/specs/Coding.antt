@@ -23,7 +23,7 @@ use Rattle.m51_encode.specs.declared.outcome.Outcome.TheVariants.{Stands}
 use Rattle.m51_encode.specs.Filling.{Answer, and_then, fault, filled, references_of}
 use Rattle.m51_encode.specs.Outcomes.{outcome_of}
 
--- what an operand that is lent, or none, is
+-- the tree of a borrowed operand, if there is one
 abbrev pub seen : Option (Bor Operand) → Option OperandTree
 seen operand = option_map operand_tree (option_copied operand)
 

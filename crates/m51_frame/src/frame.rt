@@ -133,7 +133,7 @@ pub fn checksum_place(total: u32, after: &[u8]) -> u32
     place(total, after).saturating_sub(1)
 }
 
-/// Appends a record of the type with these contents, which must be less than 65,535 bytes. Error: out of memory;
+/// Appends a record of the type with these contents, which must be fewer than 65,535 bytes. Error: out of memory;
 /// the bytes are unspecified then.
 ///
 /// Source: OMF-51.
@@ -150,8 +150,8 @@ pub fn put_record(out: &mut Vec<u8>, record_type: u8, contents: &[u8]) -> Result
     Ok(())
 }
 
-/// The bytes of a record of the type with these contents, which must be less than 65,535 bytes: the type, the length of
-/// what follows it in two bytes, the contents and the checksum. Error: out of memory.
+/// The bytes of a record of the type with these contents, which must be fewer than 65,535 bytes: the type, the length
+/// of what follows it in two bytes, the contents and the checksum. Error: out of memory.
 ///
 /// Source: OMF-51.
 pub fn record_bytes(alloc: Global, record_type: u8, contents: &[u8]) -> Result<Vec<u8>, NoMemory>

@@ -6,7 +6,7 @@ use Rattle.m51_module.specs.declared.source.SourceFile.{SourceFile}
 use Rattle.m51_generator.specs.declared.unit.DrawnUnit.{DrawnUnit}
 use Rattle.m51_generator.specs.Draws.{drawn}
 
--- texts that are lent
+-- the texts of borrowed lines
 abbrev pub lent : List (Bor (List ℕ)) → List (List ℕ)
 lent texts = map (λ text. text.now) texts
 

@@ -1,4 +1,4 @@
--- Of the code: what a graph keeps beside its parts.
+-- Of the code: what a graph keeps besides its parts.
 use Rattle.std.specs.Prelude.{◌≡◌, ℕ, length, map}
 use Rattle.std.specs.List.{range_with_len}
 use Rattle.m51_graph.specs.declared.parts.GraphParts.{GraphParts}

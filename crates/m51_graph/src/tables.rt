@@ -1,4 +1,4 @@
-//! What a graph keeps beside its parts.
+//! What a graph keeps besides its parts.
 ghost use Rattle.std.specs.Prelude.{◌≡◌, IfOk, length, slice_index};
 ghost use Rattle.m51_module.specs.Walks.{Reaches};
 ghost use Rattle.m51_relations.specs.Rows.{pairs};
@@ -14,7 +14,7 @@ use m51_cells::NoMemory;
 use m51_relations::{BitRows, OwnerPairs, item_or};
 use std::alloc::Global;
 
-// What a graph keeps beside its parts: the pairs of units that edges join, and those that walks join; for each unit a
+// What a graph keeps besides its parts: the pairs of units that edges join, and those that walks join; for each unit a
 // byte of the roots above it, and its level; and which owners of segments are related.
 #[derive(Drop)]
 pub(crate) struct Tables {

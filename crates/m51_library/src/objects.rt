@@ -19,7 +19,7 @@ fn at_end(total: u32, rest: &[u8], module: Module) -> Result<Module, ObjError>
     }
 }
 
-/// The module of an object file, of less than 4,294,967,296 bytes.
+/// The module of an object file, of fewer than 4,294,967,296 bytes.
 ///
 /// Errors: the first refusal, record by record and in a record field by field, as `module_at` of m51_records gives it;
 /// then O3 at the first byte that follows the module. `Memory` is the only other error.

@@ -34,7 +34,7 @@ fn library_of(alloc: Global, bytes: &[u8]) -> Result<Library, LibError>
     }
 }
 
-/// The library whose bytes these are: less than 4,294,967,296 of them.
+/// The library whose bytes these are: fewer than 4,294,967,296 of them.
 ///
 /// Errors: `Object` with the first refusal of the bytes, `O1` to `O5`, where offsets count from the first byte and
 /// record numbers from the first record, which is 0: the first record must say how many modules follow, at most 255,

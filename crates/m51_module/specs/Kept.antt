@@ -1,4 +1,4 @@
--- Tables of the code: what a layout keeps beside its parts, so that a run looks nothing up by going over a list.
+-- Tables of the code: what a layout keeps besides its parts, so that a run looks nothing up by going over a list.
 use Rattle.std.specs.Prelude.{◌≡◌, ◌≢◌, ℕ, ◌+◌, ◌<◌, ◌≤◌, Bool, true, false, List, [], ◌∷◌, ◌++◌, length}
 use Rattle.std.specs.Prelude.{slice_index_or, replicate, Option, Some, None, ◌↔◌}
 use Rattle.std.specs.List.{All, AllPairs, Contains}

@@ -19,9 +19,9 @@ pub record IsSameSegment (g h : ProgramGraph) (s t : ℕ) : Type 0 where
 abbrev pub ConflictIsMutual : Type 0
 ConflictIsMutual = (l : LayoutParts) (s t : ℕ) → ExtentsConflict l s t → ExtentsConflict l t s
 
--- Of two layouts with the same units, the second has other numbers for extents: two extents are in conflict by their
--- numbers in the first exactly if they are by their numbers in the second. The same holds of any two programs
--- (proofs/Conflicts).
+-- Of two layouts with the same units, the second may have other numbers for extents: two extents that are the same in
+-- both are in conflict by their numbers in the first exactly if they are by their numbers in the second. The same holds
+-- of any two programs (proofs/Conflicts).
 abbrev pub ConflictIsCarried : Type 0
 ConflictIsCarried = (l m : LayoutParts) (renumbered : ℕ → ℕ) → HaveSameUnits (layout_graph l) (layout_graph m)
     → (s t : ℕ) → IsSameSegment (layout_graph l) (layout_graph m) s (renumbered s)

@@ -8,9 +8,9 @@ pub fn conflict_is_mutual()
     ensures { ConflictIsMutual }
 {}
 
-/// Two layouts with the same edges and roots have the same conflicts. Of two extents of the one, let each have another
-/// number in the other, where it has the same owners and is overlaid exactly if it is here: then they are in conflict
-/// there exactly if they are here.
+/// Two layouts with the same edges and roots have the same conflicts. Let each of two extents of the one have a number
+/// in the other, of an extent with the same owners that is overlaid exactly if it is: then the two are in conflict in
+/// the one layout exactly if they are, by these numbers, in the other.
 ///
 /// Source: own choice ("Conflicts").
 pub fn conflict_is_carried()

@@ -66,7 +66,7 @@ fn layout_parts(alloc: Global) -> Result<LayoutParts, NoMemory>
 }
 
 /// A layout of three units: one that begins at the reset's vector, and two that it calls, whose locals share the byte
-/// at 08H. The byte at 09H is an argument of the second unit, and belongs to the first one too. An error is want of
+/// at 08H. The byte at 09H is an argument of the second unit, and belongs to the first one too. Error: out of
 /// memory.
 ///
 /// Source: own choice ("Samples").

@@ -42,7 +42,7 @@ overlap a b =
 unfoldable pub share : Extent → Extent → Bool
 share a b = same_space a.space b.space && overlap a b
 
--- first and last byte lie in one block of that many bytes, and the end in the memory
+-- first and last byte lie in one block of `block` bytes, and the end in the memory; size 0 fits anywhere
 abbrev pub fits_block : ℕ → ℕ → ℕ → Bool
 fits_block block base zero = true
 fits_block block base (suc more) = nat_eq (base / block) ((base + more) / block) && nat_le (base + suc more) 0x10000

@@ -26,5 +26,5 @@ pub content_pushed : {T E : Type 0} (r : Result T E) (before middle after bytes 
 content_pushed (Ok v) before middle after bytes digits h = h ∙ ap (λ t. t ++ blanks (6 - 2 * length bytes)) digits ∙ in_places before bytes
 content_pushed (Err e) before middle after bytes digits h = h
 
--- the text of a lent line
+-- the text of a borrowed line
 pub ruleset text_at = (get_or-map)

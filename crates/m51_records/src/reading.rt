@@ -171,7 +171,7 @@ fn parts_at(
 
 /// The module at the beginning of the bytes, the bytes after it, and the number of the record after it. The bytes end
 /// with the file, at its total length, and the first record of the module has that number. The number and the length of
-/// the bytes must make less than 4,294,967,296.
+/// the bytes must add up to less than 4,294,967,296.
 ///
 /// Errors: the first test that fails, record by record and in a record field by field, with its offset in the file.
 /// `O1` where the bytes end inside a record or before one that must come; `O2` where a checksum is wrong; `O3` where a
@@ -210,7 +210,7 @@ fn front_of(alloc: Global, bytes: &[u8]) -> Result<(Module, usize), ObjError>
 }
 
 /// The module at the beginning of an object file, and the length of its spelling; bytes may follow it. The file must
-/// have less than 4,294,967,296 bytes.
+/// have fewer than 4,294,967,296 bytes.
 ///
 /// Errors: the first test that fails, record by record and in a record field by field. `O1` where the bytes end inside
 /// a record or before one that must come; `O2` where a checksum is wrong; `O3` where a record of another type must

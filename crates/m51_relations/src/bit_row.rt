@@ -50,7 +50,7 @@ fn join_words(words: &mut [u64], more: &[u64])
 }
 
 impl BitRow {
-    /// A row of that many words without a bit. Error: out of memory.
+    /// A row of `words` words, no bit of them set. Error: out of memory.
     ///
     /// Source: own choice ("Closed rows").
     pub fn blank(alloc: Global, words: usize) -> Result<BitRow, NoMemory>

@@ -1,4 +1,4 @@
--- Of the code: what `Joined` keeps beside the chosen modules: joined segments, parts, and publics of externals.
+-- Of the code: what `Joined` keeps besides the chosen modules: joined segments, parts, and publics of externals.
 use Rattle.std.specs.Prelude.{◌≡◌, ℕ, ◌<◌, All, List, [], ◌∷◌, ◌++◌, length, map, take, slice_index, flat_map}
 use Rattle.m51_module.specs.declared.parts.ModuleParts.{ModuleParts}
 use Rattle.m51_module.specs.declared.segment.Segment.{Segment}

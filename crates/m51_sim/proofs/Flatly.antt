@@ -26,7 +26,7 @@ is_down : (down : Bool) (cpu : Cpu) (e : Effect) → PowerDown ≡ cond down Pow
 is_down true cpu e h = refl
 is_down false cpu e h = cc h
 
--- over what is lent
+-- over borrowed values
 module _ (cpu lent : Cpu) (m : CellMap) (instr : Instr) (image bytes : List ℕ) (pins levels : Pins) (same_cpu : lent ≡ cpu) (same : bytes ≡ image) (same_pins : levels ≡ pins) where
   pub effect_done : (f : Effect) → Done f ≡ unless_down (result_over m (plan_of lent instr bytes levels)) → Ok f ≡ instr_effect image cpu m pins instr
   unfolding instr_effect

@@ -21,7 +21,7 @@ use m51_sfr::bits::IDL;
 use m51_timers_uart::Periph;
 use std::marker::Model;
 
-/// What both boards have beside their memories.
+/// What both boards have besides their memories.
 #[derive(Drop)]
 pub(crate) struct Chip {
     image: Image,

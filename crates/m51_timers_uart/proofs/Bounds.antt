@@ -93,7 +93,7 @@ move_bounds cpu one two p h b =
     (λ e. record { left = one_less p.left b.left; mode = b.mode; count = b.count })
     (λ e. clock_bounds _ _ p b (growth_most cpu p.mode one two h) (time_least cpu p.mode) (time_most cpu p.mode))
 
--- what is kept beside the registers after a tick
+-- what is kept besides the registers after a tick
 record IsPassed (t : Ticked) : Type 0 where
   passed : IsBounded t.periph
 

@@ -16,7 +16,7 @@ use Rattle.m51_timers_uart.proofs.Kept.{keeps_chain, keeps_flag, keeps_inputs, k
 use Rattle.m51_timers_uart.proofs.Spared.{IsBit, bytes_written}
 use Rattle.m51_timers_uart.proofs.Walk.{after_timer0, flagged_keeps, timer0_keeps}
 
--- what is written beside the bytes of timer 0
+-- what is written besides the bytes of timer 0
 abbrev others : List ℕ
 others = tcon ∷ tl1 ∷ th1 ∷ scon ∷ sbuf ∷ t2con ∷ rcap2l ∷ rcap2h ∷ tl2 ∷ th2 ∷ []
 

@@ -22,7 +22,7 @@ pub struct Sent {
     pub ninth: Option<bool>,
 }
 
-/// What the devices keep beside the registers.
+/// What the devices keep besides the registers.
 ///
 /// Source: family manual; own choice ("Bit times").
 #[derive(Clone, Copy, Debug, PartialEq, Eq)]

@@ -30,7 +30,7 @@ abbrev pub reason_of : StackError → Reason
 reason_of Limit = reason.Limit
 reason_of other = reason.Stack
 
--- the bound is written, or why there is none; out of memory is never asked for
+-- the bound is written, or why there is none; never used for out of memory
 abbrev pub bound_outcome : LayoutParts → Result StackBound StackError → Outcome
 bound_outcome l (Ok bound) = written (stack_of l bound)
 bound_outcome l (Err why) = refused (reason_of why) (stack_refusal why)

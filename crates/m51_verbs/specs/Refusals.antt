@@ -14,7 +14,7 @@ use Rattle.m51_verbs.specs.Outcome.{Outcome, refused}
 abbrev pub joined : List (List ℕ) → List ℕ
 joined parts = fold (λ (text : List ℕ) (part : List ℕ). text ++ part) [] parts
 
--- what is wrong with an object, and where; out of memory is never asked for
+-- what is wrong with an object, and where; never used for out of memory
 abbrev pub object_words : ObjError → List ℕ
 object_words (object.O1 at) = codes "O1 AT " ++ decimal at
 object_words (object.O2 record_no found needed) =
@@ -40,7 +40,7 @@ full = refused reason.Limit (codes "LIMIT MODULES 255\n")
 abbrev pub object_outcome : List ℕ → ObjError → Outcome
 object_outcome file error = file_refused file (object_words error)
 
--- a library is refused; out of memory is never asked for
+-- a library is refused; never used for out of memory
 abbrev pub library_outcome : List ℕ → LibError → Outcome
 library_outcome file (library.B1 name) = file_refused file (codes "B1 " ++ name)
 library_outcome file (library.B2 name) = file_refused file (codes "B2 " ++ name)
@@ -49,7 +49,7 @@ library_outcome file (library.Object error) = object_outcome file error
 library_outcome file library.Full = full
 library_outcome file library.Memory = full
 
--- an edit of a library is refused; out of memory is never asked for
+-- an edit of a library is refused; never used for out of memory
 abbrev pub edit_outcome : LibError → Outcome
 edit_outcome (library.B1 name) = edit_refused (codes "B1 " ++ name)
 edit_outcome (library.B2 name) = edit_refused (codes "B2 " ++ name)
@@ -58,7 +58,7 @@ edit_outcome (library.Object error) = edit_refused (object_words error)
 edit_outcome library.Full = full
 edit_outcome library.Memory = full
 
--- what is wrong with a HEX file, and in which line; out of memory is never asked for
+-- what is wrong with a HEX file, and in which line; never used for out of memory
 abbrev pub hex_words : HexError → List ℕ
 hex_words (hex.H1 line) = codes "H1 LINE " ++ decimal line
 hex_words (hex.H2 line) = codes "H2 LINE " ++ decimal line

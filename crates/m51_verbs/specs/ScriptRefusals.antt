@@ -12,7 +12,7 @@ abbrev pub script_refused : List ℕ → ℕ → Outcome
 script_refused rule line =
     refused reason.Script (codes "SCRIPT LINE " ++ decimal line ++ codes ": " ++ rule ++ codes "\n")
 
--- a script is refused; out of memory is never asked for
+-- a script is refused; never used for out of memory
 abbrev pub script_outcome : ScriptError → Outcome
 script_outcome (script.S1 line) = script_refused (codes "S1") line
 script_outcome (script.S2 line) = script_refused (codes "S2") line
@@ -20,7 +20,7 @@ script_outcome (script.S3 line) = script_refused (codes "S3") line
 script_outcome script.Limit = refused reason.Limit (codes "LIMIT SCRIPTLINES 65536\n")
 script_outcome script.Memory = refused reason.Script []
 
--- a control file is refused; out of memory is never asked for
+-- a control file is refused; never used for out of memory
 abbrev pub control_outcome : ControlError → Outcome
 control_outcome (control.C1 line) =
     refused reason.Script (codes "CONTROL LINE " ++ decimal line ++ codes ": C1\n")

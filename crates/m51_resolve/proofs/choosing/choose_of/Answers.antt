@@ -8,7 +8,7 @@ use Rattle.m51_resolve.proofs.Skipping.{asked_more, asked_start, choosing_more, 
 use Rattle.m51_resolve.proofs.Stopping.{few_is, stopped}
 use Rattle.m51_resolve.proofs.choosing.choose_of.Goals as goal
 
--- the members that are lent
+-- the borrowed members
 abbrev parts_of : List (Bor ModuleParts) → List ModuleParts
 parts_of members = map (λ m. m.now) members
 

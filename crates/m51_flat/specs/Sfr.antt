@@ -43,7 +43,7 @@ unfoldable pub with_bit : ℕ → ℕ → Bool → ℕ
 with_bit byte k true = bit_or byte (2 ^ k)
 with_bit byte k false = bit_and byte (255 - 2 ^ k)
 
--- a device stores a value in a register: no port is reported as written, and interrupts are not held off
+-- a device stores a value in a register: no port is reported as written, and interrupts are held off or not as before
 unfoldable pub with_latch : Cpu → ℕ → ℕ → Cpu
 with_latch cpu a v = if has_register a then record cpu { regs = slice_set cpu.regs (a - 0x80) v } else cpu
 

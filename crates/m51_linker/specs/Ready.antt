@@ -31,7 +31,7 @@ abbrev pub MayRefuse : Option Refusal → Option Refusal → Type 0
 MayRefuse rule None = Unit {0}
 MayRefuse rule (Some refusal) = rule ≡ Some refusal
 
--- a step passes where no rule fails, and fails with its refusal else
+-- a step passes where no rule fails, else it fails with the refusal
 abbrev pub Checks : {T : Type 0} → Option Refusal → Result T Refusal → Type 0
 Checks rule (Ok _) = rule ≡ None
 Checks rule (Err error) = MayRefuse rule (but_memory error)

@@ -1,4 +1,4 @@
-//! Program memory while it is filled: the bytes of content, which not each address has, and the image.
+//! Program memory while it is filled: the bytes of content, which some addresses lack, and the image.
 ghost use Rattle.std.specs.Prelude.{◌≡◌, ◌+◌, ◌≤◌, ℕ, [], ◌∷◌, IfOk, None, length, slice_index_or, unwrap_or, vec_len};
 ghost use Rattle.m51_fields.specs.Fields.{bytes_of};
 ghost use Rattle.m51_linker.specs.Stretches.{stretch_at};

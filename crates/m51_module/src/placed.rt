@@ -49,7 +49,7 @@ impl Placed {
         cells_of(self.kind, u32::from(self.base), u32::from(self.size))
     }
 
-    /// Whether a segment of program memory, which it must be, covers the address.
+    /// Whether the segment, which must be one of program memory, covers the address.
     ///
     /// Source: own choice ("Units").
     pub fn covers(&self, address: u16) -> bool

@@ -44,7 +44,7 @@ fn place_of(located: &[Numbered], number: u16) -> u16
     }
 }
 
-// The indexes of the joined segments of these numbers.
+// The indices of the joined segments of these numbers.
 fn places_of(alloc: Global, located: &[Numbered], numbers: &[u16]) -> Result<Vec<u16>, NoMemory>
     requires { length located.now < 65536 }
     ensures { IfOk result (λ places. places.items ≡ map (place_of located.now) numbers.now) }
@@ -56,7 +56,7 @@ fn places_of(alloc: Global, located: &[Numbered], numbers: &[u16]) -> Result<Vec
     Ok(places)
 }
 
-// The indexes of the extents of the first `count` joined segments.
+// The indices of the extents of the first `count` joined segments.
 pub(crate) fn places(
     alloc: Global,
     located: &[Numbered],

@@ -66,7 +66,7 @@ library_outcome_of job files = either (library_work job.library job.operation fi
 
 -- Conditions of functions.
 
--- an operation on a library that exists
+-- an operation other than build, so on a library that exists
 abbrev pub IsNoBuild : Operation → Type 0
 IsNoBuild (operation.Build names) = ⊥
 IsNoBuild other = Unit {0}

@@ -49,8 +49,8 @@ pub record GivesField (names : Meanings) (next : ℕ) (references : References) 
   pub lies : slice_get references f.byte ≡ Some held.reference
   pub kind : IfSome held.reference (IsReferenceOf f.field (value_of names e))
 
--- an operand of a line means the operand of a row: the same word or register, or an expression that gives the number of
--- its field
+-- an operand of a line means the operand of a row: both are missing, or are the same word or register, or the
+-- expression of the one gives the number in the field of the other
 abbrev pub Fills : Meanings → ℕ → References → Option OperandTree → Slot → Type 0
 Fills names next references None Nothing = Unit {0}
 Fills names next references (Some line.A) A = Unit {0}

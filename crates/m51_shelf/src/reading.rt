@@ -18,7 +18,7 @@ const PIECE: usize = 4096;
 /// Source: own choice ("The outside").
 #[derive(Clone, Copy, Debug, PartialEq, Eq)]
 pub enum ReadError {
-    /// It has more than `MOST_FILE_BYTES`.
+    /// It has more than `MOST_FILE_BYTES` bytes.
     TooLong,
     /// A call on the shelf failed.
     Failed,

@@ -77,7 +77,7 @@ pub fn layout(alloc: Global) -> Result<Layout, NoMemory>
     Layout::make(alloc, parts)
 }
 
-/// The name that the text writes, in upper case.
+/// The name that the text writes, in upper case. The text must be a name.
 ///
 /// Source: own choice ("Samples").
 pub fn name(text: &[u8]) -> Name
@@ -165,7 +165,8 @@ pub fn module(alloc: Global) -> Result<Module, NoMemory>
     Ok(Module::make(parts))
 }
 
-/// A module in version 1 without segments, with one public, the number 0. The only error is out of memory.
+/// A module in version 1 without segments, with one public, the number 0. Both names must be such
+/// as a text can write. The only error is out of memory.
 ///
 /// Source: own choice ("Samples").
 pub fn module_with(alloc: Global, name: Name, public: Name) -> Result<Module, NoMemory>

@@ -90,7 +90,7 @@ impl BitRow {
         has_bit(&self.words, number)
     }
 
-    /// Sets the bit of that number: a word holds 64.
+    /// Sets the bit of that number. A word holds 64 bits, and the number must be below that of the bits of all words.
     ///
     /// Source: own choice ("Closed rows").
     pub fn put(&mut self, number: usize)

@@ -13,10 +13,11 @@ use std::alloc::Global;
 /// Source: own choice ("The top call").
 pub type Contents = ListOf<Bytes>;
 
-/// Reads the files of these names into the contents, one after another, up to the first that can't be read whole.
+/// Reads the files of these names into the contents, which must be empty, one after another, up to the first that can't
+/// be read whole.
 ///
 /// Errors: `TooLong` where that file has more than 1,048,576 bytes, `Failed` where a call on the shelf failed on it,
-/// `Memory`. The contents are then those of the files before it.
+/// `Memory`. After `Failed` there are as many contents as files before it.
 ///
 /// Source: own choice ("The top call").
 pub fn read_all<F: Shelf>(

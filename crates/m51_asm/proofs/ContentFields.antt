@@ -27,7 +27,7 @@ use Rattle.m51_encode.specs.FieldValues.{field_of}
 use Rattle.m51_encode.specs.Filling.{Answer, and_then, or_out_of_range, held_at, nothing, valued, expression, filled_by, filled, beginning_at, reference_at, references_of}
 use Rattle.m51_encode.proofs.BitNumbers.{linked_is}
 use Rattle.m51_asm.proofs.Members.{In, Every, Pairs, in_cons, no_element, pairs_weaker}
-use Rattle.m51_asm.specs.Content.{ReferenceAt, Content, placed_from}
+use Rattle.m51_asm.specs.Content.{ReferenceAt, EmittedContent, placed_from}
 use Rattle.m51_asm.proofs.RowFields.{width, HasField, rows_do_lie}
 
 -- the type of a value, also one that its crate keeps to itself
@@ -83,7 +83,7 @@ abbrev pub FieldAfter : ReferenceAt → ReferenceAt → Type 0
 FieldAfter r q = end_of_field r ≤ q.0
 
 -- the references of content lie in its bytes, one after another
-pub record IsContent (names : Meanings) (c : Content) : Type 0 where
+pub record IsContent (names : Meanings) (c : EmittedContent) : Type 0 where
   pub inside : Every (λ r. end_of_field r ≤ length c.bytes) c.references
   pub order : Pairs FieldAfter c.references
   pub linked : Every (λ r. IsLinkedBy names r.1) c.references

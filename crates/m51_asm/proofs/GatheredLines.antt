@@ -11,7 +11,7 @@ use Rattle.m51_module.specs.declared.segment.Segment.{Segment}
 use Rattle.m51_text.specs.Answer.{LineTree}
 use Rattle.m51_emit.specs.Within.{LieInside}
 use Rattle.m51_emit.specs.Gathering.{Gathered, run_of, runs_of, fixups_of, gathered_of, with_line, pieces_in, all_pieces, all_fixups}
-use Rattle.m51_emit.specs.declared.content.Content.{Content}
+use Rattle.m51_emit.specs.declared.content.EmittedContent.{EmittedContent}
 use Rattle.m51_emit.specs.declared.gathering.ModuleContent.{ModuleContent}
 use Rattle.m51_emit.proofs.GrownRuns.{gathered_grows}
 use Rattle.m51_emit.proofs.LyingContent.{references_lie}
@@ -91,11 +91,11 @@ module _ (F G : Kept → Gathered) (change : Gathered → Gathered) (id : ℕ) (
 
 module _ (lines : List LineTree) (a : Assignment) where
   -- what these lines, from line k on, give to a segment
-  abbrev placed_from : ℕ → ℕ → List LineTree → List (ℕ × Content)
+  abbrev placed_from : ℕ → ℕ → List LineTree → List (ℕ × EmittedContent)
   placed_from id k [] = []
   placed_from id k (line ∷ more) = cond ((a.segment k).id == id) (placed_at lines a k ∷ placed_from id (suc k) more) (placed_from id (suc k) more)
 
-  one_more : (id k : ℕ) (b : Bool) (rest : List (ℕ × Content)) → ((a.segment k).id == id) ≡ b
+  one_more : (id k : ℕ) (b : Bool) (rest : List (ℕ × EmittedContent)) → ((a.segment k).id == id) ≡ b
       → placed_before lines a id k ++ cond b (placed_at lines a k ∷ rest) rest ≡ placed_before lines a id (suc k) ++ rest
   unfolding placed_before
   one_more id k true rest test =
@@ -121,7 +121,7 @@ module _ (lines : List LineTree) (a : Assignment) where
   unfolding placed_before
   all_placed id = sym (before_and id 0 lines ∙ ap (placed_before lines a id) (zero_more (length lines)))
 
-  runs_by : (b : Bool) (k : ℕ) (rest : List (ℕ × Content)) (runs : List Run) → runs_of (map run_of rest) ≡ runs
+  runs_by : (b : Bool) (k : ℕ) (rest : List (ℕ × EmittedContent)) (runs : List Run) → runs_of (map run_of rest) ≡ runs
       → runs_of (map run_of (cond b (placed_at lines a k ∷ rest) rest)) ≡ cond b (if_bytes (offset_at lines a k) (content_at lines a k).bytes runs) runs
   runs_by true k rest runs e = ap (if_bytes (offset_at lines a k) (content_at lines a k).bytes) e
   runs_by false k rest runs e = e
@@ -130,7 +130,7 @@ module _ (lines : List LineTree) (a : Assignment) where
   runs_are id k [] = refl
   runs_are id k (line ∷ ls) = runs_by ((a.segment k).id == id) k (placed_from id (suc k) ls) (runs_from lines a id (suc k) ls) (runs_are id (suc k) ls)
 
-  fixups_by : (b : Bool) (number k : ℕ) (rest : List (ℕ × Content)) (found : List Fixup) → fixups_of (object_segments lines a) number rest ≡ found
+  fixups_by : (b : Bool) (number k : ℕ) (rest : List (ℕ × EmittedContent)) (found : List Fixup) → fixups_of (object_segments lines a) number rest ≡ found
       → fixups_of (object_segments lines a) number (cond b (placed_at lines a k ∷ rest) rest) ≡ cond b (line_fixups lines a number k ++ found) found
   fixups_by true number k rest found e = ap (λ fs. line_fixups lines a number k ++ fs) e
   fixups_by false number k rest found e = e
@@ -208,10 +208,10 @@ module _ (lines : List LineTree) (a : Assignment) (c : IsClean lines a) where
       ]
 
   -- the same of a place and content that are those of the line
-  pub given_fits : (k at : ℕ) (x : Content) → k < length lines → at ≡ offset_at lines a k → x ≡ content_at lines a k → at + length x.bytes ≤ 65536
+  pub given_fits : (k at : ℕ) (x : EmittedContent) → k < length lines → at ≡ offset_at lines a k → x ≡ content_at lines a k → at + length x.bytes ≤ 65536
   given_fits k at x below placed given =
       let fit = line_fits k below in
-      let len = ap (λ (y : Content). length y.bytes) given in
+      let len = ap (λ (y : EmittedContent). length y.bytes) given in
       omega (arith, fit, placed, len)
 
   -- the fields of a line lie in its bytes
@@ -271,7 +271,7 @@ module _ (lines : List LineTree) (a : Assignment) (c : IsClean lines a) where
       ∙ sym (none_before xs)
 
   -- what is gathered grows with what is added of a line
-  pub next_gathered : (k number at : ℕ) (content : Content) (segments : List Segment) (old new : List Gathered) → segments ≡ object_segments lines a
+  pub next_gathered : (k number at : ℕ) (content : EmittedContent) (segments : List Segment) (old new : List Gathered) → segments ≡ object_segments lines a
       → number ≡ segment_number lines a (a.segment k).id → at ≡ offset_at lines a k → content ≡ content_at lines a k → old ≡ gathered_before lines a k
       → new ≡ changed (λ g. with_line segments g (at, content)) number old → new ≡ gathered_before lines a (suc k)
   next_gathered k number at content segments old new same numbered placed given before e =
@@ -288,5 +288,5 @@ module _ (lines : List LineTree) (a : Assignment) (c : IsClean lines a) where
   first_gathered segments e = ap nothing_gathered (ap length e ∙ length-map (kept lines a) (λ (k : Kept). k.segment)) ∙ gathered_first
 
 -- a text that gives this has no fault
-pub clean_text : (lines : List LineTree) (a : Assignment) (t : PlacedText) (given : List Content) → IsText lines → IsGiven lines a t given → IsClean lines a
+pub clean_text : (lines : List LineTree) (a : Assignment) (t : PlacedText) (given : List EmittedContent) → IsText lines → IsGiven lines a t given → IsClean lines a
 clean_text lines a t given text is = clean_where text.source text.includes lines a text.read is.ready.fits is.ready.placed.free is.content

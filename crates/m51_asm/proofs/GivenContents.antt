@@ -16,7 +16,7 @@ use Rattle.m51_asm.specs.Assignment.{TextSegment, Assignment, body_at, above}
 use Rattle.m51_asm.specs.Fitting.{size_by, size_at}
 use Rattle.m51_asm.specs.PlacedFaults.{is_misplaced}
 use Rattle.m51_asm.specs.ObjectMeanings.{final}
-use Rattle.m51_asm.specs.Content.{Content, nothing, outcomes_by, content_by}
+use Rattle.m51_asm.specs.Content.{EmittedContent, nothing, outcomes_by, content_by}
 use Rattle.m51_asm.specs.ContentFaults.{line_outcomes_by, line_outcomes, made_before, content_fault}
 use Rattle.m51_asm.specs.Pieces.{content_at}
 use Rattle.m51_asm.proofs.GoodLines.{IsGood, IsClean, free}
@@ -26,7 +26,7 @@ use Rattle.m51_asm.proofs.CodeContents.{code_given}
 use Rattle.m51_asm.proofs.ItemContents.{bytes_given, words_given}
 
 -- what a line gives, by what it says
-record IsGivenBy (names : Meanings) (size : ℕ) (parts : List Outcome) (segment : TextSegment) (c : Content) : Type 0 where
+record IsGivenBy (names : Meanings) (size : ℕ) (parts : List Outcome) (segment : TextSegment) (c : EmittedContent) : Type 0 where
   content : IsContent names c
   within : length c.bytes ≤ size
   few : length c.references ≤ fixes parts
@@ -35,7 +35,7 @@ record IsGivenBy (names : Meanings) (size : ℕ) (parts : List Outcome) (segment
 in_code : (s : TextSegment) → not (same_kind s.kind kind.Code) ≡ false → s.kind ≡ kind.Code
 in_code s h = kind_same s.kind kind.Code (not-false (same_kind s.kind kind.Code) h)
 
-exactly : (names : Meanings) (size : ℕ) (parts : List Outcome) (s : TextSegment) (c : Content) → IsGiven names size parts c → s.kind ≡ kind.Code → IsGivenBy names size parts s c
+exactly : (names : Meanings) (size : ℕ) (parts : List Outcome) (s : TextSegment) (c : EmittedContent) → IsGiven names size parts c → s.kind ≡ kind.Code → IsGivenBy names size parts s c
 exactly names size parts s c g code = record { content = g.content; within = let e = g.size_is in omega (arith, e); few = g.few; code = inr code }
 
 none_given : (names : Meanings) (size : ℕ) (parts : List Outcome) (s : TextSegment) → IsGivenBy names size parts s nothing

@@ -7,7 +7,7 @@ use Rattle.m51_module.specs.declared.source.Row.{Row}
 use Rattle.m51_stmt.specs.Statement.{BodyTree, StmtTree, Public}
 use Rattle.m51_text.specs.Answer.{LineTree}
 use Rattle.m51_emit.specs.Outcomes.{made_with, made_with_all, or_next, leftmost_fault}
-use Rattle.m51_emit.specs.declared.content.Content.{Content}
+use Rattle.m51_emit.specs.declared.content.EmittedContent.{EmittedContent}
 use Rattle.m51_emit.specs.Content.{outcomes_by, content_by}
 use Rattle.m51_emit.proofs.CountedParts.{or_nothing}
 use Rattle.m51_emit.specs.PublicNames.{Published, public_outcome, if_public}
@@ -97,7 +97,7 @@ module _ (lines : List LineTree) (a : Assignment) (k : ℕ) (line : LineTree) (i
       ∙ ap (faults_from (content_fault lines a) k) (sym (drop_at lines k line is)))
       ∙ h.faults
 
-  rows_next : (row : Row) (c : Content) → after.rows ≡ before.rows ++ row ∷ [] → row ≡ row_of line (place_of a k line) c → c ≡ content_at lines a k
+  rows_next : (row : Row) (c : EmittedContent) → after.rows ≡ before.rows ++ row ∷ [] → row ≡ row_of line (place_of a k line) c → c ≡ content_at lines a k
       → after.rows ++ rows_from lines a (suc k) (drop (suc k) lines) ≡ rows lines a
   rows_next row c e r is_content =
       ap (λ rs. rs ++ rows_from lines a (suc k) (drop (suc k) lines)) (e ∙ ap (λ x. before.rows ++ x ∷ []) (r ∙ ap (row_of line (place_of a k line)) is_content))
@@ -111,16 +111,16 @@ module _ (lines : List LineTree) (a : Assignment) (k : ℕ) (line : LineTree) (i
       e ∙ (λ i. h.publics i ++ publics_among (publish i) (publics_in (body_of (sym is i))))
       ∙ ap (λ ps. publics_before lines a k ++ ps) (publics_are lines a k (body_at lines k))
 
-  content_next : (c : Content) → c ≡ content_by names form line.stmt.body → c ≡ content_at lines a k
+  content_next : (c : EmittedContent) → c ≡ content_by names form line.stmt.body → c ≡ content_at lines a k
   unfolding content_at
   content_next c e = e ∙ (λ i. content_by (same i) (jumps i) (body_of (sym is i)))
 
-  given_next : (c : Content) → after.given ≡ before.given ++ c ∷ [] → c ≡ content_at lines a k → AreContents lines a after.given
+  given_next : (c : EmittedContent) → after.given ≡ before.given ++ c ∷ [] → c ≡ content_at lines a k → AreContents lines a after.given
   given_next c e is_content =
       subst (AreContents lines a) (sym e)
       (pushed_each (λ j x. x ≡ content_at lines a j) before.given c h.each (subst (λ n. c ≡ content_at lines a n) (sym h.counted) is_content))
 
-  pub next_given : (row : Row) (c : Content) → IsSetAt lines a (suc k) after.set → after.made ≡ made_with_all before.made (outcomes_by names form line.stmt.body)
+  pub next_given : (row : Row) (c : EmittedContent) → IsSetAt lines a (suc k) after.set → after.made ≡ made_with_all before.made (outcomes_by names form line.stmt.body)
       → after.publics ≡ before.publics ++ publics_among of (publics_in line.stmt.body)
       → after.faults ≡ before.faults ++ if_fault line (or_next (leftmost_fault before.made (outcomes_by names form line.stmt.body)) (fault_among of (publics_in line.stmt.body))) []
       → after.rows ≡ before.rows ++ row ∷ [] → row ≡ row_of line (place_of a k line) c → after.given ≡ before.given ++ c ∷ []
@@ -136,7 +136,7 @@ module _ (lines : List LineTree) (a : Assignment) (k : ℕ) (line : LineTree) (i
   }
 
 -- the row of a line that is placed
-pub row_is : (lines : List LineTree) (a : Assignment) (k : ℕ) (p : LinePlace) → Fits lines a → IsPlaceOf lines a k p → (line : LineTree) (c : Content)
+pub row_is : (lines : List LineTree) (a : Assignment) (k : ℕ) (p : LinePlace) → Fits lines a → IsPlaceOf lines a k p → (line : LineTree) (c : EmittedContent)
     (number : ℕ) → number ≡ (here_of (text_segment p.segment) p.offset).number
     → row_in line.file line.line (place_in line.stmt number) c ≡ row_of line (place_of a k line) c
 row_is lines a k p f place line c number is =

@@ -23,7 +23,7 @@ use Rattle.m51_encode.proofs.BitNumbers.{linked_is}
 use Rattle.m51_stmt.proofs.ListWords.{Each}
 use Rattle.m51_stmt.proofs.PrintedLists.{IsItem}
 use Rattle.m51_emit.specs.Sizes.{item_size, items_size}
-use Rattle.m51_asm.specs.Content.{ReferenceAt, Content, item_outcome, item_given, item_content, later, followed_by, joined}
+use Rattle.m51_asm.specs.Content.{ReferenceAt, EmittedContent, item_outcome, item_given, item_content, later, followed_by, joined}
 use Rattle.m51_asm.proofs.Members.{Every, Pairs, in_cons, no_element, in_map, every_append, pairs_append, pairs_map, pairs_weaker}
 use Rattle.m51_asm.proofs.RowFields.{width}
 use Rattle.m51_asm.proofs.ContentFields.{form_width, IsLinkedBy, end_of_field, FieldAfter, IsContent}
@@ -87,7 +87,7 @@ one_given names w (ValueItem e) fine = value_given names w e (value_of names e) 
 one_given names w (Text characters) fine = record { content = no_refs names characters; size_is = refl; few = omega arith }
 
 -- content after other content
-join : (names : Meanings) (m n : ℕ) (o : Outcome) (ps : List Outcome) (c d : Content) → IsGiven names m (o ∷ []) c → IsGiven names n ps d → IsGiven names (m + n) (o ∷ ps) (followed_by c d)
+join : (names : Meanings) (m n : ℕ) (o : Outcome) (ps : List Outcome) (c d : EmittedContent) → IsGiven names m (o ∷ []) c → IsGiven names n ps d → IsGiven names (m + n) (o ∷ ps) (followed_by c d)
 unfolding Every
 join names m n o ps c d g h =
     let k = length c.bytes in

@@ -5,7 +5,7 @@ use Rattle.m51_expr.specs.Meanings.{Meanings}
 use Rattle.m51_encode.specs.declared.outcome.Outcome.{Outcome}
 use Rattle.m51_encode.specs.declared.outcome.Outcome.TheVariants.{Faulty, Fixes, Stands}
 use Rattle.m51_asm.specs.Outcomes.{made_with_all, or_next, leftmost_fault}
-use Rattle.m51_asm.specs.Content.{Content, nothing}
+use Rattle.m51_asm.specs.Content.{EmittedContent, nothing}
 use Rattle.m51_asm.proofs.Members.{Every, Pairs, no_element}
 use Rattle.m51_asm.proofs.ContentFields.{IsContent}
 
@@ -50,7 +50,7 @@ made m (Fixes ∷ parts) h =
     record { fine = r.1; made_is = r.0 ∙ (let e : m + suc (fixes parts) ≡ m + (1 + fixes parts) = omega arith in e); most = λ most. r.2 }
 
 -- what a line gives, over what is counted for it
-pub record IsGiven (names : Meanings) (size : ℕ) (parts : List Outcome) (c : Content) : Type 0 where
+pub record IsGiven (names : Meanings) (size : ℕ) (parts : List Outcome) (c : EmittedContent) : Type 0 where
   pub content : IsContent names c
   pub size_is : length c.bytes ≡ size
   pub few : length c.references ≤ fixes parts

@@ -3,7 +3,7 @@ use Rattle.std.specs.Prelude.{ℕ, suc, List, [], ◌∷◌, Option}
 use Rattle.m51_module.specs.declared.source.Row.{Row}
 use Rattle.m51_text.specs.Answer.{LineTree}
 pub use Rattle.m51_emit.specs.Rows.{has_place, place_in, first_three, is_any, row_in}
-use Rattle.m51_emit.specs.declared.content.Content.{Content}
+use Rattle.m51_emit.specs.declared.content.EmittedContent.{EmittedContent}
 use Rattle.m51_asm.specs.Assignment.{Assignment}
 use Rattle.m51_asm.specs.Pieces.{content_at}
 
@@ -12,7 +12,7 @@ abbrev pub place_of : Assignment → ℕ → LineTree → Option ℕ
 place_of a k line = place_in line.stmt (a.place k)
 
 -- the row of a line that stands at this place and gives this content
-abbrev pub row_of : LineTree → Option ℕ → Content → Row
+abbrev pub row_of : LineTree → Option ℕ → EmittedContent → Row
 row_of line place c = row_in line.file line.line place c
 
 -- the rows of these lines, which begin with line k

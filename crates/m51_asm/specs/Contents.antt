@@ -1,7 +1,7 @@
 -- Pass 2 over the lines of a text: what is kept of the lines above a line.
 use Rattle.std.specs.Prelude.{◌≡◌, ℕ, ◌++◌, List, [], length, drop, slice_get, Some}
 use Rattle.m51_text.specs.Answer.{LineTree}
-use Rattle.m51_emit.specs.declared.content.Content.{Content}
+use Rattle.m51_emit.specs.declared.content.EmittedContent.{EmittedContent}
 use Rattle.m51_asm.specs.declared.contents.Contents.{Contents}
 use Rattle.m51_asm.specs.Assignment.{Assignment}
 use Rattle.m51_asm.specs.ContentFaults.{made_before, content_fault, faults_from, content_faults}
@@ -15,8 +15,8 @@ abbrev pub nothing_given : Contents
 nothing_given = record { set = []; made = 0; faults = []; publics = []; rows = []; given = [] }
 
 -- these are the bytes and references of the first lines
-abbrev pub AreContents : List LineTree → Assignment → List Content → Type 0
-AreContents lines a given = (j : ℕ) (c : Content) → slice_get given j ≡ Some c → c ≡ content_at lines a j
+abbrev pub AreContents : List LineTree → Assignment → List EmittedContent → Type 0
+AreContents lines a given = (j : ℕ) (c : EmittedContent) → slice_get given j ≡ Some c → c ≡ content_at lines a j
 
 -- what is kept is what the lines above line k give: faults and rows are, before those of the other lines, all of them
 pub record IsGivenTo (lines : List LineTree) (a : Assignment) (k : ℕ) (c : Contents) : Type 0 where

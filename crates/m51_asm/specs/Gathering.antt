@@ -3,7 +3,7 @@ use Rattle.std.specs.Prelude.{◌≡◌, ℕ, zero, suc, ◌==◌, if◌then◌e
 use Rattle.m51_module.specs.declared.source.SourceFile.{SourceFile}
 use Rattle.m51_text.specs.Answer.{LineTree, Lines, text_of}
 use Rattle.m51_emit.specs.Gathering.{Gathered, PlacedContent, gathered_of}
-use Rattle.m51_emit.specs.declared.content.Content.{Content}
+use Rattle.m51_emit.specs.declared.content.EmittedContent.{EmittedContent}
 use Rattle.m51_asm.specs.declared.object_names.PlacedText.{PlacedText}
 use Rattle.m51_asm.specs.Assignment.{Assignment}
 use Rattle.m51_asm.specs.ContentFaults.{content_faults}
@@ -59,7 +59,8 @@ pub record IsText (lines : List LineTree) : Type 0 where
   pub read : text_of source includes ≡ Lines lines
 
 -- What is kept of a text without faults is what it gives, and this is the content of each line.
-pub record IsGiven (lines : List LineTree) (a : Assignment) (t : PlacedText) (given : List Content) : Type 0 where
+pub record IsGiven (lines : List LineTree) (a : Assignment) (t : PlacedText) (given : List EmittedContent)
+    : Type 0 where
   pub ready : IsReady lines a t
   pub content : content_faults lines a ≡ []
   pub each : AreContents lines a given

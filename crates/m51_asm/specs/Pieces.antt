@@ -5,7 +5,7 @@ use Rattle.m51_module.specs.declared.content.Piece.{Piece}
 use Rattle.m51_text.specs.Answer.{LineTree}
 pub use Rattle.m51_emit.specs.Pieces.{Run, before_runs, if_bytes, piece_at, pieces_of_run, base_of, target_base}
 pub use Rattle.m51_emit.specs.Pieces.{fixup_of}
-use Rattle.m51_emit.specs.declared.content.Content.{Content}
+use Rattle.m51_emit.specs.declared.content.EmittedContent.{EmittedContent}
 use Rattle.m51_emit.specs.Content.{content_by}
 use Rattle.m51_asm.specs.Assignment.{Assignment, body_at}
 use Rattle.m51_asm.specs.Fitting.{filled}
@@ -13,7 +13,7 @@ use Rattle.m51_asm.specs.ObjectSegments.{Kept, kept, object_segments, segment_nu
 use Rattle.m51_asm.specs.ObjectMeanings.{final}
 
 -- the bytes and references of line k
-unfoldable pub content_at : List LineTree → Assignment → ℕ → Content
+unfoldable pub content_at : List LineTree → Assignment → ℕ → EmittedContent
 content_at lines a k = content_by (final lines a k) (a.form k) (body_at lines k)
 
 -- the place of line k, from the base of its segment

@@ -18,7 +18,7 @@ use crate::stepping::LinePlace;
 use crate::valuation::Values;
 use crate::values_at::take_set;
 use m51_cells::{ListOf, NoMemory};
-use m51_emit::{Content, line_content, place_of, row_of};
+use m51_emit::{EmittedContent, line_content, place_of, row_of};
 use m51_module::{Faults, Publics, Row, Rows};
 use m51_text::Line;
 use std::alloc::Global;
@@ -34,7 +34,7 @@ pub(crate) struct Contents {
     pub(crate) publics: Publics,
     pub(crate) rows: Rows,
     /// The bytes and references of each.
-    pub(crate) given: ListOf<Content>,
+    pub(crate) given: ListOf<EmittedContent>,
 }
 
 // The fault of a line, if it has one, after others.
@@ -48,7 +48,7 @@ fn push_fault(faults: &mut Faults, line: &Line, fault: Option<u8>) -> Result<(),
 }
 
 // The row of a line.
-fn row_at(line: &Line, place: &LinePlace, content: &Content) -> Row
+fn row_at(line: &Line, place: &LinePlace, content: &EmittedContent) -> Row
     ensures { (lines : List LineTree) (a : Assignment) (k : ℕ) → Fits lines a → IsPlaceOf lines a k place.now
         → result ≡ row_of (line_tree line.now) (place_of a k (line_tree line.now)) content.now }
 {

@@ -11,7 +11,7 @@ ghost use Rattle.m51_asm.specs.Gathering.{nothing_gathered, changed, IsText, IsG
 use crate::numbering::number_at;
 use crate::object_names::PlacedText;
 use m51_cells::{MOST_MODULE_SEGMENTS, NoMemory};
-use m51_emit::{Content, ModuleContent, SegmentContent, gather};
+use m51_emit::{EmittedContent, ModuleContent, SegmentContent, gather};
 use m51_module::Segment;
 use std::alloc::Global;
 
@@ -35,7 +35,7 @@ fn add_line(
     segments: &[Segment],
     number: u8,
     at: usize,
-    content: &Content,
+    content: &EmittedContent,
 ) -> Result<(), NoMemory>
     requires memory { at + length content.now.bytes ≤ 65536 }
     requires inside { LieInside (length content.now.bytes) content.now.references }
@@ -55,7 +55,7 @@ fn add_line(
 pub(crate) fn gather_lines(
     alloc: Global,
     text: &PlacedText<'_>,
-    given: &[Content],
+    given: &[EmittedContent],
 ) -> Result<ModuleContent, NoMemory>
     requires text { IsText (map line_tree text.now.text.lines.now) }
     requires places { length text.now.places.now ≡ length text.now.text.lines.now }

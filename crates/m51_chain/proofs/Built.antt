@@ -12,7 +12,7 @@ use Rattle.m51_sim.specs.Boards.{BoardState, IsStarted}
 use Rattle.m51_sim.specs.Report.{report_of}
 use Rattle.m51_chain.specs.Assembles.{assembled_outcome}
 use Rattle.m51_chain.specs.Programs.{IsMap, IsReport, hex_kept}
-use Rattle.m51_verbs.specs.declared.work.Ending.TheVariants.{Ran, Run}
+use Rattle.m51_verbs.specs.declared.work.Finish.TheVariants.{Ran, Run}
 use Rattle.m51_verbs.specs.Outcome.{outcome_of, status_at, text_at}
 
 -- the report of a linked program, by the board that is made of it

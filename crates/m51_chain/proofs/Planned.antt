@@ -13,8 +13,8 @@ use Rattle.m51_chain.specs.Expected.{HasOutcome, MayKeep}
 use Rattle.m51_chain.specs.Parties.{status_if}
 use Rattle.m51_chain.specs.Verbs.{IsOutcome}
 use Rattle.m51_chain.specs.Work.{Comes, answer_of, outcome_of}
-use Rattle.m51_verbs.specs.declared.work.Ending.{Ending}
-use Rattle.m51_verbs.specs.declared.work.Ending.TheVariants as ending
+use Rattle.m51_verbs.specs.declared.work.Finish.{Finish}
+use Rattle.m51_verbs.specs.declared.work.Finish.TheVariants as ending
 use Rattle.m51_verbs.specs.declared.work.Reason.{Reason}
 use Rattle.m51_verbs.specs.declared.work.Reason.TheVariants as reason
 use Rattle.m51_verbs.specs.declared.work.Stop.{Stop}
@@ -29,7 +29,7 @@ may_if : (event : Bool) (keeps : Option (List ℕ)) → MayKeep (status_if event
 may_if false keeps = tt
 may_if true keeps = tt
 
-may_end : (e : Ending) (keeps : Option (List ℕ)) → MayKeep (status_at e) keeps
+may_end : (e : Finish) (keeps : Option (List ℕ)) → MayKeep (status_at e) keeps
 unfolding status_at
 may_end ending.Ran keeps = tt
 may_end ending.Event keeps = tt

@@ -15,7 +15,7 @@ use m51_inputs::{AssembledSource, assemble_source};
 use m51_module::{Module, Rows, SourceFile};
 use m51_print::listing;
 use m51_records::write_module;
-use m51_verbs::{Ending, Finished, Stop, refuse_source};
+use m51_verbs::{Finish, Finished, Stop, refuse_source};
 use std::alloc::Global;
 
 // The object of a module, which is kept, and the listing of its source.
@@ -35,7 +35,7 @@ fn list(
     Ok(Finished {
         keeps: Some(Bytes::of(object)),
         text: Bytes::of(text),
-        ending: Ending::Ran,
+        ending: Finish::Ran,
     })
 }
 

@@ -21,9 +21,9 @@ use crate::joining::join_files;
 use crate::work::{Task, Work};
 use m51_args::{Job, WordsError, file_count, job_of, name_kept, names_read};
 use m51_cells::{Bytes, MOST_FILES, NoMemory};
-use m51_shelf::{ReadError, Shelf};
+use m51_shelf::{FileReadError, Shelf};
 use m51_verbs::{
-    Contents, Stop, Target, accepted, operate, read_all, refuse_long_file, refuse_many_files,
+    FileContents, KeptName, Stop, accepted, operate, read_all, refuse_long_file, refuse_many_files,
     refuse_unread_file, refuse_words, refused, run_flat,
 };
 use std::alloc::Global;
@@ -47,7 +47,7 @@ fn work(alloc: Global, job: &Job, contents: &[Bytes]) -> Result<Work, Stop>
 }
 
 // What is to be done for the outcome of the work, if the file that is kept has this name.
-fn planned(target: Option<Target>, work: Result<Work, Stop>) -> Result<Task, NoMemory>
+fn planned(target: Option<KeptName>, work: Result<Work, Stop>) -> Result<Task, NoMemory>
     ensures { IsPlanned target work result }
 {
     match work {
@@ -59,11 +59,11 @@ fn planned(target: Option<Target>, work: Result<Work, Stop>) -> Result<Task, NoM
 }
 
 // The file that a job keeps, with the text where it could not be kept.
-fn target_of(alloc: Global, job: &Job) -> Result<Option<Target>, NoMemory>
+fn target_of(alloc: Global, job: &Job) -> Result<Option<KeptName>, NoMemory>
     ensures { IfOk result (λ target. target ≡ name_kept job.now) }
 {
     match name_kept(alloc, job)? {
-        Some(name) => Ok(Some(Target::of(alloc, name)?)),
+        Some(name) => Ok(Some(KeptName::of(alloc, name)?)),
         None => Ok(None),
     }
 }
@@ -106,15 +106,15 @@ fn plan_few<F: Shelf>(alloc: Global, job: &Job, files: &mut F) -> Result<Task, N
         ⊎ ReadsSome (names_read job.now) (F.state files.old).reads (F.state files.new).reads }
 {
     let names = names_read(alloc, job)?;
-    let mut contents = Contents::new(alloc);
+    let mut contents = FileContents::new(alloc);
     match read_all(alloc, names.as_slice(), files, &mut contents) {
         Ok(()) => work_planned(alloc, job, contents.as_slice()),
-        Err(ReadError::TooLong) => Ok(Task::Alone(refuse_long_file(alloc)?)),
-        Err(ReadError::Failed) => {
+        Err(FileReadError::TooLong) => Ok(Task::Alone(refuse_long_file(alloc)?)),
+        Err(FileReadError::Failed) => {
             let unread = names.as_slice()[contents.len()].as_str();
             Ok(Task::Alone(refuse_unread_file(alloc, unread)?))
         }
-        Err(ReadError::Memory) => Err(NoMemory),
+        Err(FileReadError::Memory) => Err(NoMemory),
     }
 }
 

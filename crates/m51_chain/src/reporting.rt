@@ -12,7 +12,7 @@ use m51_linker::Linked;
 use m51_module::Run;
 use m51_place::heaviest;
 use m51_print::map_text;
-use m51_verbs::{Ending, Finished};
+use m51_verbs::{Finish, Finished};
 use std::alloc::Global;
 
 // How many bytes the runs have.
@@ -77,7 +77,7 @@ pub(crate) fn report(
     Ok(Finished {
         keeps,
         text,
-        ending: Ending::Run {
+        ending: Finish::Run {
             board,
             steps: job.steps,
         },

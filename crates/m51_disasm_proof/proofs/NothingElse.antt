@@ -6,7 +6,7 @@ use Rattle.m51_module.specs.declared.content.Fixup.{Fixup}
 use Rattle.m51_module.specs.declared.segment.Segment.{Segment}
 use Rattle.m51_encode.specs.declared.outcome.Outcome.{Outcome}
 use Rattle.m51_encode.specs.declared.outcome.Outcome.TheVariants.{Stands}
-use Rattle.m51_emit.specs.declared.content.Content.{Content as Given}
+use Rattle.m51_emit.specs.declared.content.EmittedContent.{EmittedContent as Given}
 use Rattle.m51_emit.specs.Outcomes.{made_with, part_fault, or_next, leftmost_fault}
 use Rattle.m51_emit.specs.Pieces.{fixup_of}
 use Rattle.m51_text.specs.Answer.{LineTree}

@@ -5,7 +5,7 @@ use Rattle.std.proofs.lemmas.Bool.{ne_eqb}
 use Rattle.std.proofs.lemmas.List.FromFn.{length-map-range_with_len}
 use Rattle.m51_cells.specs.declared.kind.Kind.TheVariants as kind
 use Rattle.m51_text.specs.Answer.{LineTree}
-use Rattle.m51_emit.specs.declared.content.Content.{Content}
+use Rattle.m51_emit.specs.declared.content.EmittedContent.{EmittedContent}
 use Rattle.m51_emit.specs.Pieces.{Run, if_bytes}
 use Rattle.m51_asm.specs.Assignment.{TextSegment, Assignment, absolute}
 use Rattle.m51_asm.specs.Fitting.{filled, Fits}
@@ -104,13 +104,13 @@ module _ (lines : List LineTree) (a : Assignment) (f : Fits lines a) (image : Li
   none_after : (parts : List Part) (k place : ℕ) (s : TextSegment) (given : ℕ) → AllByRecursion IsSound (rest_of image parts) → LineStands lines a f k s given → Says lines k (rest_of image parts)
       → GiveFrom lines a image k place (rest_of image parts) → runs_of lines a s.id k (length (rest_of image parts)) ≡ []
   unfolding runs_of
-  none_after [] k place s given sound h is gives = bare lines a s.id k 0 (ap (λ (c : Content). c.bytes) gives.0.content)
+  none_after [] k place s given sound h is gives = bare lines a s.id k 0 (ap (λ (c : EmittedContent). c.bytes) gives.0.content)
   none_after (part ∷ parts) k place s given sound h is gives =
       let l : Line = line.Segment part.base in
       let more : List Line = statement_lines (statements_of image part) ++ rest_of image parts in
       let id_is : (a.segment k).id ≡ s.id = ap (λ (x : TextSegment). x.id) h.segment in
       let known = h.known k (omega arith) in
-      bare lines a s.id k (length more) (ap (λ (c : Content). c.bytes) gives.0.content)
+      bare lines a s.id k (length more) (ap (λ (c : EmittedContent). c.bytes) gives.0.content)
       ∙ none_later more (suc k) (absolute (k + 2) kind.Code part.base) 0 s.id sound.1 (step lines a f k s given l sound.0 h is.0) is.1 (omega (arith, known, id_is)) (λ e. omega (arith, known, id_is, e))
 
   -- statements are one run with what follows them

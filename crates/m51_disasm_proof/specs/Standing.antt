@@ -9,7 +9,7 @@ use Rattle.m51_expr.specs.Meanings.{Meanings}
 use Rattle.m51_expr.specs.Value.{whole}
 use Rattle.m51_encode.specs.declared.outcome.Outcome.TheVariants.{Stands}
 use Rattle.m51_stmt.specs.Statement.{BodyTree}
-use Rattle.m51_emit.specs.declared.content.Content.{Content}
+use Rattle.m51_emit.specs.declared.content.EmittedContent.{EmittedContent}
 use Rattle.m51_emit.specs.Content.{outcomes_by, content_by}
 use Rattle.m51_text.specs.Answer.{LineTree}
 use Rattle.m51_asm.specs.Assignment.{Assignment}
@@ -39,7 +39,7 @@ abbrev pub bytes_at : List ℕ → ℕ → ℕ → List ℕ
 bytes_at image address count = map (slice_index image) (range_with_len address count)
 
 -- bytes without a reference
-abbrev pub only_bytes : List ℕ → Content
+abbrev pub only_bytes : List ℕ → EmittedContent
 only_bytes bytes = record { bytes = bytes; references = [] }
 
 -- A line gives these bytes: no operand or item of it has a fault, and none is left to the linker.

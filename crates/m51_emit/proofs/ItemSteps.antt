@@ -4,8 +4,8 @@ use Rattle.std.proofs.lemmas.List.{get_or-map, length-map}
 use Rattle.m51_expr.specs.declared.operand.Item.{Item}
 use Rattle.m51_expr.specs.Operand.{ItemTree, item_tree}
 use Rattle.m51_encode.specs.declared.outcome.Outcome.{Outcome}
-use Rattle.m51_emit.specs.declared.counting.Count.{Count}
-use Rattle.m51_emit.specs.Content.{Content, ReferenceAt, nothing, later, followed_by, joined}
+use Rattle.m51_emit.specs.declared.counting.FixupCount.{FixupCount}
+use Rattle.m51_emit.specs.Content.{EmittedContent, ReferenceAt, nothing, later, followed_by, joined}
 use Rattle.m51_emit.specs.Counting.{counted, counted_all}
 use Rattle.m51_emit.proofs.JoinedContent.{followed_by_assoc}
 use Rattle.m51_emit.proofs.CountedParts.{counted_first}
@@ -15,7 +15,7 @@ later_by_none [] = refl
 later_by_none (r ∷ rs) = λ i. (zero-add r.0 i, r.1) ∷ later_by_none rs i
 
 -- content after nothing
-pub after_nothing : (c : Content) → followed_by nothing c ≡ c
+pub after_nothing : (c : EmittedContent) → followed_by nothing c ≡ c
 after_nothing c = λ i. record { bytes = c.bytes; references = later_by_none c.references i }
 
 -- the first of the items that are left
@@ -28,18 +28,18 @@ first_left items n item below is =
     ∙ ap (λ (m : ℕ). item_tree item ∷ drop m (map item_tree items)) (sym (add-one n)))
 
 -- one more item is done, and fewer are left
-pub content_step : (f : ItemTree → Content) (old new whole : Content) (items : List Item) (n : ℕ) (item : Item) → n < length items → item ≡ get_or items n item → new ≡ followed_by old (f (item_tree item))
+pub content_step : (f : ItemTree → EmittedContent) (old new whole : EmittedContent) (items : List Item) (n : ℕ) (item : Item) → n < length items → item ≡ get_or items n item → new ≡ followed_by old (f (item_tree item))
     → followed_by old (joined (map f (drop n (map item_tree items)))) ≡ whole → followed_by new (joined (map f (drop (n + 1) (map item_tree items)))) ≡ whole
 content_step f old new whole items n item below is done so_far =
-    let rest : Content = joined (map f (drop (n + 1) (map item_tree items))) in
-    ap (λ (c : Content). followed_by c rest) done
+    let rest : EmittedContent = joined (map f (drop (n + 1) (map item_tree items))) in
+    ap (λ (c : EmittedContent). followed_by c rest) done
     ∙ (followed_by_assoc old (f (item_tree item)) rest
     ∙ (ap (λ (xs : List ItemTree). followed_by old (joined (map f xs))) (sym (first_left items n item below is)) ∙ so_far))
 
-pub count_step : (f : ItemTree → Outcome) (old new whole : Count) (items : List Item) (n : ℕ) (item : Item) → n < length items → item ≡ get_or items n item → new ≡ counted old (f (item_tree item))
+pub count_step : (f : ItemTree → Outcome) (old new whole : FixupCount) (items : List Item) (n : ℕ) (item : Item) → n < length items → item ≡ get_or items n item → new ≡ counted old (f (item_tree item))
     → counted_all old (map f (drop n (map item_tree items))) ≡ whole → counted_all new (map f (drop (n + 1) (map item_tree items))) ≡ whole
 count_step f old new whole items n item below is done so_far =
     let rest : List Outcome = map f (drop (n + 1) (map item_tree items)) in
-    ap (λ (c : Count). counted_all c rest) done
+    ap (λ (c : FixupCount). counted_all c rest) done
     ∙ (counted_first old (f (item_tree item)) rest
     ∙ (ap (λ (xs : List ItemTree). counted_all old (map f xs)) (sym (first_left items n item below is)) ∙ so_far))

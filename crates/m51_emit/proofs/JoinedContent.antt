@@ -2,7 +2,7 @@
 use Rattle.std.proofs.Common.{◌≡◌, ℕ, ◌+◌, ◌≤◌, List, [], ◌∷◌, ◌++◌, length, map, refl, ap, sym, subst, ◌∙◌, append_assoc, length-append, add_assoc, arith}
 use Rattle.std.proofs.lemmas.List.{map-append}
 use Rattle.m51_module.specs.Validity.{field_len}
-use Rattle.m51_emit.specs.Content.{Content, ReferenceAt, nothing, later, followed_by, joined}
+use Rattle.m51_emit.specs.Content.{EmittedContent, ReferenceAt, nothing, later, followed_by, joined}
 use Rattle.m51_emit.specs.Within.{LieFrom, LieInside}
 
 later_twice : (m n : ℕ) (rs : List ReferenceAt) → map (later m) (map (later n) rs) ≡ map (later (m + n)) rs
@@ -12,7 +12,7 @@ later_twice m n (r ∷ rs) =
     λ i. first i ∷ later_twice m n rs i
 
 -- three contents are followed in either order
-pub followed_by_assoc : (a b c : Content) → followed_by (followed_by a b) c ≡ followed_by a (followed_by b c)
+pub followed_by_assoc : (a b c : EmittedContent) → followed_by (followed_by a b) c ≡ followed_by a (followed_by b c)
 followed_by_assoc a b c =
     let bytes : (a.bytes ++ b.bytes) ++ c.bytes ≡ a.bytes ++ (b.bytes ++ c.bytes) = append_assoc a.bytes b.bytes c.bytes in
     let at : ℕ = length a.bytes in
@@ -40,10 +40,10 @@ lie_after from middle to [] ss h g = lie_from_lower from middle to ss h g
 lie_after from middle to (r ∷ rs) ss h g = (h.0, lie_after (r.0 + field_len r.1.form) middle to rs ss h.1 g)
 
 -- content whose references lie in its bytes
-abbrev pub Lies : Content → Type 0
+abbrev pub Lies : EmittedContent → Type 0
 Lies c = LieInside (length c.bytes) c.references
 
-pub followed_lies : (a b : Content) → Lies a → Lies b → Lies (followed_by a b)
+pub followed_lies : (a b : EmittedContent) → Lies a → Lies b → Lies (followed_by a b)
 followed_lies a b h g =
     let at : ℕ = length a.bytes in
     let to : at + length b.bytes ≡ length (a.bytes ++ b.bytes) = sym (length-append a.bytes b.bytes) in
@@ -54,6 +54,6 @@ pub nothing_lies : Lies nothing
 nothing_lies = record { lie = omega arith }
 
 -- the contents of a list, each of whose references lie in its bytes
-pub joined_lies : {X : Type 0} (f : X → Content) (xs : List X) → ((x : X) → Lies (f x)) → Lies (joined (map f xs))
+pub joined_lies : {X : Type 0} (f : X → EmittedContent) (xs : List X) → ((x : X) → Lies (f x)) → Lies (joined (map f xs))
 joined_lies f [] each = nothing_lies
 joined_lies f (x ∷ xs) each = followed_lies (f x) (joined (map f xs)) (each x) (joined_lies f xs each)

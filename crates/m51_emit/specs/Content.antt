@@ -15,13 +15,13 @@ use Rattle.m51_encode.specs.Filling.{Answer}
 use Rattle.m51_encode.specs.Coding.{coded, outcomes}
 use Rattle.m51_encode.specs.Items.{item_field, item_bytes}
 use Rattle.m51_stmt.specs.Statement.{BodyTree, Code, Db, Dw}
-pub use Rattle.m51_emit.specs.declared.content.Content.{Content}
+pub use Rattle.m51_emit.specs.declared.content.EmittedContent.{EmittedContent}
 
 -- a reference, with the byte of the line where its field begins
 abbrev pub ReferenceAt : Type 0
 ReferenceAt = ℕ × Reference
 
-abbrev pub nothing : Content
+abbrev pub nothing : EmittedContent
 nothing = record { bytes = []; references = [] }
 
 -- the outcome of an item
@@ -44,7 +44,7 @@ placed_from byte (Some reference ∷ more) = (byte, reference) ∷ placed_from (
 placed_from byte (None ∷ more) = placed_from (suc byte) more
 
 -- what an instruction gives; nothing where an operand has a fault
-abbrev pub coded_content : Answer Coded → Content
+abbrev pub coded_content : Answer Coded → EmittedContent
 coded_content (Ok c) = record { bytes = take c.code.len c.code.bytes; references = placed_from 0 c.references }
 coded_content (Err e) = nothing
 
@@ -54,12 +54,12 @@ references_in (Some (Linked reference)) = (0, reference) ∷ []
 references_in held = []
 
 -- what an item gives that has this in its field; nothing where it has a fault
-abbrev pub item_given : Width → ItemTree → Answer (Option FieldValue) → Content
+abbrev pub item_given : Width → ItemTree → Answer (Option FieldValue) → EmittedContent
 item_given width item (Ok held) = record { bytes = item_bytes width item held; references = references_in held }
 item_given width item (Err e) = nothing
 
 -- what an item of DB or DW gives
-abbrev pub item_content : Meanings → Width → ItemTree → Content
+abbrev pub item_content : Meanings → Width → ItemTree → EmittedContent
 item_content names width item = item_given width item (item_field names width item)
 
 -- a reference `bytes` bytes further on
@@ -67,18 +67,18 @@ abbrev pub later : ℕ → ReferenceAt → ReferenceAt
 later bytes r = (bytes + r.0, r.1)
 
 -- content after other content
-abbrev pub followed_by : Content → Content → Content
+abbrev pub followed_by : EmittedContent → EmittedContent → EmittedContent
 followed_by one two = record {
   bytes = one.bytes ++ two.bytes;
   references = one.references ++ map (later (length one.bytes)) two.references;
 }
 
-abbrev pub joined : List Content → Content
+abbrev pub joined : List EmittedContent → EmittedContent
 joined [] = nothing
 joined (one ∷ more) = followed_by one (joined more)
 
 -- the bytes and references of a line
-abbrev pub content_by : Meanings → Jump → BodyTree → Content
+abbrev pub content_by : Meanings → Jump → BodyTree → EmittedContent
 content_by names jump (Code mnemonic operands) = coded_content (coded names mnemonic operands jump)
 content_by names jump (Db items) = joined (map (item_content names Byte) items)
 content_by names jump (Dw words) = joined (map (item_content names Word) words)

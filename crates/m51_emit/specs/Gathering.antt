@@ -3,7 +3,7 @@ use Rattle.std.specs.Prelude.{ℕ, List, [], ◌∷◌, ◌++◌, map, flat_map}
 use Rattle.m51_module.specs.declared.content.Fixup.{Fixup}
 use Rattle.m51_module.specs.declared.content.Piece.{Piece}
 use Rattle.m51_module.specs.declared.segment.Segment.{Segment}
-use Rattle.m51_emit.specs.Content.{Content}
+use Rattle.m51_emit.specs.Content.{EmittedContent}
 use Rattle.m51_emit.specs.Pieces.{Run, before_runs, if_bytes, pieces_of_run, fixup_of}
 
 -- what lines give to a segment of the module, which is known by its number: runs of bytes, and fixups
@@ -14,7 +14,7 @@ pub record Gathered : Type 0 where
 
 -- content of a line, with its place in the segment
 abbrev pub PlacedContent : Type 0
-PlacedContent = ℕ × Content
+PlacedContent = ℕ × EmittedContent
 
 abbrev pub run_of : PlacedContent → Run
 run_of x = (x.0, x.1.bytes)

@@ -6,10 +6,10 @@ use Rattle.m51_encode.specs.declared.outcome.Outcome.{Outcome}
 use Rattle.m51_stmt.specs.Statement.{BodyTree}
 use Rattle.m51_emit.specs.declared.content.LineContent.{LineContent}
 use Rattle.m51_emit.specs.Outcomes.{made_with_all, leftmost_fault}
-use Rattle.m51_emit.specs.Content.{Content, outcomes_by, content_by}
+use Rattle.m51_emit.specs.Content.{EmittedContent, outcomes_by, content_by}
 
 -- this content, and the fault of the parts that it is made of, with `made` fixups before them
-abbrev pub given : Content → ℕ → List Outcome → LineContent
+abbrev pub given : EmittedContent → ℕ → List Outcome → LineContent
 given c made parts = record { content = c; fault = leftmost_fault made parts; made = made_with_all made parts }
 
 -- what a line gives, with `made` fixups before it

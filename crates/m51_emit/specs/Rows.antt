@@ -3,7 +3,7 @@ use Rattle.std.specs.Prelude.{ℕ, ◌%◌, ◌||◌, Bool, true, false, if◌th
 use Rattle.std.specs.Prelude.{replicate, Option, Some, None, is_some}
 use Rattle.m51_module.specs.declared.source.Row.{Row}
 use Rattle.m51_stmt.specs.Statement.{StmtTree, BodyTree, Code, Db, Dw, Ds, Dbit}
-use Rattle.m51_emit.specs.Content.{Content, ReferenceAt}
+use Rattle.m51_emit.specs.Content.{EmittedContent, ReferenceAt}
 
 -- an instruction, DB, DW, DS or DBIT
 abbrev pub has_place : BodyTree → Bool
@@ -27,7 +27,7 @@ is_any [] = false
 is_any (r ∷ more) = true
 
 -- the row of a line of a file, at this place and with this content
-abbrev pub row_in : ℕ → ℕ → Option ℕ → Content → Row
+abbrev pub row_in : ℕ → ℕ → Option ℕ → EmittedContent → Row
 row_in file line place c = record {
   file = file;
   line = line;

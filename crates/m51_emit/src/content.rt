@@ -16,7 +16,7 @@ pub type References = ListOf<ReferenceAt>;
 ///
 /// Source: own choice ("Content of a line").
 #[derive(Drop)]
-pub struct Content {
+pub struct EmittedContent {
     /// The bytes, with 0 where the linker fills in.
     pub bytes: Bytes,
     pub references: References,
@@ -27,7 +27,7 @@ pub struct Content {
 /// Source: own choice ("Content of a line").
 #[derive(Drop)]
 pub struct LineContent {
-    pub content: Content,
+    pub content: EmittedContent,
     /// The fault of the leftmost operand or item that has one: 7 to 10, 14, or 19 for a fixup too many.
     pub fault: Option<u8>,
     /// How many fixups the text makes down to this line.

@@ -9,16 +9,16 @@ use m51_encode::Outcome;
 
 /// How many fixups are made, and the leftmost fault of a line down to an operand or item.
 #[derive(Clone, Copy)]
-pub(crate) struct Count {
+pub(crate) struct FixupCount {
     pub(crate) made: usize,
     pub(crate) fault: Option<u8>,
 }
 
 /// The count at the beginning of a line, with `made` fixups before it.
-pub(crate) fn none_of(made: usize) -> Count
+pub(crate) fn none_of(made: usize) -> FixupCount
     ensures { result ≡ none_of made }
 {
-    Count { made, fault: None }
+    FixupCount { made, fault: None }
 }
 
 // Whether one more fixup can be made.
@@ -50,17 +50,17 @@ fn part_fault(made: usize, part: Outcome) -> Option<u8>
 }
 
 /// Counts one more part.
-pub(crate) fn counted(count: Count, part: Outcome) -> Count
+pub(crate) fn counted(count: FixupCount, part: Outcome) -> FixupCount
     ensures { result ≡ counted count part }
 {
-    Count {
+    FixupCount {
         made: made_with(count.made, part),
         fault: count.fault.or(part_fault(count.made, part)),
     }
 }
 
 /// Counts the three operands of an instruction.
-pub(crate) fn counted_operands(count: Count, operands: [Outcome; 3]) -> Count
+pub(crate) fn counted_operands(count: FixupCount, operands: [Outcome; 3]) -> FixupCount
     ensures { result ≡ counted_all count operands }
 {
     let [first, second, third] = operands;

@@ -4,7 +4,7 @@ ghost use Rattle.m51_emit.specs.Pieces.{before_runs};
 ghost use Rattle.m51_emit.specs.Within.{LieInside, EndsInMemory, AreInMemory};
 ghost use Rattle.m51_emit.specs.Gathering.{with_run, with_line, pieces_in, all_pieces, all_fixups};
 
-use crate::content::Content;
+use crate::content::EmittedContent;
 use crate::fixups::push_fixups;
 use crate::pieces::push_pieces;
 use m51_cells::{Bytes, NoMemory};
@@ -127,7 +127,7 @@ impl SegmentContent {
         alloc: Global,
         segments: &[Segment],
         at: usize,
-        content: &Content,
+        content: &EmittedContent,
     ) -> Result<(), NoMemory>
         requires memory { at + length content.now.bytes ≤ 65536 }
         requires inside { LieInside (length content.now.bytes) content.now.references }

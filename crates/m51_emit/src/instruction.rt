@@ -5,7 +5,7 @@ ghost use Rattle.m51_encode.specs.Coding.{coded, outcomes};
 ghost use Rattle.m51_emit.specs.Content.{placed_from, coded_content};
 ghost use Rattle.m51_emit.specs.Lines.{given};
 
-use crate::content::{Content, LineContent, ReferenceAt, References};
+use crate::content::{EmittedContent, LineContent, ReferenceAt, References};
 use crate::counting::{counted_operands, none_of};
 use m51_cells::{Bytes, Name, NoMemory};
 use m51_encode::{Coded, CodingError, Reference, code};
@@ -53,15 +53,18 @@ fn references_of(alloc: Global, references: [Option<Reference>; 3]) -> Result<Re
 }
 
 // The bytes and references of an instruction; nothing where an operand has a fault.
-fn coded_content(alloc: Global, coded: Result<Coded, CodingError>) -> Result<Content, NoMemory>
+fn coded_content(
+    alloc: Global,
+    coded: Result<Coded, CodingError>,
+) -> Result<EmittedContent, NoMemory>
     ensures { IfOk result (λ content. content ≡ coded_content coded) }
 {
     match coded {
-        Ok(coded) => Ok(Content {
+        Ok(coded) => Ok(EmittedContent {
             bytes: bytes_of(alloc, &coded.code)?,
             references: references_of(alloc, coded.references)?,
         }),
-        Err(_) => Ok(Content {
+        Err(_) => Ok(EmittedContent {
             bytes: Bytes::new(alloc),
             references: References::new(alloc),
         }),

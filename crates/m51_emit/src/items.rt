@@ -8,8 +8,8 @@ ghost use Rattle.m51_emit.specs.Counting.{counted};
 ghost use Rattle.m51_emit.specs.Lines.{given};
 ghost use Rattle.m51_emit.specs.Growing.{content_in};
 
-use crate::content::{Content, LineContent, ReferenceAt, References};
-use crate::counting::{Count, counted, none_of};
+use crate::content::{EmittedContent, LineContent, ReferenceAt, References};
+use crate::counting::{FixupCount, counted, none_of};
 use m51_cells::{Bytes, NoMemory};
 use m51_encode::{CodingError, FieldValue, Outcome, Width, item_field, push_item};
 use m51_expr::{Item, Lookup};
@@ -17,10 +17,10 @@ use std::alloc::Global;
 
 /// What a line gives, as it grows item by item.
 #[derive(Drop)]
-pub(crate) struct Growing {
+pub(crate) struct GrowingContent {
     bytes: Vec<u8>,
     references: Vec<ReferenceAt>,
-    count: Count,
+    count: FixupCount,
 }
 
 // The outcome of an item with this field.
@@ -50,7 +50,7 @@ fn push_reference(
 
 // What an item gives whose field is this one.
 fn push_given(
-    growing: &mut Growing,
+    growing: &mut GrowingContent,
     width: Width,
     item: &Item,
     field: Result<Option<FieldValue>, CodingError>,
@@ -68,7 +68,7 @@ fn push_given(
 
 // Appends what one more item gives.
 fn push<L: Lookup>(
-    growing: &mut Growing,
+    growing: &mut GrowingContent,
     names: &L,
     width: Width,
     item: &Item,
@@ -84,20 +84,20 @@ fn push<L: Lookup>(
 }
 
 // What the line gives with the items so far.
-fn line_of(growing: Growing) -> LineContent
+fn line_of(growing: GrowingContent) -> LineContent
     ensures { result ≡ record {
       content = content_in growing;
       fault = growing.count.fault;
       made = growing.count.made;
     } }
 {
-    let Growing {
+    let GrowingContent {
         bytes,
         references,
         count,
     } = growing;
     LineContent {
-        content: Content {
+        content: EmittedContent {
             bytes: Bytes::of(bytes),
             references: References::of(references),
         },
@@ -118,7 +118,7 @@ pub(crate) fn items_content<L: Lookup>(
         IfOk result (λ line. line ≡ given (joined (map (item_content names width) items)) made
         (map (λ item. item_outcome (item_field names width item)) items)) }
 {
-    let mut growing = Growing {
+    let mut growing = GrowingContent {
         bytes: Vec::new(alloc),
         references: Vec::new(alloc),
         count: none_of(made),

@@ -13,7 +13,7 @@ mod pieces;
 mod publics;
 mod rows;
 
-pub use content::{Content, LineContent, ReferenceAt, References};
+pub use content::{EmittedContent, LineContent, ReferenceAt, References};
 pub use gathering::{ModuleContent, SegmentContent, gather};
 pub use laws::{
     bytes_fill, content_fails_by_six, content_grows, instructions_are_coded, instructions_fill,

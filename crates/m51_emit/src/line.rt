@@ -4,7 +4,7 @@ ghost use Rattle.m51_stmt.specs.Statement.{body_tree};
 ghost use Rattle.m51_emit.specs.Content.{nothing};
 ghost use Rattle.m51_emit.specs.Lines.{given, line_given};
 
-use crate::content::{Content, LineContent, References};
+use crate::content::{EmittedContent, LineContent, References};
 use crate::instruction::instruction_content;
 use crate::items::items_content;
 use m51_cells::{Bytes, NoMemory};
@@ -19,7 +19,7 @@ fn nothing_more(alloc: Global, made: usize) -> LineContent
     ensures { result ≡ given nothing made [] }
 {
     LineContent {
-        content: Content {
+        content: EmittedContent {
             bytes: Bytes::new(alloc),
             references: References::new(alloc),
         },

@@ -3,7 +3,7 @@ ghost use Rattle.std.specs.Prelude.{◌≡◌, ◌<◌, ◌^◌, length};
 ghost use Rattle.m51_stmt.specs.Statement.{body_tree, stmt_tree};
 ghost use Rattle.m51_emit.specs.Rows.{has_place, place_in, first_three, is_any, row_in};
 
-use crate::content::{Content, ReferenceAt};
+use crate::content::{EmittedContent, ReferenceAt};
 use m51_module::Row;
 use m51_stmt::{Body, Stmt};
 
@@ -54,7 +54,7 @@ fn is_any(references: &[ReferenceAt]) -> bool
 /// whether the line has a fixup, in these bytes or past them.
 ///
 /// Source: own choice ("Listing").
-pub fn row_of(file: u16, line: u32, place: Option<u16>, content: &Content) -> Row
+pub fn row_of(file: u16, line: u32, place: Option<u16>, content: &EmittedContent) -> Row
     ensures { result ≡ row_in file line place content.now }
 {
     let bytes = content.bytes.as_slice();

@@ -14,7 +14,7 @@ use Rattle.m51_hex.specs.declared.error.HexError.{HexError}
 use Rattle.m51_hex.specs.declared.error.HexError.TheVariants.{H1, H2, H3, H4}
 use Rattle.m51_hex.specs.declared.records.RecordType.TheVariants.{Data, EndOfFile}
 use Rattle.m51_hex.specs.Line.{bytes_of, bytes_in, count_in, address_in, type_in, has_form, record_from, record_in, record_of}
-use Rattle.m51_hex.specs.Record.{Record, IsRecord, TakesData, colon, type_byte, fields_of, checksum_of, text_of}
+use Rattle.m51_hex.specs.Record.{HexRecord, IsRecord, TakesData, colon, type_byte, fields_of, checksum_of, text_of}
 use Rattle.m51_hex.proofs.DigitLaws.{upper_digits, bytes_below}
 use Rattle.m51_hex.proofs.RecordLaws.{whole_of}
 
@@ -158,17 +158,17 @@ writes_by (a ∷ b ∷ c ∷ []) below form total = absurd (omega (arith, form.l
 writes_by (count ∷ high ∷ low ∷ type ∷ rest) below form total = writes count high low type rest below form total
 
 -- the record of the bytes of a line
-bytes_write : (number : ℕ) (bytes : List ℕ) (r : Record) → AllByRecursion (λ byte. byte < 256) bytes → record_in number bytes ≡ Ok r → Writes bytes × (record_from bytes ≡ r)
+bytes_write : (number : ℕ) (bytes : List ℕ) (r : HexRecord) → AllByRecursion (λ byte. byte < 256) bytes → record_in number bytes ≡ Ok r → Writes bytes × (record_from bytes ≡ r)
 unfolding record_in
 bytes_write number bytes r below h =
-    let read : Result Record HexError = Ok (record_from bytes) in
-    let second : Result Record HexError = cond (not (eqb (sum bytes % 256) 0)) (Err (H4 number)) read in
+    let read : Result HexRecord HexError = Ok (record_from bytes) in
+    let second : Result HexRecord HexError = cond (not (eqb (sum bytes % 256) 0)) (Err (H4 number)) read in
     let one = passed (has_form bytes) (H3 number) second r h in
     let two = passed (eqb (sum bytes % 256) 0) (H4 number) read r one.1 in
     (writes_by bytes below (form_parts bytes one.0) (eqb-true (sum bytes % 256) 0 two.0), same_Ok {E = HexError} (record_from bytes) r two.1)
 
 -- a line that is read is the text of its record in either case
-pub read_is_text : (number : ℕ) (line : List ℕ) (r : Record) → record_of number line ≡ Ok r → IsRecord r × (map to_ascii_uppercase line ≡ text_of r)
+pub read_is_text : (number : ℕ) (line : List ℕ) (r : HexRecord) → record_of number line ≡ Ok r → IsRecord r × (map to_ascii_uppercase line ≡ text_of r)
 unfolding record_of text_of
 read_is_text number line r h =
     let bytes = step_value (bytes_in number line) (record_in number) r h in
@@ -176,5 +176,5 @@ read_is_text number line r h =
     let below = subst (AllByRecursion (λ byte. byte < 256)) reads.is (bytes_below (drop 1 line) reads.digits) in
     let written = bytes_write number bytes.0 r below bytes.2 in (
       subst IsRecord written.1 written.0.record_is,
-      upper_line line bytes.0 reads ∙ ap (λ (b : List ℕ). colon ∷ flat_map hex2 b) (sym written.0.is) ∙ ap (λ (one : Record). colon ∷ flat_map hex2 (whole_of one)) written.1,
+      upper_line line bytes.0 reads ∙ ap (λ (b : List ℕ). colon ∷ flat_map hex2 b) (sym written.0.is) ∙ ap (λ (one : HexRecord). colon ∷ flat_map hex2 (whole_of one)) written.1,
     )

@@ -11,7 +11,7 @@ use Rattle.m51_hex.specs.declared.records.RecordType.TheVariants.{Data, EndOfFil
 use Rattle.m51_hex.specs.Memory.{Memory, erased, stored}
 use Rattle.m51_hex.specs.Line.{record_of}
 use Rattle.m51_hex.specs.Reading.{after, records_from, line_read, memory_from, refusal_of}
-use Rattle.m51_hex.specs.Record.{Record}
+use Rattle.m51_hex.specs.Record.{HexRecord}
 
 -- a memory, or an error, as a result
 abbrev pub memory_as : Memory → Result Memory HexError
@@ -21,7 +21,7 @@ abbrev refused_as : HexError → Result Memory HexError
 refused_as e = Err e
 
 -- what a line with this record gives over a memory
-abbrev line_answer : Memory → Record → Result (RecordType × Memory) HexError
+abbrev line_answer : Memory → HexRecord → Result (RecordType × Memory) HexError
 line_answer memory r = Ok (r.kind, stored memory r)
 
 -- the memory after the records of these lines, which count from that number, are put over a memory
@@ -37,29 +37,29 @@ unfolding memory_from
 begins memory text e = ap (λ (m : Memory). going_on m 1 text) e
 
 -- what is read of a line and of those after it
-line_then : (memory : Memory) (number : ℕ) (line : List ℕ) (more : List (List ℕ)) (read : Result Record HexError) → record_of number line ≡ read
+line_then : (memory : Memory) (number : ℕ) (line : List ℕ) (more : List (List ℕ)) (read : Result HexRecord HexError) → record_of number line ≡ read
     → after_lines memory number (line ∷ more) ≡ ((read >>= λ r. after r.kind (records_from (number + 1) more) >>= λ others. Ok (r ∷ others)) >>= λ records. Ok (fold stored memory records))
 line_then memory number line more read is =
-    ap (λ (x : Result Record HexError). (x >>= λ r. after r.kind (records_from (number + 1) more) >>= λ others. Ok (r ∷ others)) >>= λ records. Ok (fold stored memory records)) is
+    ap (λ (x : Result HexRecord HexError). (x >>= λ r. after r.kind (records_from (number + 1) more) >>= λ others. Ok (r ∷ others)) >>= λ records. Ok (fold stored memory records)) is
 
-one_before : (memory : Memory) (r : Record) (others : Result (List Record) HexError) → ((others >>= λ records. Ok (r ∷ records)) >>= λ records. Ok (fold stored memory records)) ≡ (others >>= λ records. Ok (fold stored (stored memory r) records))
+one_before : (memory : Memory) (r : HexRecord) (others : Result (List HexRecord) HexError) → ((others >>= λ records. Ok (r ∷ records)) >>= λ records. Ok (fold stored memory records)) ≡ (others >>= λ records. Ok (fold stored (stored memory r) records))
 one_before memory r (Ok records) = refl
 one_before memory r (Err e) = refl
 
 -- a line whose record is read, and the lines after it
-read_then : (memory : Memory) (number : ℕ) (line : List ℕ) (more : List (List ℕ)) (r : Record) → record_of number line ≡ Ok r
+read_then : (memory : Memory) (number : ℕ) (line : List ℕ) (more : List (List ℕ)) (r : HexRecord) → record_of number line ≡ Ok r
     → after_lines memory number (line ∷ more) ≡ (after r.kind (records_from (number + 1) more) >>= λ records. Ok (fold stored (stored memory r) records))
 read_then memory number line more r is =
     line_then memory number line more (Ok r) is ∙ one_before memory r (after r.kind (records_from (number + 1) more))
 
 -- the record of a line that was read over a memory
 pub record LineHas (memory : Memory) (number : ℕ) (line : List ℕ) (kind : RecordType) (new : Memory) : Type 0 where
-  pub one : Record
+  pub one : HexRecord
   pub is : record_of number line ≡ Ok one
   pub kind_is : one.kind ≡ kind
   pub new_is : stored memory one ≡ new
 
-line_has_by : (memory : Memory) (number : ℕ) (line : List ℕ) (kind : RecordType) (new : Memory) (read : Result Record HexError) → record_of number line ≡ read
+line_has_by : (memory : Memory) (number : ℕ) (line : List ℕ) (kind : RecordType) (new : Memory) (read : Result HexRecord HexError) → record_of number line ≡ read
     → (read >>= line_answer memory) ≡ Ok (kind, new) → LineHas memory number line kind new
 line_has_by memory number line kind new (Ok r) is e = record {
   one = r;
@@ -95,7 +95,7 @@ ends memory new number text line rest whole front read so_far =
     ∙ ap (λ (m : Memory). memory_as m) h.new_is
 
 -- a line that is refused is the answer
-refused_by : (e : HexError) (memory : Memory) (number : ℕ) (line : List ℕ) (more : List (List ℕ)) (read : Result Record HexError) → record_of number line ≡ read
+refused_by : (e : HexError) (memory : Memory) (number : ℕ) (line : List ℕ) (more : List (List ℕ)) (read : Result HexRecord HexError) → record_of number line ≡ read
     → (read >>= line_answer memory) ≡ Err e → after_lines memory number (line ∷ more) ≡ Err e
 refused_by e memory number line more (Ok r) is h = absurd cc
 refused_by e memory number line more (Err d) is h = line_then memory number line more (Err d) is ∙ ap (λ (x : HexError). refused_as x) (same_Err {A = RecordType × Memory} d e h)

@@ -14,18 +14,18 @@ use Rattle.m51_hex.specs.declared.error.HexError.{HexError}
 use Rattle.m51_hex.specs.declared.records.RecordType.{RecordType}
 use Rattle.m51_hex.specs.declared.records.RecordType.TheVariants.{Data, EndOfFile}
 use Rattle.m51_hex.specs.Line.{bytes_in, has_form, record_from, record_in, record_of}
-use Rattle.m51_hex.specs.Record.{Record, IsRecord, TakesData, colon, type_byte, fields_of, checksum_of, text_of}
+use Rattle.m51_hex.specs.Record.{HexRecord, IsRecord, TakesData, colon, type_byte, fields_of, checksum_of, text_of}
 use Rattle.m51_hex.proofs.DigitLaws.{Reads, digits_read, written_is_upper}
 
 -- the bytes of a record: its fields and its checksum
-abbrev pub whole_of : Record → List ℕ
+abbrev pub whole_of : HexRecord → List ℕ
 whole_of r = fields_of r ++ checksum_of (fields_of r) ∷ []
 
 -- what was read, as a result
 abbrev read_as : List ℕ → Result (List ℕ) HexError
 read_as bytes = Ok bytes
 
-abbrev record_as : Record → Result Record HexError
+abbrev record_as : HexRecord → Result HexRecord HexError
 record_as r = Ok r
 
 -- ---- the bytes that are written
@@ -42,7 +42,7 @@ checksum_below : (fields : List ℕ) → checksum_of fields < 256
 unfolding checksum_of
 checksum_below fields = omega arith
 
-pub whole_below : (r : Record) → IsRecord r → AllByRecursion (λ byte. byte < 256) (whole_of r)
+pub whole_below : (r : HexRecord) → IsRecord r → AllByRecursion (λ byte. byte < 256) (whole_of r)
 unfolding fields_of
 whole_below r h =
     let fields : List ℕ = length r.bytes ∷ (r.address / 256) ∷ (r.address % 256) ∷ type_byte r.kind ∷ r.bytes in
@@ -55,7 +55,7 @@ form_of : (kind : RecordType) (address count : ℕ) → TakesData kind address c
 form_of Data address count h = le-leb (address + count) 65536 h
 form_of EndOfFile address count h = eq-eqb count 0 h
 
-written_has_form : (r : Record) → IsRecord r → has_form (whole_of r) ≡ true
+written_has_form : (r : HexRecord) → IsRecord r → has_form (whole_of r) ≡ true
 unfolding has_form fields_of
 written_has_form r h =
     let count = length r.bytes in
@@ -73,10 +73,10 @@ kind_back : (kind : RecordType) → cond (eqb (type_byte kind) 0) Data EndOfFile
 kind_back Data = refl
 kind_back EndOfFile = refl
 
-abbrev made : RecordType → ℕ → List ℕ → Record
+abbrev made : RecordType → ℕ → List ℕ → HexRecord
 made kind address bytes = record { kind = kind; address = address; bytes = bytes }
 
-written_is_record : (r : Record) → record_from (whole_of r) ≡ r
+written_is_record : (r : HexRecord) → record_from (whole_of r) ≡ r
 unfolding record_from fields_of
 written_is_record r =
     let last = checksum_of (fields_of r) in
@@ -100,7 +100,7 @@ first_is_colon : (first : ℕ) → to_ascii_uppercase first ≡ colon → first 
 first_is_colon first e = grind (arith, nat_tests)
 
 -- the text of a record in either case is read as it
-pub text_is_read : (number : ℕ) (line : List ℕ) (r : Record) → IsRecord r → map to_ascii_uppercase line ≡ text_of r → record_of number line ≡ Ok r
+pub text_is_read : (number : ℕ) (line : List ℕ) (r : HexRecord) → IsRecord r → map to_ascii_uppercase line ≡ text_of r → record_of number line ≡ Ok r
 unfolding record_of text_of
 text_is_read number [] r h e = absurd cc
 text_is_read number (first ∷ digits) r h e =
@@ -109,9 +109,9 @@ text_is_read number (first ∷ digits) r h e =
     let reads = digits_read (whole_of r) digits (whole_below r h) upper in
     ap (λ (x : Result (List ℕ) HexError). x >>= record_in number) (line_of_digits number first digits (whole_of r) (first_is_colon first begins) reads)
     ∙ bytes_of_record number (whole_of r) (written_has_form r h) (written_sum (fields_of r))
-    ∙ ap (λ (x : Record). record_as x) (written_is_record r)
+    ∙ ap (λ (x : HexRecord). record_as x) (written_is_record r)
 
 -- and the text of a record is in upper case
-pub text_is_upper : (r : Record) → IsRecord r → map to_ascii_uppercase (text_of r) ≡ text_of r
+pub text_is_upper : (r : HexRecord) → IsRecord r → map to_ascii_uppercase (text_of r) ≡ text_of r
 unfolding text_of
 text_is_upper r h = ap (λ (digits : List ℕ). colon ∷ digits) (written_is_upper (whole_of r) (whole_below r h))

@@ -15,7 +15,7 @@ use Rattle.m51_hex.specs.declared.records.RecordType.TheVariants.{EndOfFile}
 use Rattle.m51_hex.specs.Laws.{is_in_run, is_in_runs, IsErasedOutside}
 use Rattle.m51_hex.specs.Memory.{Memory, memory_in, erased, stored, memory_of}
 use Rattle.m51_hex.specs.Reading.{records_from, memory_from}
-use Rattle.m51_hex.specs.Record.{Record, IsRecord, line_of}
+use Rattle.m51_hex.specs.Record.{HexRecord, IsRecord, line_of}
 use Rattle.m51_hex.specs.Writing.{IsWithin, end_of, records_of, last_record, hex_of}
 use Rattle.m51_hex.proofs.LineSteps.{memory_as}
 use Rattle.m51_hex.proofs.RunRecords.{run_inside, run_outside, run_is_data}
@@ -25,7 +25,7 @@ use Rattle.m51_hex.proofs.WrittenLines.{IsData, records_back}
 -- ---- all runs
 
 -- the records of data of a file
-abbrev data_of : List ℕ → List Run → List Record
+abbrev data_of : List ℕ → List Run → List HexRecord
 data_of image runs = flat_map (records_of image) runs
 
 lines_joined : (image : List ℕ) (runs : List Run) → flat_map (λ run. flat_map line_of (records_of image run)) runs ≡ flat_map line_of (data_of image runs)
@@ -34,7 +34,7 @@ lines_joined image (run ∷ runs) =
     ap (λ (t : List ℕ). flat_map line_of (records_of image run) ++ t) (lines_joined image runs)
     ∙ sym (flat_map-append line_of (records_of image run) (data_of image runs))
 
-joined : (one two : List Record) → AllByRecursion IsData one → AllByRecursion IsData two → AllByRecursion IsData (one ++ two)
+joined : (one two : List HexRecord) → AllByRecursion IsData one → AllByRecursion IsData two → AllByRecursion IsData (one ++ two)
 joined [] two h k = k
 joined (r ∷ one) two h k = (h.0, joined one two h.1 k)
 
@@ -105,5 +105,5 @@ written_is_read image runs h =
     let records = data_of image runs in
     let data_is = all_are_data image runs h.whole h.bytes (recursion_from_All IsWithin runs h.within) in
     ap (λ (t : List ℕ). records_from 1 (lines (t ++ line_of last_record)) >>= λ rs. memory_as (memory_of rs)) (lines_joined image runs)
-    ∙ ap (λ (read : Result (List Record) HexError). read >>= λ rs. memory_as (memory_of rs)) (records_back 1 records last_record data_is last_is_record refl)
+    ∙ ap (λ (read : Result (List HexRecord) HexError). read >>= λ rs. memory_as (memory_of rs)) (records_back 1 records last_record data_is last_is_record refl)
     ∙ ap (λ (m : Memory). memory_as m) (memory_back image runs h)

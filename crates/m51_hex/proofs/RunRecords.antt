@@ -7,7 +7,7 @@ use Rattle.std.proofs.lemmas.List.FromFn.{map-range_with_len_more}
 use Rattle.std.proofs.lemmas.List.Sums.{fold_push}
 use Rattle.m51_module.specs.declared.linked.Run.{Run}
 use Rattle.m51_hex.specs.Memory.{Memory, memory_in, stored}
-use Rattle.m51_hex.specs.Record.{Record}
+use Rattle.m51_hex.specs.Record.{HexRecord}
 use Rattle.m51_hex.specs.Writing.{IsWithin, end_of, count_of_records, record_at, records_of}
 use Rattle.m51_hex.proofs.StoredBytes.{stored_inside, stored_before, stored_after}
 use Rattle.m51_hex.proofs.WrittenLines.{IsData}
@@ -72,7 +72,7 @@ module _ (image : List ℕ) (run : Run) (whole : length image ≡ 65536) (within
   after_more m count address =
       let next : suc count ≡ count + 1 = omega arith in
       ap (λ (n : ℕ). after m n address) next
-      ∙ ap (λ (rs : List Record). fold stored m rs address) (map-range_with_len_more (record_at image run) 0 count count (omega arith))
+      ∙ ap (λ (rs : List HexRecord). fold stored m rs address) (map-range_with_len_more (record_at image run) 0 count count (omega arith))
       ∙ ap (λ (n : Memory). n address) (fold_push stored m (map (record_at image run) (range_with_len 0 count)) (record_at image run count))
 
   after_outside : (m : Memory) (count address : ℕ) → (address < run.first) ⊎ (up_to count ≤ address) → after m count address ≡ m address

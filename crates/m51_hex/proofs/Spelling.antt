@@ -4,7 +4,7 @@ use Rattle.std.specs.Prelude.{flat_map}
 use Rattle.std.proofs.lemmas.List.Concat.{flat_map-append}
 use Rattle.std.proofs.lemmas.List.Sums.{sum_by-append}
 use Rattle.m51_cells.specs.Hex.{hex2}
-use Rattle.m51_hex.specs.Record.{Record, colon, line_feed, fields_of, checksum_of, text_of, line_of}
+use Rattle.m51_hex.specs.Record.{HexRecord, colon, line_feed, fields_of, checksum_of, text_of, line_of}
 
 -- a byte that brings the sum of both parts to a multiple of 256
 pub checksum_of_parts : (front bytes : List ℕ) (byte : ℕ) → byte < 256 → (byte + (sum front % 256 + sum bytes % 256) % 256) % 256 ≡ 0 → byte ≡ checksum_of (front ++ bytes)
@@ -18,7 +18,7 @@ digits_of_parts front bytes checksum =
     ∙ ap (λ d. d ++ hex2 checksum) (flat_map-append hex2 front bytes)
 
 -- what is appended part by part is the line
-pub line_of_parts : (text front : List ℕ) (r : Record) → front ++ r.bytes ≡ fields_of r
+pub line_of_parts : (text front : List ℕ) (r : HexRecord) → front ++ r.bytes ≡ fields_of r
     → ((((text ++ colon ∷ []) ++ flat_map hex2 front) ++ flat_map hex2 r.bytes) ++ hex2 (checksum_of (front ++ r.bytes))) ++ line_feed ∷ [] ≡ text ++ line_of r
 unfolding text_of
 line_of_parts text front r fields =

@@ -5,7 +5,7 @@ use Rattle.std.proofs.lemmas.List.{length-take-le, get_or_default, get_or_past, 
 use Rattle.m51_module.specs.Image.{IsBlank}
 use Rattle.m51_hex.specs.declared.records.RecordType.{RecordType}
 use Rattle.m51_hex.specs.Memory.{Memory, memory_in, erased, stored}
-use Rattle.m51_hex.specs.Record.{Record}
+use Rattle.m51_hex.specs.Record.{HexRecord}
 
 -- memories that agree at each address are one
 pub same_memory : (m n : Memory) → ((address : ℕ) → m address ≡ n address) → m ≡ n
@@ -20,16 +20,16 @@ memory_in-blank image blank = same_memory (memory_in image) erased (λ address.
     ])
 
 -- the data are stored from the address of the record on
-pub stored_inside : (m : Memory) (r : Record) (address : ℕ) → r.address ≤ address → address < r.address + length r.bytes → stored m r address ≡ slice_index r.bytes (address - r.address)
+pub stored_inside : (m : Memory) (r : HexRecord) (address : ℕ) → r.address ≤ address → address < r.address + length r.bytes → stored m r address ≡ slice_index r.bytes (address - r.address)
 unfolding stored
 stored_inside m r address from below = rw (le-leb r.address address from, lt-ltb address (r.address + length r.bytes) below) refl
 
 -- before and after them nothing changes
-pub stored_before : (m : Memory) (r : Record) (address : ℕ) → address < r.address → stored m r address ≡ m address
+pub stored_before : (m : Memory) (r : HexRecord) (address : ℕ) → address < r.address → stored m r address ≡ m address
 unfolding stored
 stored_before m r address below = rw (lt-leb r.address address below) refl
 
-pub stored_after : (m : Memory) (r : Record) (address : ℕ) → r.address + length r.bytes ≤ address → stored m r address ≡ m address
+pub stored_after : (m : Memory) (r : HexRecord) (address : ℕ) → r.address + length r.bytes ≤ address → stored m r address ≡ m address
 unfolding stored
 stored_after m r address beyond =
     let from : r.address ≤ address = omega arith in
@@ -44,7 +44,7 @@ stored_none m kind at = same_memory m (stored m (record { kind = kind; address =
     ])
 
 -- the first `count` bytes of some data
-abbrev part : RecordType → ℕ → List ℕ → ℕ → Record
+abbrev part : RecordType → ℕ → List ℕ → ℕ → HexRecord
 part kind at bytes count = record { kind = kind; address = at; bytes = take count bytes }
 
 part_inside : (m : Memory) (kind : RecordType) (at : ℕ) (bytes : List ℕ) (count address : ℕ) → count ≤ length bytes → at ≤ address → address < at + count → stored m (part kind at bytes count) address ≡ slice_index bytes (address - at)

@@ -18,7 +18,7 @@ use Rattle.m51_hex.specs.declared.records.RecordType.{RecordType}
 use Rattle.m51_hex.specs.declared.records.RecordType.TheVariants.{Data, EndOfFile}
 use Rattle.m51_hex.specs.Line.{record_of}
 use Rattle.m51_hex.specs.Reading.{after, records_from}
-use Rattle.m51_hex.specs.Record.{Record, IsRecord, line_feed, text_of, line_of}
+use Rattle.m51_hex.specs.Record.{HexRecord, IsRecord, line_feed, text_of, line_of}
 use Rattle.m51_hex.proofs.RecordLaws.{whole_of, whole_below, text_is_read, text_is_upper}
 
 -- ---- no character of a record's text ends a line
@@ -32,7 +32,7 @@ digits_high (b ∷ bs) below =
     let fits : b < 256 = below.0 in
     (glyph_high (b / 16) (omega (arith, fits)), (glyph_high (b % 16) (omega arith), digits_high bs below.1))
 
-text_high : (r : Record) → IsRecord r → AllByRecursion (λ c. 48 ≤ c) (text_of r)
+text_high : (r : HexRecord) → IsRecord r → AllByRecursion (λ c. 48 ≤ c) (text_of r)
 unfolding text_of
 text_high r h = (omega arith, digits_high (whole_of r) (whole_below r h))
 
@@ -49,7 +49,7 @@ no_return : (text : List ℕ) → AllByRecursion (λ c. 48 ≤ c) text → strip
 no_return text high = ap (λ (b : Bool). cond b (take (length text - 1) text) text) (ne_eqb (get_or text (length text - 1) 0) 13 (at_high (length text - 1) text high))
 
 -- the line of a record is the first line
-line_first : (r : Record) (rest : List ℕ) → IsRecord r → lines (line_of r ++ rest) ≡ text_of r ∷ lines rest
+line_first : (r : HexRecord) (rest : List ℕ) → IsRecord r → lines (line_of r ++ rest) ≡ text_of r ∷ lines rest
 line_first r rest h =
     let high = text_high r h in
     let parts = slice_split is_line_feed rest in
@@ -60,22 +60,22 @@ line_first r rest h =
 
 -- ---- the records that are read
 
-abbrev read_as : List Record → Result (List Record) HexError
+abbrev read_as : List HexRecord → Result (List HexRecord) HexError
 read_as records = Ok records
 
 -- a record of data
-pub record IsData (r : Record) : Type 0 where
+pub record IsData (r : HexRecord) : Type 0 where
   pub is : IsRecord r
   pub kind : r.kind ≡ Data
 
 -- the record of a line before those after it
-one_read : (number : ℕ) (line : List ℕ) (more : List (List ℕ)) (r : Record) → record_of number line ≡ Ok r
+one_read : (number : ℕ) (line : List ℕ) (more : List (List ℕ)) (r : HexRecord) → record_of number line ≡ Ok r
     → records_from number (line ∷ more) ≡ (after r.kind (records_from (number + 1) more) >>= λ others. Ok (r ∷ others))
 one_read number line more r is =
-    ap (λ (x : Result Record HexError). x >>= λ one. after one.kind (records_from (number + 1) more) >>= λ others. Ok (one ∷ others)) is
+    ap (λ (x : Result HexRecord HexError). x >>= λ one. after one.kind (records_from (number + 1) more) >>= λ others. Ok (one ∷ others)) is
 
 -- the lines of records of data and of one that ends the file are read as those records
-pub records_back : (number : ℕ) (records : List Record) (last : Record) → AllByRecursion IsData records → IsRecord last → last.kind ≡ EndOfFile
+pub records_back : (number : ℕ) (records : List HexRecord) (last : HexRecord) → AllByRecursion IsData records → IsRecord last → last.kind ≡ EndOfFile
     → records_from number (lines (flat_map line_of records ++ line_of last)) ≡ Ok (records ++ last ∷ [])
 records_back number [] last data_is last_is ends =
     let text : line_of last ≡ line_of last ++ [] = sym (append-nil (line_of last)) in
@@ -90,4 +90,4 @@ records_back number (r ∷ records) last data_is last_is ends =
     ∙ ap (records_from number) (line_first r rest one.is)
     ∙ one_read number (text_of r) (lines rest) r (text_is_read number (text_of r) r one.is (text_is_upper r one.is))
     ∙ ap (λ (k : RecordType). after k (records_from (number + 1) (lines rest)) >>= λ others. Ok (r ∷ others)) one.kind
-    ∙ ap (λ (x : Result (List Record) HexError). x >>= λ others. Ok (r ∷ others)) (records_back (number + 1) records last data_is.1 last_is ends)
+    ∙ ap (λ (x : Result (List HexRecord) HexError). x >>= λ others. Ok (r ∷ others)) (records_back (number + 1) records last data_is.1 last_is ends)

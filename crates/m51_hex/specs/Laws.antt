@@ -7,7 +7,7 @@ use Rattle.m51_module.specs.declared.linked.Run.{Run}
 use Rattle.m51_hex.specs.Memory.{memory_in}
 use Rattle.m51_hex.specs.Line.{record_of}
 use Rattle.m51_hex.specs.Reading.{memory_from}
-use Rattle.m51_hex.specs.Record.{Record, IsRecord, text_of}
+use Rattle.m51_hex.specs.Record.{HexRecord, IsRecord, text_of}
 use Rattle.m51_hex.specs.Writing.{IsWithin, end_of, hex_of}
 
 -- the address is one of the run
@@ -33,5 +33,5 @@ WrittenIsRead =
 
 -- a line is accepted as a record exactly if it is the text of that record, in either case of letters
 abbrev pub LinesAreRecords : Type 0
-LinesAreRecords = (number : ℕ) (line : List ℕ) (r : Record)
+LinesAreRecords = (number : ℕ) (line : List ℕ) (r : HexRecord)
     → (record_of number line ≡ Ok r) ↔ (IsRecord r × (map to_ascii_uppercase line ≡ text_of r))

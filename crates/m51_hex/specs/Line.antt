@@ -8,7 +8,7 @@ use Rattle.m51_cells.specs.Outcome.{◌>>=◌}
 use Rattle.m51_hex.specs.declared.error.HexError.{HexError}
 use Rattle.m51_hex.specs.declared.error.HexError.TheVariants.{H1, H2, H3, H4}
 use Rattle.m51_hex.specs.declared.records.RecordType.TheVariants.{Data, EndOfFile}
-use Rattle.m51_hex.specs.Record.{Record, colon}
+use Rattle.m51_hex.specs.Record.{HexRecord, colon}
 
 -- the bytes that digits write, two digits each
 abbrev pub bytes_of : List ℕ → List ℕ
@@ -47,7 +47,7 @@ has_form bytes =
     else type_in bytes == 1 && count_in bytes == 0)
 
 -- the record that such bytes write
-unfoldable pub record_from : List ℕ → Record
+unfoldable pub record_from : List ℕ → HexRecord
 record_from bytes = record {
   kind = if type_in bytes == 0 then Data else EndOfFile;
   address = address_in bytes;
@@ -56,14 +56,14 @@ record_from bytes = record {
 
 -- The record that the bytes of the line of this number write. H3: they have not the form of one. H4: their sum, the
 -- checksum among them, is no multiple of 256.
-unfoldable pub record_in : ℕ → List ℕ → Result Record HexError
+unfoldable pub record_in : ℕ → List ℕ → Result HexRecord HexError
 record_in number bytes =
     if not (has_form bytes) then Err (H3 number)
     else if not (sum bytes % 256 == 0) then Err (H4 number)
     else Ok (record_from bytes)
 
 -- the record of the line of this number, or the first test that it fails
-unfoldable pub record_of : ℕ → List ℕ → Result Record HexError
+unfoldable pub record_of : ℕ → List ℕ → Result HexRecord HexError
 record_of number line = do
   bytes ← bytes_in number line
   record_in number bytes

@@ -8,7 +8,7 @@ use Rattle.m51_hex.specs.declared.records.RecordType.{RecordType}
 use Rattle.m51_hex.specs.declared.records.RecordType.TheVariants.{Data, EndOfFile}
 use Rattle.m51_hex.specs.Line.{record_of}
 use Rattle.m51_hex.specs.Memory.{Memory, memory_in, memory_of, stored}
-use Rattle.m51_hex.specs.Record.{Record}
+use Rattle.m51_hex.specs.Record.{HexRecord}
 
 -- an error is the refusal itself; out of memory is none
 abbrev pub refusal_of : HexError → Option HexError
@@ -26,12 +26,12 @@ abbrev pub with_memory : List ℕ → RecordType → RecordType × Memory
 with_memory image kind = (kind, memory_in image)
 
 -- the records after one of this type; after a record of type 01 no line is read
-abbrev pub after : RecordType → Result (List Record) HexError → Result (List Record) HexError
+abbrev pub after : RecordType → Result (List HexRecord) HexError → Result (List HexRecord) HexError
 after Data others = others
 after EndOfFile others = Ok []
 
 -- the records of lines of which the first has this number, up to that of type 01; the first line that is refused; or H5
-abbrev pub records_from : ℕ → List (List ℕ) → Result (List Record) HexError
+abbrev pub records_from : ℕ → List (List ℕ) → Result (List HexRecord) HexError
 records_from number [] = Err H5
 records_from number (line ∷ lines) = do
   r ← record_of number line

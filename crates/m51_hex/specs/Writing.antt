@@ -3,7 +3,7 @@ use Rattle.std.specs.Prelude.{ℕ, ◌+◌, ◌*◌, ◌/◌, ◌≤◌, min, Li
 use Rattle.std.specs.List.{range_with_len, slice_range}
 use Rattle.m51_module.specs.declared.linked.Run.{Run}
 use Rattle.m51_hex.specs.declared.records.RecordType.TheVariants.{Data, EndOfFile}
-use Rattle.m51_hex.specs.Record.{Record, line_of}
+use Rattle.m51_hex.specs.Record.{HexRecord, line_of}
 
 -- the address after the last byte of a run
 abbrev pub end_of : Run → ℕ
@@ -18,17 +18,17 @@ abbrev pub count_of_records : Run → ℕ
 count_of_records run = (run.len + 15) / 16
 
 -- the record of that number: 16 bytes of the run, or those that are left, at the address of the first of them
-unfoldable pub record_at : List ℕ → Run → ℕ → Record
+unfoldable pub record_at : List ℕ → Run → ℕ → HexRecord
 record_at image run number =
     let first = run.first + 16 * number in
     record { kind = Data; address = first; bytes = slice_range image first (min (first + 16) (end_of run)) }
 
 -- the records of a run, by number
-unfoldable pub records_of : List ℕ → Run → List Record
+unfoldable pub records_of : List ℕ → Run → List HexRecord
 records_of image run = map (record_at image run) (range_with_len 0 (count_of_records run))
 
 -- the last record of a file
-abbrev pub last_record : Record
+abbrev pub last_record : HexRecord
 last_record = record { kind = EndOfFile; address = 0; bytes = [] }
 
 -- the lines of the runs, and the last one

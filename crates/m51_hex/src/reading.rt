@@ -8,7 +8,7 @@ ghost use Rattle.m51_hex.specs.Record.{seen};
 
 use crate::HexError;
 use crate::digits::{are_hex_digits, bytes_of};
-use crate::records::{Record, RecordType, has_form, low_sum, record_from};
+use crate::records::{HexRecord, RecordType, has_form, low_sum, record_from};
 use crate::storing::store;
 use m51_cells::first_line;
 use m51_module::Image;
@@ -33,7 +33,7 @@ fn bytes_in(alloc: Global, line: u32, text: &[u8]) -> Result<Vec<u8>, HexError>
 
 // The record that the bytes of a line write.
 #[tactic(auto, unfolding(crate::specs::Line::record_in))]
-fn record_in(line: u32, bytes: &[u8]) -> Result<Record<'_>, HexError>
+fn record_in(line: u32, bytes: &[u8]) -> Result<HexRecord<'_>, HexError>
     ensures gives { Gives seen refusal_of result (record_in line bytes.now) }
     ensures within { IfOk result (λ r. r.address + length r.bytes.now ≤ 0x10000) }
 {

@@ -17,7 +17,7 @@ pub(crate) enum RecordType {
 
 // A record: consecutive bytes of the image, or the end of the file.
 #[derive(Clone, Copy)]
-pub(crate) struct Record<'a> {
+pub(crate) struct HexRecord<'a> {
     // Its type.
     pub(crate) kind: RecordType,
     // The address of the first byte of the data.
@@ -69,7 +69,7 @@ pub(crate) fn has_form(bytes: &[u8]) -> bool
 
 // The record that bytes of that form write.
 #[tactic(auto, unfolding(crate::specs::Line::has_form, crate::specs::Line::record_from))]
-pub(crate) fn record_from(bytes: &[u8]) -> Record<'_>
+pub(crate) fn record_from(bytes: &[u8]) -> HexRecord<'_>
     requires { IsTrue (has_form bytes.now) }
     ensures is { seen result ≡ record_from bytes.now }
     ensures within { result.address + length result.bytes.now ≤ 0x10000 }
@@ -79,7 +79,7 @@ pub(crate) fn record_from(bytes: &[u8]) -> Record<'_>
     } else {
         RecordType::EndOfFile
     };
-    Record {
+    HexRecord {
         kind,
         address: u16::from_be_bytes([bytes[1], bytes[2]]),
         bytes: &bytes[4..4 + usize::from(bytes[0])],
@@ -88,7 +88,7 @@ pub(crate) fn record_from(bytes: &[u8]) -> Record<'_>
 
 // The count, the address and the type of a record, which come before its data.
 #[tactic(auto, unfolding(crate::specs::Record::fields_of))]
-fn front_of(record: &Record<'_>) -> [u8; 4]
+fn front_of(record: &HexRecord<'_>) -> [u8; 4]
     requires { length «record».now.bytes.now < 256 }
     ensures { result ++ «record».now.bytes.now ≡ fields_of (seen «record».now) }
 {
@@ -106,7 +106,7 @@ fn checksum_of(front: &[u8], bytes: &[u8]) -> u8
 }
 
 // Appends the line of a record.
-pub(crate) fn push_record(text: &mut Vec<u8>, record: &Record<'_>) -> Result<(), NoMemory>
+pub(crate) fn push_record(text: &mut Vec<u8>, record: &HexRecord<'_>) -> Result<(), NoMemory>
     requires { length «record».now.bytes.now < 256 }
     ensures { OnOk result (text.new.items ≡ text.old.items ++ line_of (seen «record».now)) }
 {

@@ -3,14 +3,14 @@ ghost use Rattle.std.specs.Prelude.{◌≡◌, ◌<◌, ◌++◌, All, flat_map,
 ghost use Rattle.m51_hex.specs.Record.{line_of, seen};
 ghost use Rattle.m51_hex.specs.Writing.{IsWithin, count_of_records, record_at, records_of, hex_of};
 
-use crate::records::{Record, RecordType, push_record};
+use crate::records::{HexRecord, RecordType, push_record};
 use m51_cells::NoMemory;
 use m51_module::{Image, Run, Runs};
 use std::alloc::Global;
 
 // The record of that number of a run.
 #[tactic(auto, unfolding(crate::specs::Writing::record_at))]
-fn record_at<'a>(image: &'a [u8], run: &Run, number: u32) -> Record<'a>
+fn record_at<'a>(image: &'a [u8], run: &Run, number: u32) -> HexRecord<'a>
     requires whole { length image.now ≡ 0x10000 }
     requires within { IsWithin run.now }
     requires number { number < count_of_records run.now }
@@ -20,7 +20,7 @@ fn record_at<'a>(image: &'a [u8], run: &Run, number: u32) -> Record<'a>
     let first = u32::from(run.first) + 16 * number;
     let end = u32::from(run.first) + run.len;
     let bytes = &image[first as usize..end.min(first + 16) as usize];
-    Record {
+    HexRecord {
         kind: RecordType::Data,
         address: first as u16,
         bytes,
@@ -60,7 +60,7 @@ pub fn write_hex(alloc: Global, image: &Image, written: &Runs) -> Result<Vec<u8>
     for run in written.as_slice() {
         push_run(&mut text, bytes, run)?;
     }
-    let last = Record {
+    let last = HexRecord {
         kind: RecordType::EndOfFile,
         address: 0,
         bytes: &[],

@@ -6,7 +6,7 @@ use Rattle.m51_module.specs.declared.parts.ModuleParts.{ModuleParts}
 use Rattle.m51_module.specs.declared.source.SourceFile.{SourceFile}
 use Rattle.m51_asm.specs.Answer.{AnswerTree, Gives, Faults, IsAnswer, tree_of}
 use Rattle.m51_inputs.specs.declared.error.SourceFaults.{SourceFaults}
-use Rattle.m51_inputs.specs.declared.sorting.Source.{Source}
+use Rattle.m51_inputs.specs.declared.sorting.SourceArgument.{SourceArgument}
 use Rattle.m51_inputs.specs.declared.sources.Answered.{Answered}
 use Rattle.m51_inputs.specs.Answered.{answers_of, words_of}
 use Rattle.m51_inputs.specs.Sorting.{files_in, words_in}
@@ -26,30 +26,30 @@ map_push : {A B : Type 0} (f : A → B) (xs : List A) (x : A) → map f (xs ++ x
 map_push f [] x = refl
 map_push f (y ∷ xs) x = ap (λ zs. f y ∷ zs) (map_push f xs x)
 
-taken : (sources : List Source) (i : ℕ) (source : Source) → i < length sources → source ≡ get_or sources i source
+taken : (sources : List SourceArgument) (i : ℕ) (source : SourceArgument) → i < length sources → source ≡ get_or sources i source
     → take (i + 1) sources ≡ take i sources ++ source ∷ []
-taken sources i source some is = take_more sources i source some ∙ ap (λ (s : Source). take i sources ++ s ∷ []) (sym is)
+taken sources i source some is = take_more sources i source some ∙ ap (λ (s : SourceArgument). take i sources ++ s ∷ []) (sym is)
 
 -- the source at an index is assembled after those before it
-pub assembled_more : (includes : List SourceFile) (sources : List Source) (i : ℕ) (source : Source) (old new : List Answered) (one : Answered)
+pub assembled_more : (includes : List SourceFile) (sources : List SourceArgument) (i : ℕ) (source : SourceArgument) (old new : List Answered) (one : Answered)
     → i < length sources → source ≡ get_or sources i source → new ≡ old ++ one ∷ [] → IsAnswer source.file includes (tree_of one.assembled)
     → AreAnswers includes (files_in (take i sources)) (answers_of old) → AreAnswers includes (files_in (take (i + 1) sources)) (answers_of new)
 assembled_more includes sources i source old new one some is put answer are =
     let files : files_in (take (i + 1) sources) ≡ files_in (take i sources) ++ source.file ∷ [] =
-    ap files_in (taken sources i source some is) ∙ map_push (λ (s : Source). s.file) (take i sources) source in
+    ap files_in (taken sources i source some is) ∙ map_push (λ (s : SourceArgument). s.file) (take i sources) source in
     let told : answers_of new ≡ answers_of old ++ tree_of one.assembled ∷ [] =
     ap answers_of put ∙ map_push (λ (a : Answered). tree_of a.assembled) old one in
     let P : List SourceFile → Type 0 = λ ss. AreAnswers includes ss (answers_of new) in
     let Q : List AnswerTree → Type 0 = λ ts. AreAnswers includes (files_in (take i sources) ++ source.file ∷ []) ts in
     subst P (sym files) (subst Q (sym told) (one_more includes (files_in (take i sources)) (answers_of old) source.file (tree_of one.assembled) are answer))
 
-pub words_more : (sources : List Source) (i : ℕ) (source : Source) (old new : List Answered) (one : Answered)
+pub words_more : (sources : List SourceArgument) (i : ℕ) (source : SourceArgument) (old new : List Answered) (one : Answered)
     → i < length sources → source ≡ get_or sources i source → new ≡ old ++ one ∷ [] → one.word ≡ source.word
     → words_of old ≡ words_in (take i sources) → words_of new ≡ words_in (take (i + 1) sources)
 words_more sources i source old new one some is put word before =
     ap words_of put ∙ map_push (λ (a : Answered). a.word) old one
     ∙ ap (λ (ws : List ℕ). ws ++ one.word ∷ []) before ∙ ap (λ (w : ℕ). words_in (take i sources) ++ w ∷ []) word
-    ∙ sym (map_push (λ (s : Source). s.word) (take i sources) source) ∙ ap words_in (sym (taken sources i source some is))
+    ∙ sym (map_push (λ (s : SourceArgument). s.word) (take i sources) source) ∙ ap words_in (sym (taken sources i source some is))
 
 -- the first of several answers
 modules_first : (answer : AnswerTree) (answers : List AnswerTree) → modules_in (answer ∷ answers) ≡ modules_in (answer ∷ []) ++ modules_in answers
@@ -95,15 +95,15 @@ all_faults found whole left none before =
     sym (append-nil found) ∙ ap (λ (l : List Answered). found ++ faults_in (words_of l) (answers_of l)) (sym none) ∙ before
 
 -- The one source, where there is one.
-pub only_source : (sources : List Source) (found : Source) (files : List SourceFile) → files_in sources ≡ files → length files ≡ 1
+pub only_source : (sources : List SourceArgument) (found : SourceArgument) (files : List SourceFile) → files_in sources ≡ files → length files ≡ 1
     → found ≡ slice_index_or sources 0 found → files ≡ found.file ∷ []
 only_source [] found files is one at = absurd (omega (arith, ap length is, one))
-only_source (source ∷ []) found files is one at = sym is ∙ ap (λ (s : Source). s.file ∷ []) (sym at)
+only_source (source ∷ []) found files is one at = sym is ∙ ap (λ (s : SourceArgument). s.file ∷ []) (sym at)
 only_source (source ∷ other ∷ more) found files is one at =
-    let count : length (files_in (source ∷ other ∷ more)) ≡ length (source ∷ other ∷ more) = length-map (source ∷ other ∷ more) (λ (s : Source). s.file) in
+    let count : length (files_in (source ∷ other ∷ more)) ≡ length (source ∷ other ∷ more) = length-map (source ∷ other ∷ more) (λ (s : SourceArgument). s.file) in
     absurd (omega (arith, ap length is, count, one))
 
-pub some_source : (sources : List Source) (files : List SourceFile) → files_in sources ≡ files → length files ≡ 1 → 0 < length sources
+pub some_source : (sources : List SourceArgument) (files : List SourceFile) → files_in sources ≡ files → length files ≡ 1 → 0 < length sources
 some_source sources files is one =
-    let count : length (files_in sources) ≡ length sources = length-map sources (λ (s : Source). s.file) in
+    let count : length (files_in sources) ≡ length sources = length-map sources (λ (s : SourceArgument). s.file) in
     omega (arith, ap length is, count, one)

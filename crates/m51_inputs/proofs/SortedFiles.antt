@@ -6,7 +6,7 @@ use Rattle.m51_jobs.specs.declared.endings.Ending.{Ending}
 use Rattle.m51_jobs.specs.declared.endings.Ending.TheVariants as ending
 use Rattle.m51_jobs.specs.Endings.{ending_of, is_source, is_include, is_a_source, is_an_include}
 use Rattle.m51_inputs.specs.declared.sorting.Sorted.{Sorted}
-use Rattle.m51_inputs.specs.declared.sorting.Source.{Source}
+use Rattle.m51_inputs.specs.declared.sorting.SourceArgument.{SourceArgument}
 use Rattle.m51_inputs.specs.Files.{files_that, includes_of, source_words, sources_of}
 use Rattle.m51_inputs.specs.Sorting.{IsSorted, files_in, with_file, words_in}
 use Rattle.m51_inputs.proofs.FileLists.{file_kept, file_passed}
@@ -68,13 +68,13 @@ pub sorted_more : (names contents : List (List ℕ)) (i : ℕ) (name bytes : Lis
     → IsSortedTo (i + 1) names contents (with_file e i (record { name = name; bytes = bytes }) s)
 sorted_more names contents i name bytes (Some ending.Source) s some more at has is h =
     let file : SourceFile = record { name = name; bytes = bytes } in
-    let source : Source = record { word = i; file = file } in
+    let source : SourceArgument = record { word = i; file = file } in
     let counts : is_source name ≡ true = ap is_a_source is in
     record {
       endings = subst (λ (o : Option Ending). (s.endings ++ o ∷ []) ++ map ending_of (drop (i + 1) names) ≡ map ending_of names) is (ending_more names i name s.endings some at h.endings);
       sources = file_kept is_source names contents i name bytes (files_in s.sources) (files_in (s.sources ++ source ∷ [])) (sources_of names contents) file some more at has counts refl
-          (map_push (λ (source : Source). source.file) s.sources source) h.sources;
-      words = ap (λ (ws : List ℕ). ws ++ source_words (i + 1) (drop (i + 1) names)) (map_push (λ (source : Source). source.word) s.sources source)
+          (map_push (λ (source : SourceArgument). source.file) s.sources source) h.sources;
+      words = ap (λ (ws : List ℕ). ws ++ source_words (i + 1) (drop (i + 1) names)) (map_push (λ (source : SourceArgument). source.word) s.sources source)
           ∙ word_more names i name (words_in s.sources) true some at counts h.words;
       includes = file_passed is_include names contents i name s.includes (includes_of names contents) some more at (ap is_an_include is) h.includes;
       few = omega (arith, h.few);

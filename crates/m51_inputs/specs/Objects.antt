@@ -10,7 +10,7 @@ use Rattle.m51_jobs.specs.declared.endings.Ending.TheVariants as ending
 use Rattle.m51_jobs.specs.Endings.{ending_of}
 use Rattle.m51_inputs.specs.declared.error.InputError.{InputError}
 use Rattle.m51_inputs.specs.declared.error.InputError.TheVariants.{Object, Library}
-use Rattle.m51_inputs.specs.declared.objects.LinkedFiles.{LinkedFiles}
+use Rattle.m51_inputs.specs.declared.objects.LinkInputs.{LinkInputs}
 
 -- the module of the object of the argument with this index
 abbrev pub or_object : ℕ → Result ModuleParts ObjError → Result ModuleParts InputError
@@ -27,7 +27,7 @@ pub record Linked : Type 0 where
   pub modules : List ModuleParts
   pub libraries : List (List ModuleParts)
 
-abbrev pub linked : LinkedFiles → Linked
+abbrev pub linked : LinkInputs → Linked
 linked files = record { modules = files.modules; libraries = files.libraries }
 
 -- these before what the arguments after them give, unless that is refused

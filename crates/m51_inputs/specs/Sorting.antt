@@ -5,15 +5,15 @@ use Rattle.m51_jobs.specs.declared.endings.Ending.{Ending}
 use Rattle.m51_jobs.specs.declared.endings.Ending.TheVariants as ending
 use Rattle.m51_jobs.specs.Endings.{ending_of}
 use Rattle.m51_inputs.specs.declared.sorting.Sorted.{Sorted}
-use Rattle.m51_inputs.specs.declared.sorting.Source.{Source}
+use Rattle.m51_inputs.specs.declared.sorting.SourceArgument.{SourceArgument}
 use Rattle.m51_inputs.specs.Files.{includes_of, source_words, sources_of}
 
 -- the files of sources, and the indices of their arguments
-abbrev pub files_in : List Source → List SourceFile
-files_in sources = map (λ (source : Source). source.file) sources
+abbrev pub files_in : List SourceArgument → List SourceFile
+files_in sources = map (λ (source : SourceArgument). source.file) sources
 
-abbrev pub words_in : List Source → List ℕ
-words_in sources = map (λ (source : Source). source.word) sources
+abbrev pub words_in : List SourceArgument → List ℕ
+words_in sources = map (λ (source : SourceArgument). source.word) sources
 
 -- the file of an argument, which is this, added to those before it
 abbrev pub with_file : Option Ending → ℕ → SourceFile → Sorted → Sorted

@@ -6,7 +6,7 @@ use Rattle.m51_asm.specs.Answer.{AnswerTree}
 use Rattle.m51_module.specs.declared.parts.ModuleParts.{ModuleParts}
 use Rattle.m51_jobs.specs.declared.endings.Ending.{Ending}
 use Rattle.m51_inputs.specs.declared.error.InputError.{InputError}
-use Rattle.m51_inputs.specs.declared.objects.LinkedFiles.{LinkedFiles}
+use Rattle.m51_inputs.specs.declared.objects.LinkInputs.{LinkInputs}
 use Rattle.m51_inputs.specs.Inputs.{InputsTree, controls_in, refusal_of, script_in}
 use Rattle.m51_inputs.specs.Objects.{Linked, linked_by}
 use Rattle.m51_inputs.specs.Sources.{faults_in, modules_in, unless_faults}
@@ -19,11 +19,11 @@ linked_before modules libraries (Ok after) =
 linked_before modules libraries (Err error) = Err error
 
 -- what was read, before what comes after it
-abbrev pub files_before : LinkedFiles → Result Linked InputError → Result Linked InputError
+abbrev pub files_before : LinkInputs → Result Linked InputError → Result Linked InputError
 files_before read after = linked_before read.modules read.libraries after
 
 -- after a step what was read, before the rest, is what it was before the whole; or the whole is refused
-abbrev pub Steps : {A : Type 0} → LinkedFiles → LinkedFiles → Result A InputError → Result Linked InputError
+abbrev pub Steps : {A : Type 0} → LinkInputs → LinkInputs → Result A InputError → Result Linked InputError
     → Result Linked InputError → Type 0
 Steps old new (Ok done) rest whole = files_before new rest ≡ files_before old whole
 Steps old new (Err error) rest whole = RefusesWith (refusal_of error) whole

@@ -44,13 +44,13 @@ fn library_at(alloc: Global, file: usize, bytes: &Bytes) -> Result<Library, Inpu
 
 // The given modules and the libraries, in the order of the arguments.
 #[derive(Drop)]
-pub(crate) struct LinkedFiles {
+pub(crate) struct LinkInputs {
     pub(crate) modules: ListOf<Module>,
     pub(crate) libraries: ListOf<Library>,
 }
 
 // Adds the first of the sources' modules.
-fn add_source(sources: &mut VecDeque<Module>, linked: &mut LinkedFiles) -> Result<(), InputError>
+fn add_source(sources: &mut VecDeque<Module>, linked: &mut LinkInputs) -> Result<(), InputError>
     ensures { (after : List ModuleParts → Result Linked Error) →
         Steps linked.old linked.new result (after sources.new.items) (with_source sources.old.items after) }
 {
@@ -66,7 +66,7 @@ fn add_object(
     alloc: Global,
     word: usize,
     bytes: &Bytes,
-    linked: &mut LinkedFiles,
+    linked: &mut LinkInputs,
 ) -> Result<(), InputError>
     requires { length bytes.now ≤ MOST_FILE_BYTES }
     ensures { (after : Result Linked Error) →
@@ -82,7 +82,7 @@ fn add_library(
     alloc: Global,
     word: usize,
     bytes: &Bytes,
-    linked: &mut LinkedFiles,
+    linked: &mut LinkInputs,
 ) -> Result<(), InputError>
     requires { length bytes.now ≤ MOST_FILE_BYTES }
     ensures { (after : Result Linked Error) →
@@ -100,7 +100,7 @@ fn add_word(
     ending: Option<Ending>,
     bytes: &Bytes,
     sources: &mut VecDeque<Module>,
-    linked: &mut LinkedFiles,
+    linked: &mut LinkInputs,
 ) -> Result<(), InputError>
     requires { length bytes.now ≤ MOST_FILE_BYTES }
     ensures { (after : List ModuleParts → Result Linked Error) →
@@ -121,12 +121,12 @@ pub(crate) fn linked_files(
     endings: &[Option<Ending>],
     contents: &[Bytes],
     mut sources: VecDeque<Module>,
-) -> Result<LinkedFiles, InputError>
+) -> Result<LinkInputs, InputError>
     requires count { length contents.now ≡ length endings.now }
     requires within { All (λ bytes. length bytes ≤ MOST_FILE_BYTES) contents.now }
     ensures { Gives linked refusal_of result (linked_kinds 0 endings.now contents.now sources.items) }
 {
-    let mut linked = LinkedFiles {
+    let mut linked = LinkInputs {
         modules: ListOf::new(alloc),
         libraries: ListOf::new(alloc),
     };

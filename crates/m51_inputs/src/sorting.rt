@@ -10,7 +10,7 @@ use std::alloc::Global;
 
 // A source, and the index of its argument, counted from 0.
 #[derive(Drop)]
-pub(crate) struct Source {
+pub(crate) struct SourceArgument {
     pub(crate) word: usize,
     pub(crate) file: SourceFile,
 }
@@ -20,7 +20,7 @@ pub(crate) struct Source {
 pub(crate) struct Sorted {
     // What each of the files is.
     pub(crate) endings: ListOf<Option<Ending>>,
-    pub(crate) sources: ListOf<Source>,
+    pub(crate) sources: ListOf<SourceArgument>,
     pub(crate) includes: ListOf<SourceFile>,
 }
 
@@ -50,7 +50,7 @@ fn put_file(
     match ending {
         Some(Ending::Source) => {
             let file = file_of(alloc, name, bytes)?;
-            sorted.sources.push(Source { word, file })?;
+            sorted.sources.push(SourceArgument { word, file })?;
         }
         Some(Ending::Include) => sorted.includes.push(file_of(alloc, name, bytes)?)?,
         _ => {}

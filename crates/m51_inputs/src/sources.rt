@@ -10,7 +10,7 @@ ghost use Rattle.m51_inputs.specs.Sorting.{files_in, words_in};
 ghost use Rattle.m51_inputs.specs.Sources.{AreAnswers, module_or_faults, modules_in, faults_in, unless_faults};
 
 use crate::error::{FaultySources, InputError, SourceFaults};
-use crate::sorting::{Sorted, Source, sort};
+use crate::sorting::{Sorted, SourceArgument, sort};
 use m51_asm::{Assembled, assemble};
 use m51_cells::{Bytes, ListOf, NoMemory};
 use m51_jobs::FileName;
@@ -28,7 +28,7 @@ pub(crate) struct Answered {
 // What each source gives, assembled with these includes, of which there are at most 65,535.
 fn assemble_each(
     alloc: Global,
-    sources: &[Source],
+    sources: &[SourceArgument],
     includes: &[SourceFile],
 ) -> Result<ListOf<Answered>, NoMemory>
     requires { length includes.now ≤ 65535 }
@@ -154,7 +154,7 @@ pub fn assemble_source(
         ..
     } = sort(alloc, files, contents)?;
     let mut sources = sources.into_vec();
-    let Source { file: source, .. } = sources.remove(0);
+    let SourceArgument { file: source, .. } = sources.remove(0);
     let assembled = assemble(alloc, &source, includes.as_slice())?;
     Ok(AssembledSource {
         source,

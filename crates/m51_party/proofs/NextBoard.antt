@@ -2,7 +2,7 @@
 use Rattle.std.proofs.Common.{◌≡◌, ℕ, zero, suc, ◌+◌, ◌≤◌, Bool, true, false, List, [], ◌∷◌, Option, Some, None, refl, sym, subst, arith}
 use Rattle.std.specs.Prelude.{nat_lt, if◌then◌else◌}
 use Rattle.std.proofs.lemmas.Bool.{ltb-true, ltb-false}
-use Rattle.m51_party.specs.declared.choosing.Chosen.{Chosen}
+use Rattle.m51_party.specs.declared.choosing.NextStep.{NextStep}
 use Rattle.m51_party.specs.declared.seat.Seat.{Seat}
 use Rattle.m51_party.specs.Seats.{next_from, sooner, start_of}
 
@@ -56,13 +56,13 @@ module _ (n : ℕ) where
       (starts_more cycle (suc cycle) (start_of n s) (omega arith) h.0, next_all index cycle ss h.1)
 
   -- what a search from this index on has found
-  pub record IsFoundAt (at : ℕ) (c : Chosen) (ss : List Seat) : Type 0 where
+  pub record IsFoundAt (at : ℕ) (c : NextStep) (ss : List Seat) : Type 0 where
     pub index : ℕ
     pub is : c.index ≡ at + index
     pub next : IsNextAt index c.cycle ss
 
   -- what it has found, or that there is nothing
-  abbrev IsFound : ℕ → Option Chosen → List Seat → Type 0
+  abbrev IsFound : ℕ → Option NextStep → List Seat → Type 0
   IsFound at None ss = NoneStarts ss
   IsFound at (Some c) ss = IsFoundAt at c ss
 
@@ -70,18 +70,18 @@ module _ (n : ℕ) where
       → IsFoundAt at (record { index = at; cycle = cycle }) (s ∷ ss)
   found_here at cycle s ss e h = record { index = 0; is = omega arith; next = (e, h) }
 
-  found_later : (at : ℕ) (c : Chosen) (s : Seat) (ss : List Seat) → StartsFrom (suc c.cycle) (start_of n s) → IsFoundAt (suc at) c ss
+  found_later : (at : ℕ) (c : NextStep) (s : Seat) (ss : List Seat) → StartsFrom (suc c.cycle) (start_of n s) → IsFoundAt (suc at) c ss
       → IsFoundAt at c (s ∷ ss)
   found_later at c s ss h f = record { index = suc f.index; is = omega (arith, f.is); next = (h, f.next) }
 
-  compared : (at cycle : ℕ) (c : Chosen) (s : Seat) (ss : List Seat) (b : Bool) → nat_lt c.cycle cycle ≡ b → start_of n s ≡ Some cycle → IsFoundAt (suc at) c ss
+  compared : (at cycle : ℕ) (c : NextStep) (s : Seat) (ss : List Seat) (b : Bool) → nat_lt c.cycle cycle ≡ b → start_of n s ≡ Some cycle → IsFoundAt (suc at) c ss
       → IsFound at (if b then Some c else Some (record { index = at; cycle = cycle })) (s ∷ ss)
   compared at cycle c s ss true b e f =
       found_later at c s ss (subst (StartsFrom (suc c.cycle)) (sym e) (ltb-true c.cycle cycle b)) f
   compared at cycle c s ss false b e f =
       found_here at cycle s ss e (all_more cycle c.cycle ss (ltb-false c.cycle cycle b) (next_all f.index c.cycle ss f.next))
 
-  found_by : (at : ℕ) (s : Seat) (ss : List Seat) (o : Option ℕ) (later : Option Chosen) → start_of n s ≡ o → IsFound (suc at) later ss
+  found_by : (at : ℕ) (s : Seat) (ss : List Seat) (o : Option ℕ) (later : Option NextStep) → start_of n s ≡ o → IsFound (suc at) later ss
       → IsFound at (sooner at o later) (s ∷ ss)
   found_by at s ss None None e f = (e, f)
   found_by at s ss None (Some c) e f = found_later at c s ss (none_starts (suc c.cycle) (start_of n s) e) f
@@ -93,10 +93,10 @@ module _ (n : ℕ) where
   found at (s ∷ ss) = found_by at s ss (start_of n s) (next_from n (suc at) ss) refl (found (suc at) ss)
 
   -- so the board that is found is next, and where none is found, none has a next step
-  pub next_found : (c : Chosen) (ss : List Seat) → next_from n 0 ss ≡ Some c → IsNextAt c.index c.cycle ss
+  pub next_found : (c : NextStep) (ss : List Seat) → next_from n 0 ss ≡ Some c → IsNextAt c.index c.cycle ss
   next_found c ss e =
-      let f : IsFoundAt 0 c ss = subst (λ (o : Option Chosen). IsFound 0 o ss) e (found 0 ss) in
+      let f : IsFoundAt 0 c ss = subst (λ (o : Option NextStep). IsFound 0 o ss) e (found 0 ss) in
       subst (λ (i : ℕ). IsNextAt i c.cycle ss) (omega (arith, f.is)) f.next
 
   pub none_found : (ss : List Seat) → next_from n 0 ss ≡ None → NoneStarts ss
-  none_found ss e = subst (λ (o : Option Chosen). IsFound 0 o ss) e (found 0 ss)
+  none_found ss e = subst (λ (o : Option NextStep). IsFound 0 o ss) e (found 0 ss)

@@ -12,7 +12,7 @@ use Rattle.m51_sim.specs.declared.runs.Step.TheVariants.{Done, Stopped}
 use Rattle.m51_sim.specs.declared.runs.Told.{Told}
 use Rattle.m51_sim.specs.Boards.{BoardState}
 use Rattle.m51_sim.specs.Run.{stopped_by}
-use Rattle.m51_party.specs.declared.choosing.Chosen.{Chosen}
+use Rattle.m51_party.specs.declared.choosing.NextStep.{NextStep}
 use Rattle.m51_party.specs.declared.seat.Seat.{Seat}
 use Rattle.m51_party.specs.Family.{Family, IsFamily}
 use Rattle.m51_party.specs.Report.{IsPartyOf}
@@ -46,7 +46,7 @@ progress_start olds n text boards family party is = record {
   text = refl;
 }
 
-pub progress_on : (olds seats news : List Seat) (n : ℕ) (before now later : Option (List ℕ)) (c : Chosen) (told : Told) → n ≤ 10000000
+pub progress_on : (olds seats news : List Seat) (n : ℕ) (before now later : Option (List ℕ)) (c : NextStep) (told : Told) → n ≤ 10000000
     → AllInProgress olds n before now seats → next_from n 0 seats ≡ Some c → IsStepAt c.index told seats news → Appends now later (told_text c.index told)
     → AllInProgress olds n before later news
 progress_on olds seats news n before now later c told few so_far chosen step written boards family party is =
@@ -64,7 +64,7 @@ text_of olds n boards family party =
     text_start n family boards ∙ ap (λ (ss : List Seat). head_text (length boards) ++ text_to_come n family ss) (sym party.seats)
 
 -- the lines of a step are cut
-pub progress_cut : (olds seats news : List Seat) (n : ℕ) (before now later : Option (List ℕ)) (c : Chosen) (told : Told) → n ≤ 10000000
+pub progress_cut : (olds seats news : List Seat) (n : ℕ) (before now later : Option (List ℕ)) (c : NextStep) (told : Told) → n ≤ 10000000
     → AllInProgress olds n before now seats → next_from n 0 seats ≡ Some c → IsStepAt c.index told seats news → AppendsFront now later (told_text c.index told)
     → AllCut olds n before later
 progress_cut olds seats news n before now later c told few so_far chosen step front boards family party is =
@@ -103,10 +103,10 @@ next_within n index cycle [] h = absurd h
 next_within n zero cycle (s ∷ ss) h = omega arith
 next_within n (suc index) cycle (s ∷ ss) h = omega (arith, next_within n index cycle ss h.1)
 
-pub chosen_within : (n : ℕ) (c : Chosen) (ss : List Seat) → next_from n 0 ss ≡ Some c → c.index < length ss
+pub chosen_within : (n : ℕ) (c : NextStep) (ss : List Seat) → next_from n 0 ss ≡ Some c → c.index < length ss
 chosen_within n c ss e = next_within n c.index c.cycle ss (next_found n c ss e)
 
-pub chosen_below : (n : ℕ) (c : Chosen) (ss : List Seat) (s : Seat) → next_from n 0 ss ≡ Some c → slice_get ss c.index ≡ Some s → s.steps < n
+pub chosen_below : (n : ℕ) (c : NextStep) (ss : List Seat) (s : Seat) → next_from n 0 ss ≡ Some c → slice_get ss c.index ≡ Some s → s.steps < n
 chosen_below n c ss s e found = (starting n c.cycle s (next_starts n c.index c.cycle ss s (next_found n c ss e) found)).below
 
 -- how many steps are left
@@ -149,7 +149,7 @@ set_falls n zero (s ∷ ss) old new found less =
 set_falls n (suc index) (s ∷ ss) old new found less = omega (arith, set_falls n index ss old new found less)
 
 -- a step leaves fewer
-pub fewer_left : (n : ℕ) (c : Chosen) (told : Told) (ss news : List Seat) → next_from n 0 ss ≡ Some c → IsStepAt c.index told ss news → steps_left n news < steps_left n ss
+pub fewer_left : (n : ℕ) (c : NextStep) (told : Told) (ss news : List Seat) → next_from n 0 ss ≡ Some c → IsStepAt c.index told ss news → steps_left n news < steps_left n ss
 fewer_left n c told ss news e h =
     let is = starting n c.cycle h.old (next_starts n c.index c.cycle ss h.old (next_found n c ss e) h.found) in
     let was : left_of n h.old ≡ n - h.old.steps = left_going (nat_lt h.old.steps n) (n - h.old.steps) h.old.event (lt-ltb h.old.steps n is.below) is.event in

@@ -12,7 +12,7 @@ use Rattle.m51_sim.specs.Runs.{State}
 use Rattle.m51_sim.specs.SeparateMachine.{Separate, separate_effect, separate_machine, separate_performs}
 use Rattle.m51_sim.specs.StepLaws.{IsShort}
 use Rattle.m51_sim.proofs.StepCycles.{steps_short}
-use Rattle.m51_party.specs.declared.choosing.Chosen.{Chosen}
+use Rattle.m51_party.specs.declared.choosing.NextStep.{NextStep}
 use Rattle.m51_party.specs.declared.seat.Seat.{Seat}
 use Rattle.m51_party.specs.Family.{Family, frames_for, machine_with}
 use Rattle.m51_party.specs.Seats.{IsSeatStep, IsStepAt, is_going, kept_for, next_from, start_of, told_text}
@@ -84,7 +84,7 @@ pub record Advances (n : ℕ) (family : Family) (index : ℕ) (told : Told) (old
 pub both_texts : (a b c d : List ℕ) → a ≡ b → c ≡ d → a ++ c ≡ b ++ d
 both_texts a b c d e f = λ i. e i ++ f i
 
-module _ (n : ℕ) (family : Family) (seats : List Seat) (few : n ≤ 10000000) (going : AreGoing n family seats) (c : Chosen) (chosen : next_from n 0 seats ≡ Some c) (told : Told) (old new : Seat)
+module _ (n : ℕ) (family : Family) (seats : List Seat) (few : n ≤ 10000000) (going : AreGoing n family seats) (c : NextStep) (chosen : next_from n 0 seats ≡ Some c) (told : Told) (old new : Seat)
     (found : slice_get seats c.index ≡ Some old) (step : IsSeatStep (kept_for c.index seats) told old new) where
   next : IsNextAt n c.index c.cycle seats
   next = next_found n c seats chosen
@@ -156,7 +156,7 @@ module _ (n : ℕ) (family : Family) (seats : List Seat) (few : n ≤ 10000000) 
   advances_one : Advances n family c.index told seats (slice_set seats c.index new)
   advances_one = record { going = going_on; text = with_lines (lines_by moved.lines) }
 
-pub advances : (n : ℕ) (family : Family) (seats news : List Seat) (c : Chosen) (told : Told) → n ≤ 10000000 → AreGoing n family seats
+pub advances : (n : ℕ) (family : Family) (seats news : List Seat) (c : NextStep) (told : Told) → n ≤ 10000000 → AreGoing n family seats
     → next_from n 0 seats ≡ Some c → IsStepAt c.index told seats news → Advances n family c.index told seats news
 advances n family seats news c told few going chosen h =
     subst (Advances n family c.index told seats) (sym h.others) (advances_one n family seats few going c chosen told h.old h.new h.found h.step)

@@ -13,7 +13,7 @@ use Rattle.m51_sim.specs.declared.runs.Step.TheVariants.{Done, Stopped}
 use Rattle.m51_sim.specs.declared.runs.Told.{Told}
 use Rattle.m51_sim.specs.Boards.{BoardState, separate_of}
 use Rattle.m51_sim.specs.Run.{IsToldStep, stopped_by}
-use Rattle.m51_party.specs.declared.choosing.Chosen.{Chosen}
+use Rattle.m51_party.specs.declared.choosing.NextStep.{NextStep}
 use Rattle.m51_party.specs.declared.seat.Seat.{Seat}
 use Rattle.m51_party.specs.Family.{machine_with}
 use Rattle.m51_party.specs.Text.{front_of}
@@ -83,14 +83,14 @@ pub record IsStepAt (index : ℕ) (told : Told) (olds news : List Seat) : Type 0
   pub others : news ≡ slice_set olds index new
 
 -- the board that starts before all that come after it, and no later than they
-abbrev pub sooner : ℕ → Option ℕ → Option Chosen → Option Chosen
+abbrev pub sooner : ℕ → Option ℕ → Option NextStep → Option NextStep
 sooner index None later = later
 sooner index (Some cycle) None = Some (record { index = index; cycle = cycle })
 sooner index (Some cycle) (Some later) =
     if nat_lt later.cycle cycle then Some later else Some (record { index = index; cycle = cycle })
 
 -- of boards of which the first has this index
-abbrev pub next_from : ℕ → ℕ → List Seat → Option Chosen
+abbrev pub next_from : ℕ → ℕ → List Seat → Option NextStep
 next_from n index [] = None
 next_from n index (s ∷ ss) = sooner index (start_of n s) (next_from n (suc index) ss)
 

@@ -7,7 +7,7 @@ ghost use Rattle.m51_records.specs.declared.types.TheConstants.{EXTERNAL};
 
 use crate::codes::{kind_number, kind_of};
 use crate::record::{Reader, Record};
-use crate::seen::{Seen, new_name_at};
+use crate::seen::{SeenNames, new_name_at};
 use crate::types::EXTERNAL;
 use m51_cells::{Kind, MOST_EXTERNALS, NoMemory};
 use m51_frame::{broken, byte_at, put_text};
@@ -50,7 +50,7 @@ impl Record for External {
 /// Source: own choice ("Object records").
 #[derive(Drop)]
 pub(crate) struct ExternalReader {
-    pub(crate) seen: Seen,
+    pub(crate) seen: SeenNames,
 }
 
 impl Reader for ExternalReader {
@@ -77,7 +77,7 @@ impl Reader for ExternalReader {
 // before it. O4 for a field that breaks a rule, for a 256th external, or for bytes left over.
 #[tactic(auto, unfolding(crate::specs::Externals::external_in))]
 fn read_external(
-    seen: &Seen,
+    seen: &SeenNames,
     before: &[External],
     end: u32,
     contents: &[u8],

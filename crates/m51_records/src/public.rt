@@ -9,7 +9,7 @@ ghost use Rattle.m51_records.specs.declared.types.TheConstants.{PUBLIC};
 use crate::codes::kind_number;
 use crate::external::kind_at;
 use crate::record::{Reader, Record};
-use crate::seen::{Seen, new_name_at};
+use crate::seen::{SeenNames, new_name_at};
 use crate::types::PUBLIC;
 use m51_cells::{Base, Kind, NoMemory, same_kind};
 use m51_frame::{absent, broken, byte_at, pair_at, put_pair, put_text};
@@ -64,7 +64,7 @@ pub(crate) struct PublicReader<'a> {
     /// The segments of the module.
     pub(crate) segments: &'a [Segment],
     /// The names of the publics before.
-    pub(crate) seen: Seen,
+    pub(crate) seen: SeenNames,
 }
 
 impl<'a> Reader for PublicReader<'a> {
@@ -93,7 +93,7 @@ impl<'a> Reader for PublicReader<'a> {
 #[tactic(auto, unfolding(crate::specs::Publics::public_in))]
 fn read_public(
     segments: &[Segment],
-    seen: &Seen,
+    seen: &SeenNames,
     before: &[Public],
     end: u32,
     contents: &[u8],

@@ -14,7 +14,7 @@ use crate::header::read_header;
 use crate::piece::PieceReader;
 use crate::public::PublicReader;
 use crate::record::read_records;
-use crate::seen::Seen;
+use crate::seen::SeenNames;
 use crate::segment::SegmentReader;
 use crate::types::{CONTENT, END, EXTERNAL, FIXUP, HEADER, PUBLIC, SEGMENT};
 use m51_cells::ListOf;
@@ -57,7 +57,7 @@ fn externals_at(
     ensures few { IfOk result (λ x. length x.0.items + length x.1.now ≤ length bytes.now) }
 {
     let reader = ExternalReader {
-        seen: Seen::new(alloc),
+        seen: SeenNames::new(alloc),
     };
     read_records(alloc, EXTERNAL, reader, total, number, bytes)
 }
@@ -76,7 +76,7 @@ fn publics_at<'a>(
 {
     let reader = PublicReader {
         segments,
-        seen: Seen::new(alloc),
+        seen: SeenNames::new(alloc),
     };
     read_records(alloc, PUBLIC, reader, total, number, bytes)
 }

@@ -13,11 +13,11 @@ use std::marker::Model;
 ///
 /// Source: own choice ("Object records").
 #[derive(Drop)]
-pub(crate) struct Seen {
+pub(crate) struct SeenNames {
     names: IndexSet<Vec<u8>>,
 }
 
-impl Model for Seen {
+impl Model for SeenNames {
     ghost use Rattle.std.specs.Prelude.{ℕ, List};
     ghost use Rattle.m51_records.specs.WorkNames.{items_of};
 
@@ -26,14 +26,14 @@ impl Model for Seen {
     ghost view = { λ s. items_of s.names.keys };
 }
 
-impl Seen {
+impl SeenNames {
     /// The empty list of names.
     ///
     /// Source: own choice ("Object records").
-    pub(crate) fn new(alloc: Global) -> Seen
+    pub(crate) fn new(alloc: Global) -> SeenNames
         ensures { result ≡ [] }
     {
-        Seen {
+        SeenNames {
             names: IndexSet::new(alloc),
         }
     }
@@ -65,7 +65,7 @@ impl Seen {
 ///
 /// Source: own choice ("Object records").
 #[tactic(auto, unfolding(m51_frame::specs::Fields::new_name_at))]
-pub(crate) fn new_name_at(seen: &Seen, end: u32, bytes: &[u8]) -> Result<Name, ObjError>
+pub(crate) fn new_name_at(seen: &SeenNames, end: u32, bytes: &[u8]) -> Result<Name, ObjError>
     ensures value { Reads (λ x. x) result (new_name_at seen.now end bytes.now) }
     ensures new { IfOk result (λ name. is_among seen.now name ≡ false) }
 {

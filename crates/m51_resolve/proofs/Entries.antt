@@ -10,7 +10,7 @@ use Rattle.m51_module.specs.declared.parts.ModuleParts.{ModuleParts}
 use Rattle.m51_module.specs.declared.segment.Segment.{Segment}
 use Rattle.m51_module.specs.declared.symbol.External.{External}
 use Rattle.m51_module.specs.declared.symbol.Public.{Public}
-use Rattle.m51_resolve.specs.declared.joining.Part.{Part}
+use Rattle.m51_resolve.specs.declared.joining.SegmentPart.{SegmentPart}
 use Rattle.m51_resolve.specs.declared.publics.Definition.{Definition}
 use Rattle.m51_resolve.specs.declared.segment.JoinedSegment.{JoinedSegment}
 use Rattle.m51_resolve.specs.Joining.{all_segments, firsts, joined_of, part_after, part_of, segment_at, segments_before, segments_of}
@@ -61,8 +61,8 @@ entry items modules starts table value m s are t at =
     }
 
 -- the part that a segment is
-pub record IsPartEntry (modules : List ModuleParts) (starts : List ℕ) (table : List Part) (m s : ℕ) : Type 0 where
-  pub part : Part
+pub record IsPartEntry (modules : List ModuleParts) (starts : List ℕ) (table : List SegmentPart) (m s : ℕ) : Type 0 where
+  pub part : SegmentPart
   pub entry : IsEntry starts table part m s
   pub number : part.number < 65536
   pub offset : part.offset < 65536
@@ -77,7 +77,7 @@ before_is modules m s t =
     ap (λ o. all_segments (take m modules) ++ option_map_or (λ (chosen : ModuleParts). take (s - 1) chosen.segments) o []) t.is
     ∙ ap (λ n. all_segments (take m modules) ++ take n t.holder.segments) (one_less s t.index t.number)
 
-pub part_entry : (modules : List ModuleParts) (joined : List JoinedSegment) (starts : List ℕ) (table : List Part) (external_starts : List ℕ) (found : List Definition) (m s : ℕ)
+pub part_entry : (modules : List ModuleParts) (joined : List JoinedSegment) (starts : List ℕ) (table : List SegmentPart) (external_starts : List ℕ) (found : List Definition) (m s : ℕ)
     → AreKept modules joined starts table external_starts found → IsSome (segment_at modules m s) → IsPartEntry modules starts table m s
 part_entry modules joined starts table external_starts defined m s kept h =
     let items : ModuleParts → List Segment = λ m. m.segments in
@@ -96,8 +96,8 @@ part_entry modules joined starts table external_starts defined m s kept h =
       entry = entry items modules starts table part m s kept.segment_starts t at;
       number = omega (arith, part_number (take n all) t.item (drop (suc n) all), ap (λ xs. length (firsts xs)) whole, length-map (firsts all) (joined_of all), most);
       offset = omega (arith, offset_fits modules (take n all) t.item (drop (suc n) all) whole kept.resolved.sizes);
-      value = ap (λ b. let p : Part = part_after b t.item in (p.number, p.offset)) (cut ∙ sym (before_is modules m s t))
-          ∙ sym (ap (λ o. option_map_or (λ segment. let p : Part = part_after (segments_before modules m s) segment in (p.number, p.offset)) o (0, 0)) (found items modules m s t));
+      value = ap (λ b. let p : SegmentPart = part_after b t.item in (p.number, p.offset)) (cut ∙ sym (before_is modules m s t))
+          ∙ sym (ap (λ o. option_map_or (λ segment. let p : SegmentPart = part_after (segments_before modules m s) segment in (p.number, p.offset)) o (0, 0)) (found items modules m s t));
     }
 
 among_by : (b : Bool) (number index : ℕ) (p : Public) (d : Definition) (later : Option Definition)
@@ -134,7 +134,7 @@ pub record IsPublicEntry (modules : List ModuleParts) (starts : List ℕ) (table
   pub number : definition.number < 256
   pub value : (definition.number, definition.index) ≡ public_of modules m e
 
-pub public_entry : (modules : List ModuleParts) (joined : List JoinedSegment) (segment_starts : List ℕ) (parts : List Part) (starts : List ℕ) (table : List Definition) (m e : ℕ)
+pub public_entry : (modules : List ModuleParts) (joined : List JoinedSegment) (segment_starts : List ℕ) (parts : List SegmentPart) (starts : List ℕ) (table : List Definition) (m e : ℕ)
     → AreKept modules joined segment_starts parts starts table → IsSome (external_at modules m e) → IsPublicEntry modules starts table m e
 public_entry modules joined segment_starts parts starts table m e kept h =
     let items : ModuleParts → List External = λ m. m.externals in

@@ -4,18 +4,18 @@ use Rattle.std.specs.Prelude.{All}
 use Rattle.std.proofs.lemmas.List.{take_more}
 use Rattle.m51_module.specs.declared.segment.Segment.{Segment}
 use Rattle.m51_resolve.specs.declared.joining.Growing.{Growing}
-use Rattle.m51_resolve.specs.declared.joining.Part.{Part}
+use Rattle.m51_resolve.specs.declared.joining.SegmentPart.{SegmentPart}
 use Rattle.m51_resolve.specs.WorkJoining.{all_growing, Joins}
 use Rattle.m51_resolve.specs.Kept.{parts_after}
 use Rattle.m51_resolve.proofs.JoinSteps.{joins, parts_push}
 
 -- the first `count` segments are joined
-pub record AreJoined (segments : List Segment) (count : ℕ) (growing : List Growing) (parts : List Part) : Type 0 where
+pub record AreJoined (segments : List Segment) (count : ℕ) (growing : List Growing) (parts : List SegmentPart) : Type 0 where
   pub grown : growing ≡ all_growing (take count segments)
   pub placed : parts ≡ parts_after [] (take count segments)
   pub ends : All (λ g. g.end ≤ 65790 * count) growing
 
-pub joined_more : (segments : List Segment) (count : ℕ) (growing new : List Growing) (parts : List Part) (s : Segment) (part : Part)
+pub joined_more : (segments : List Segment) (count : ℕ) (growing new : List Growing) (parts : List SegmentPart) (s : Segment) (part : SegmentPart)
     → AreJoined segments count growing parts → count < length segments → s ≡ get_or segments count s → Joins growing s part new
     → All (λ g. g.end ≤ 65790 * count + 65790) new → AreJoined segments (count + 1) new (parts ++ part ∷ [])
 joined_more segments count growing new parts s part h below is j ends =
@@ -29,6 +29,6 @@ joined_more segments count growing new parts s part h below is j ends =
     }
 
 -- every end is below what fits
-pub ends_fit : (segments : List Segment) (count : ℕ) (growing : List Growing) (parts : List Part) → AreJoined segments count growing parts → count ≤ 2 ^ 20
+pub ends_fit : (segments : List Segment) (count : ℕ) (growing : List Growing) (parts : List SegmentPart) → AreJoined segments count growing parts → count ≤ 2 ^ 20
     → All (λ g. g.end < 2 ^ 40) growing
 ends_fit segments count growing parts h few = λ k d below. let e = h.ends k d below in omega arith

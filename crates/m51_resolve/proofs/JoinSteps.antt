@@ -13,7 +13,7 @@ use Rattle.m51_cells.specs.Kinds.{same_reloc}
 use Rattle.m51_cells.proofs.KindLaws.{kind_again, reloc_again}
 use Rattle.m51_module.specs.declared.segment.Segment.{Segment}
 use Rattle.m51_resolve.specs.declared.joining.Growing.{Growing}
-use Rattle.m51_resolve.specs.declared.joining.Part.{Part}
+use Rattle.m51_resolve.specs.declared.joining.SegmentPart.{SegmentPart}
 use Rattle.m51_resolve.specs.WorkJoining.{all_growing, begun, growing_of, grown, joined_with, Joins, JoinsAt}
 use Rattle.m51_resolve.specs.Joining.{are_parts, end_after, firsts, is_relocatable, part_after, parts_with, start_after}
 use Rattle.m51_resolve.specs.Kept.{parts_after}
@@ -138,7 +138,7 @@ joined_with-map before s =
     ap (λ k. cond (nat_lt k (length (all_growing before))) (Some k) None) (prefix_len-map (λ g. not (are_parts s g.first)) (growing_of before) fs)
     ∙ ap (λ l. cond (nat_lt n l) (Some n) None) (length-map fs (growing_of before))
 
-pub join_none : (before : List Segment) (s : Segment) (part : Part) (new : List Growing) → joined_with (all_growing before) s ≡ None
+pub join_none : (before : List Segment) (s : Segment) (part : SegmentPart) (new : List Growing) → joined_with (all_growing before) s ≡ None
     → JoinsAt (all_growing before) s None part new → (part ≡ part_after before s) × (new ≡ all_growing (before ++ s ∷ []))
 join_none before s part new none j =
     let fs = firsts before in
@@ -154,7 +154,7 @@ join_none before s part new none j =
           ∙ sym (map-append (growing_of (before ++ s ∷ [])) fs (s ∷ [])) ∙ ap (map (growing_of (before ++ s ∷ []))) (sym pushed),
     )
 
-pub join_some : (before : List Segment) (s : Segment) (part : Part) (new : List Growing) (n : ℕ) → joined_with (all_growing before) s ≡ Some n
+pub join_some : (before : List Segment) (s : Segment) (part : SegmentPart) (new : List Growing) (n : ℕ) → joined_with (all_growing before) s ≡ Some n
     → JoinsAt (all_growing before) s (Some n) part new → (part ≡ part_after before s) × (new ≡ all_growing (before ++ s ∷ []))
 join_some before s part new n some j =
     let fs = firsts before in
@@ -175,13 +175,13 @@ join_some before s part new n some j =
           ∙ ap (map (growing_of (before ++ s ∷ []))) (sym pushed),
     )
 
-join_by : (before : List Segment) (s : Segment) (part : Part) (new : List Growing) (o : Option ℕ) → joined_with (all_growing before) s ≡ o
+join_by : (before : List Segment) (s : Segment) (part : SegmentPart) (new : List Growing) (o : Option ℕ) → joined_with (all_growing before) s ≡ o
     → JoinsAt (all_growing before) s o part new → (part ≡ part_after before s) × (new ≡ all_growing (before ++ s ∷ []))
 join_by before s part new None is j = join_none before s part new is j
 join_by before s part new (Some n) is j = join_some before s part new n is j
 
 -- One more segment is joined, and its part is the one that the definition gives.
-pub joins : (before : List Segment) (s : Segment) (part : Part) (new : List Growing) → Joins (all_growing before) s part new
+pub joins : (before : List Segment) (s : Segment) (part : SegmentPart) (new : List Growing) → Joins (all_growing before) s part new
     → (part ≡ part_after before s) × (new ≡ all_growing (before ++ s ∷ []))
 joins before s part new j = join_by before s part new (joined_with (all_growing before) s) refl j
 

@@ -11,7 +11,7 @@ use Rattle.m51_cells.specs.Name.{title_at}
 use Rattle.m51_module.specs.declared.parts.ModuleParts.{ModuleParts}
 use Rattle.m51_module.specs.declared.segment.Segment.{Segment}
 use Rattle.m51_module.specs.Validity.{numbered}
-use Rattle.m51_resolve.specs.declared.joining.Part.{Part}
+use Rattle.m51_resolve.specs.declared.joining.SegmentPart.{SegmentPart}
 use Rattle.m51_resolve.specs.declared.segment.JoinedSegment.{JoinedSegment}
 
 -- every type but that of absolute segments
@@ -72,7 +72,7 @@ segments_of modules = map (joined_of (all_segments modules)) (firsts (all_segmen
 
 -- The part that a segment is, after those before it: the number is that of the joined segment with which it is joined,
 -- or the next one; the offset is where it begins after the parts before it.
-abbrev pub part_after : List Segment → Segment → Part
+abbrev pub part_after : List Segment → Segment → SegmentPart
 part_after before s = record {
   number = unwrap_or (position (are_parts s) (firsts before)) (length (firsts before));
   offset = start_after s.reloc (end_after 0 (filter (are_parts s) before));
@@ -92,5 +92,5 @@ segments_before modules m s =
 abbrev pub part_of : List ModuleParts → ℕ → ℕ → ℕ × ℕ
 part_of modules m s =
     option_map_or
-    (λ segment. let part : Part = part_after (segments_before modules m s) segment in (part.number, part.offset))
+    (λ segment. let part : SegmentPart = part_after (segments_before modules m s) segment in (part.number, part.offset))
     (segment_at modules m s) (0, 0)

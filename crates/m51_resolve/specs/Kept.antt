@@ -3,7 +3,7 @@ use Rattle.std.specs.Prelude.{◌≡◌, ℕ, ◌<◌, All, List, [], ◌∷◌,
 use Rattle.m51_module.specs.declared.parts.ModuleParts.{ModuleParts}
 use Rattle.m51_module.specs.declared.segment.Segment.{Segment}
 use Rattle.m51_module.specs.Validity.{IsValid}
-use Rattle.m51_resolve.specs.declared.joining.Part.{Part}
+use Rattle.m51_resolve.specs.declared.joining.SegmentPart.{SegmentPart}
 use Rattle.m51_resolve.specs.declared.publics.Definition.{Definition}
 use Rattle.m51_resolve.specs.declared.segment.JoinedSegment.{JoinedSegment}
 use Rattle.m51_resolve.specs.Joining.{all_segments, part_after, segments_of}
@@ -11,12 +11,12 @@ use Rattle.m51_resolve.specs.Publics.{all_externals, resolving}
 use Rattle.m51_resolve.specs.Rules.{AreResolved}
 
 -- the parts that these segments are, after those before them
-abbrev pub parts_after : List Segment → List Segment → List Part
+abbrev pub parts_after : List Segment → List Segment → List SegmentPart
 parts_after before [] = []
 parts_after before (s ∷ more) = part_after before s ∷ parts_after (before ++ s ∷ []) more
 
 -- the parts that the segments of the modules are, in module order
-abbrev pub parts_of : List ModuleParts → List Part
+abbrev pub parts_of : List ModuleParts → List SegmentPart
 parts_of modules = parts_after [] (all_segments modules)
 
 -- the publics that resolve the externals of the modules, in module order
@@ -30,8 +30,8 @@ pub record AreStarts {A : Type 0} (items : ModuleParts → List A) (modules : Li
   pub each : (m : ℕ) → m < length modules → slice_index starts m ≡ length (flat_map items (take m modules))
 
 -- the modules are valid and meet each rule, and the tables are theirs
-pub record AreKept (modules : List ModuleParts) (joined : List JoinedSegment) (starts : List ℕ) (table : List Part)
-    (external_starts : List ℕ) (found : List Definition) : Type 0 where
+pub record AreKept (modules : List ModuleParts) (joined : List JoinedSegment) (starts : List ℕ)
+    (table : List SegmentPart) (external_starts : List ℕ) (found : List Definition) : Type 0 where
   pub valid : All IsValid modules
   pub resolved : AreResolved modules
   pub segments : joined ≡ segments_of modules

@@ -4,7 +4,7 @@ use Rattle.std.specs.Prelude.{map, position, slice_get, slice_set, Option, Some,
 use Rattle.m51_cells.specs.Kinds.{is_code, most_of}
 use Rattle.m51_module.specs.declared.segment.Segment.{Segment}
 use Rattle.m51_resolve.specs.declared.joining.Growing.{Growing}
-use Rattle.m51_resolve.specs.declared.joining.Part.{Part}
+use Rattle.m51_resolve.specs.declared.joining.SegmentPart.{SegmentPart}
 use Rattle.m51_resolve.specs.declared.segment.JoinedSegment.{JoinedSegment}
 use Rattle.m51_resolve.specs.Joining.{are_parts, is_relocatable, end_after, firsts, parts_with, start_after, title_of}
 use Rattle.m51_resolve.specs.Rules.{is_mixed, parts_agree}
@@ -40,14 +40,14 @@ abbrev pub joined_with : List Growing → Segment → Option ℕ
 joined_with growing s = position (λ g. are_parts s g.first) growing
 
 -- the joined segments with one more segment, and the part that it is, by the number of what it is joined with
-abbrev pub JoinsAt : List Growing → Segment → Option ℕ → Part → List Growing → Type 0
+abbrev pub JoinsAt : List Growing → Segment → Option ℕ → SegmentPart → List Growing → Type 0
 JoinsAt old s None part new = (part ≡ record { number = length old; offset = 0 }) × (new ≡ old ++ begun s ∷ [])
 JoinsAt old s (Some number) part new =
     (g : Growing) × (slice_get old number ≡ Some g)
     × (part ≡ record { number = number; offset = start_after s.reloc g.end })
     × (new ≡ slice_set old number (grown g s))
 
-abbrev pub Joins : List Growing → Segment → Part → List Growing → Type 0
+abbrev pub Joins : List Growing → Segment → SegmentPart → List Growing → Type 0
 Joins old s part new = JoinsAt old s (joined_with old s) part new
 
 -- it is too large, and it is a unit

@@ -6,7 +6,7 @@ ghost use Rattle.m51_resolve.specs.WorkChoice.{IsNext, IsWanted};
 ghost use Rattle.m51_resolve.specs.WorkNames.{AreAskedFor, wanted_in};
 
 use crate::chosen::Chosen;
-use crate::definitions::{Definitions, note_asked};
+use crate::definitions::{DefinedNames, note_asked};
 use indexmap::{IndexMap, IndexSet};
 use m51_cells::{MOST_MODULES, Name, NoMemory};
 use m51_module::{Library, Module};
@@ -16,7 +16,7 @@ use std::alloc::Global;
 // where more modules are chosen already than a link takes: the link is refused then, whatever else is chosen.
 fn next_needed(
     chosen: &Chosen,
-    definitions: &Definitions,
+    definitions: &DefinedNames,
     asked: &IndexSet<Name>,
     members: &[&Module],
 ) -> Option<usize>
@@ -48,7 +48,7 @@ fn definitions_of(
     alloc: Global,
     asked: &IndexSet<Name>,
     members: &[&Module],
-) -> Result<Definitions, NoMemory>
+) -> Result<DefinedNames, NoMemory>
     ensures { IfOk result (λ table. AreAskedFor asked.now.keys (map (λ m. m.now) members.now) table.entries) }
 {
     let mut definitions = IndexMap::new(alloc);

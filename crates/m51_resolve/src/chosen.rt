@@ -3,7 +3,7 @@ ghost use Rattle.std.specs.Prelude.{◌≡◌, [], ◌∷◌, ◌++◌, length, 
 ghost use Rattle.m51_resolve.specs.WorkChoice.{earlier, IsEarliest, IsWanted, number_of, supplier};
 ghost use Rattle.m51_resolve.specs.WorkNames.{AreNamed, AreWanted, definition_in, Wants};
 
-use crate::definitions::{Definitions, definition_of, note_publics};
+use crate::definitions::{DefinedNames, definition_of, note_publics};
 use crate::publics::Definition;
 use indexmap::{IndexMap, IndexSet};
 use m51_cells::{Name, NoMemory};
@@ -15,7 +15,7 @@ use std::marker::Model;
 #[derive(Drop)]
 pub(crate) struct Chosen {
     pub(crate) modules: Vec<Module>,
-    pub(crate) definitions: Definitions,
+    pub(crate) definitions: DefinedNames,
     pub(crate) wanted: IndexSet<Name>,
 }
 
@@ -66,7 +66,7 @@ fn earlier(one: Option<usize>, two: Option<usize>) -> Option<usize>
 }
 
 // The names that these modules define and need. Error: out of memory.
-fn names_of(alloc: Global, modules: &[Module]) -> Result<(Definitions, IndexSet<Name>), NoMemory>
+fn names_of(alloc: Global, modules: &[Module]) -> Result<(DefinedNames, IndexSet<Name>), NoMemory>
     ensures { IfOk result (λ names. AreNamed modules.now names.0.entries names.1.keys) }
 {
     let mut definitions = IndexMap::new(alloc);
@@ -134,7 +134,7 @@ impl Chosen {
     }
 
     // The number of the member that has the name first, where none of the chosen modules defines it.
-    fn supplier(&self, members: &Definitions, name: &Name) -> Option<usize>
+    fn supplier(&self, members: &DefinedNames, name: &Name) -> Option<usize>
         ensures { result ≡ supplier self.now (definition_in members.now.entries) name.now }
     {
         match definition_of(&self.definitions, name) {
@@ -144,7 +144,7 @@ impl Chosen {
     }
 
     // The least number of a member that is the first to have a name which the chosen modules need and do not define.
-    pub(crate) fn first_supplier(&self, members: &Definitions) -> Option<usize>
+    pub(crate) fn first_supplier(&self, members: &DefinedNames) -> Option<usize>
         ensures { let supplier = supplier self.now (definition_in members.now.entries) in
             IsEarliest supplier (IsWanted self.now) result }
     {

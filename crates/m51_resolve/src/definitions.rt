@@ -17,7 +17,7 @@ pub(crate) struct Defined {
 }
 
 // The names that modules define, in order of first sight.
-pub(crate) type Definitions = IndexMap<Name, Defined>;
+pub(crate) type DefinedNames = IndexMap<Name, Defined>;
 
 // What is known of a name with one more definition.
 fn again(known: Option<Defined>, definition: Definition) -> Defined
@@ -48,7 +48,7 @@ fn definition_at(number: usize, index: usize, public: &Public) -> Definition
 }
 
 // Notes a definition of the name.
-fn note(table: &mut Definitions, name: &Name, definition: Definition) -> Result<(), NoMemory>
+fn note(table: &mut DefinedNames, name: &Name, definition: Definition) -> Result<(), NoMemory>
     ensures { let known = value_in table.old.entries name.now in
         OnOk result (Updates bytes_eq table.old table.new name.now (Some (again known definition))) }
 {
@@ -59,7 +59,7 @@ fn note(table: &mut Definitions, name: &Name, definition: Definition) -> Result<
 
 // Notes the publics of the module of that number. Error: out of memory.
 pub(crate) fn note_publics(
-    table: &mut Definitions,
+    table: &mut DefinedNames,
     number: usize,
     publics: &[Public],
 ) -> Result<(), NoMemory>
@@ -74,7 +74,7 @@ pub(crate) fn note_publics(
 
 // Notes a definition of the name, if the name is asked for.
 fn note_if(
-    table: &mut Definitions,
+    table: &mut DefinedNames,
     asked: &IndexSet<Name>,
     name: &Name,
     definition: Definition,
@@ -91,7 +91,7 @@ fn note_if(
 
 // Notes the publics of the module of that number whose names are asked for. Error: out of memory.
 pub(crate) fn note_asked(
-    table: &mut Definitions,
+    table: &mut DefinedNames,
     asked: &IndexSet<Name>,
     number: usize,
     publics: &[Public],
@@ -106,14 +106,14 @@ pub(crate) fn note_asked(
 }
 
 // The first public of the name, if the table has one.
-pub(crate) fn definition_of(table: &Definitions, name: &Name) -> Option<Definition>
+pub(crate) fn definition_of(table: &DefinedNames, name: &Name) -> Option<Definition>
     ensures { result ≡ definition_in table.now.entries name.now }
 {
     table.get(name).copied().map(|known| known.first)
 }
 
 // Whether two modules define the name.
-pub(crate) fn is_shared(table: &Definitions, name: &Name) -> bool
+pub(crate) fn is_shared(table: &DefinedNames, name: &Name) -> bool
     ensures { result ≡ shared_in table.now.entries name.now }
 {
     match table.get(name).copied() {

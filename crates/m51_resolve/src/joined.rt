@@ -6,7 +6,7 @@ ghost use Rattle.m51_resolve.specs.Publics.{external_at, public_of};
 ghost use Rattle.m51_resolve.specs.Rules.{AreResolved};
 
 use crate::JoinedSegment;
-use crate::joining::Part;
+use crate::joining::SegmentPart;
 use crate::publics::Definition;
 use m51_module::Module;
 use std::marker::Model;
@@ -20,7 +20,7 @@ pub struct Joined {
     pub(crate) modules: Vec<Module>,
     pub(crate) segments: Vec<JoinedSegment>,
     pub(crate) segment_starts: Vec<usize>,
-    pub(crate) parts: Vec<Part>,
+    pub(crate) parts: Vec<SegmentPart>,
     pub(crate) external_starts: Vec<usize>,
     pub(crate) publics: Vec<Definition>,
 }

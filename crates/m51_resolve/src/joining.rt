@@ -12,7 +12,7 @@ use std::alloc::Global;
 
 // The part of a joined segment that a segment is.
 #[derive(Clone, Copy)]
-pub(crate) struct Part {
+pub(crate) struct SegmentPart {
     // The joined segment, counted from 0.
     pub number: usize,
     // Where the part begins in it, in bytes, for BIT in bits.
@@ -132,7 +132,7 @@ fn join(
     growing: &mut Vec<Growing>,
     numbers: &mut IndexMap<Name, usize>,
     segment: &Segment,
-) -> Result<Part, NoMemory>
+) -> Result<SegmentPart, NoMemory>
     requires ends { All (λ g. g.end < 2 ^ 40) growing.old.items }
     requires numbers { numbers.old.entries ≡ numbers_from 0 growing.old.items }
     ensures joins { IfOk result (λ part. Joins growing.old.items segment.now part growing.new.items) }
@@ -145,13 +145,13 @@ fn join(
             let joined = &mut growing[number];
             let offset = start_after(segment.reloc, joined.end);
             *joined = grown(joined, segment);
-            Ok(Part { number, offset })
+            Ok(SegmentPart { number, offset })
         }
         None => {
             let number = growing.len();
             number_next(numbers, growing, segment)?;
             growing.push(begun(segment))?;
-            Ok(Part { number, offset: 0 })
+            Ok(SegmentPart { number, offset: 0 })
         }
     }
 }
@@ -160,7 +160,7 @@ fn join(
 pub(crate) fn join_all(
     alloc: Global,
     segments: &[Segment],
-) -> Result<(Vec<Growing>, Vec<Part>), NoMemory>
+) -> Result<(Vec<Growing>, Vec<SegmentPart>), NoMemory>
     requires { length segments.now ≤ 2 ^ 20 }
     ensures { let all = all_growing segments.now in
         IfOk result (λ joined. (joined.0.items ≡ all) × (joined.1.items ≡ parts_after [] segments.now)) }

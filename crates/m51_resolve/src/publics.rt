@@ -3,7 +3,7 @@ ghost use Rattle.std.specs.Prelude.{◌≡◌, map, IfOk};
 ghost use Rattle.m51_resolve.specs.Publics.{kinds_agree};
 ghost use Rattle.m51_resolve.specs.WorkNames.{definition_in, resolving_by};
 
-use crate::definitions::{Definitions, definition_of};
+use crate::definitions::{DefinedNames, definition_of};
 use m51_cells::{Kind, NoMemory, same_kind};
 use m51_module::External;
 use std::alloc::Global;
@@ -27,7 +27,7 @@ pub(crate) fn kinds_agree(one: Kind, two: Kind) -> bool
 }
 
 // The public that resolves the external, where one does.
-fn resolving(definitions: &Definitions, external: &External) -> Definition
+fn resolving(definitions: &DefinedNames, external: &External) -> Definition
     ensures { result ≡ resolving_by (definition_in definitions.now.entries) external.now }
 {
     definition_of(definitions, &external.name).unwrap_or(Definition {
@@ -40,7 +40,7 @@ fn resolving(definitions: &Definitions, external: &External) -> Definition
 // The publics that resolve these externals. Error: out of memory.
 pub(crate) fn resolving_all(
     alloc: Global,
-    definitions: &Definitions,
+    definitions: &DefinedNames,
     externals: &[External],
 ) -> Result<Vec<Definition>, NoMemory>
     ensures { let definition = definition_in definitions.now.entries in

@@ -9,7 +9,7 @@ ghost use Rattle.m51_resolve.specs.WorkRules.{rules_of_publics, Tells};
 
 use crate::choosing::choose;
 use crate::chosen::Chosen;
-use crate::definitions::Definitions;
+use crate::definitions::DefinedNames;
 use crate::flat::{all_externals, all_segments};
 use crate::joining::{Growing, join_all};
 use crate::publics::resolving_all;
@@ -23,7 +23,7 @@ use m51_module::{External, Library, Module, Quantity, Refusal};
 use std::alloc::Global;
 
 // Limit of modules, and L1.
-fn check_publics(definitions: &Definitions, modules: &[Module]) -> Result<(), Refusal>
+fn check_publics(definitions: &DefinedNames, modules: &[Module]) -> Result<(), Refusal>
     requires { AreDefinitions modules.now definitions.now.entries }
     ensures { Tells (rules_of_publics modules.now) result }
 {
@@ -38,7 +38,7 @@ fn check_publics(definitions: &Definitions, modules: &[Module]) -> Result<(), Re
 }
 
 // L2 and L3.
-fn check_externals(definitions: &Definitions, externals: &[External]) -> Result<(), Refusal>
+fn check_externals(definitions: &DefinedNames, externals: &[External]) -> Result<(), Refusal>
     ensures { Tells (rules_of_externals (definition_in definitions.now.entries) externals.now) result }
 {
     if let Some(name) = undefined_external(definitions, externals) {
@@ -112,7 +112,7 @@ fn segments_of(alloc: Global, growing: &[Growing]) -> Result<Vec<JoinedSegment>,
 fn join_chosen(
     alloc: Global,
     modules: Vec<Module>,
-    definitions: &Definitions,
+    definitions: &DefinedNames,
 ) -> Result<Joined, Refusal>
     requires { AreDefinitions modules.items definitions.now.entries }
     ensures { Gives (λ joined. joined) but_memory result (answer_of modules.items) }

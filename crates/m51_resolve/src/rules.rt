@@ -5,14 +5,14 @@ ghost use Rattle.m51_resolve.specs.Rules.{shared_public};
 ghost use Rattle.m51_resolve.specs.WorkJoining.{is_large, is_unit};
 ghost use Rattle.m51_resolve.specs.WorkNames.{contrary_by, definition_in, shared_in, undefined_by, AreDefinitions};
 
-use crate::definitions::{Definitions, definition_of, is_shared};
+use crate::definitions::{DefinedNames, definition_of, is_shared};
 use crate::joining::{Growing, is_relocatable};
 use crate::publics::kinds_agree;
 use m51_cells::{Name, is_code, most_of};
 use m51_module::{External, Module, Public, Segment};
 
 // The first of the publics that two modules define.
-fn first_shared(definitions: &Definitions, publics: &[Public]) -> Option<Name>
+fn first_shared(definitions: &DefinedNames, publics: &[Public]) -> Option<Name>
     ensures { result ≡ option_map (λ p. p.name) (find (λ p. shared_in definitions.now.entries p.name) publics.now) }
 {
     publics
@@ -22,7 +22,7 @@ fn first_shared(definitions: &Definitions, publics: &[Public]) -> Option<Name>
 }
 
 // The first public, by module and index, that another module defines too.
-pub(crate) fn shared_public(definitions: &Definitions, modules: &[Module]) -> Option<Name>
+pub(crate) fn shared_public(definitions: &DefinedNames, modules: &[Module]) -> Option<Name>
     requires { AreDefinitions modules.now definitions.now.entries }
     ensures { result ≡ shared_public modules.now }
 {
@@ -35,14 +35,14 @@ pub(crate) fn shared_public(definitions: &Definitions, modules: &[Module]) -> Op
 }
 
 // Whether no module defines the external.
-fn is_undefined(definitions: &Definitions, external: &External) -> bool
+fn is_undefined(definitions: &DefinedNames, external: &External) -> bool
     ensures { result ≡ undefined_by (definition_in definitions.now.entries) external.now }
 {
     definition_of(definitions, &external.name).is_none()
 }
 
 // The first of these externals that no module defines.
-pub(crate) fn undefined_external(definitions: &Definitions, externals: &[External]) -> Option<Name>
+pub(crate) fn undefined_external(definitions: &DefinedNames, externals: &[External]) -> Option<Name>
     ensures { let definition = definition_in definitions.now.entries in
         result ≡ option_map (λ e. e.name) (find (undefined_by definition) externals.now) }
 {
@@ -53,7 +53,7 @@ pub(crate) fn undefined_external(definitions: &Definitions, externals: &[Externa
 }
 
 // Whether the kind of the external does not agree with that of its public.
-fn is_contrary(definitions: &Definitions, external: &External) -> bool
+fn is_contrary(definitions: &DefinedNames, external: &External) -> bool
     ensures { result ≡ contrary_by (definition_in definitions.now.entries) external.now }
 {
     match definition_of(definitions, &external.name) {
@@ -63,7 +63,7 @@ fn is_contrary(definitions: &Definitions, external: &External) -> bool
 }
 
 // The first of these externals whose kind does not agree with that of its public.
-pub(crate) fn contrary_external(definitions: &Definitions, externals: &[External]) -> Option<Name>
+pub(crate) fn contrary_external(definitions: &DefinedNames, externals: &[External]) -> Option<Name>
     ensures { let definition = definition_in definitions.now.entries in
         result ≡ option_map (λ e. e.name) (find (contrary_by definition) externals.now) }
 {

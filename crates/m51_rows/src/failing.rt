@@ -1,7 +1,7 @@
 //! What goes wrong in a run: a call of the shelf or of the sink that fails, or pieces of a few bytes.
 use crate::texts::number;
 use m51_cells::NoMemory;
-use m51_shelf::{Call, MemSink};
+use m51_shelf::{MemSink, ShelfCall};
 use std::alloc::{AllocError, Global};
 
 // The most bytes that a run can write here.
@@ -13,7 +13,7 @@ pub(crate) enum Failure {
     /// Nothing.
     None,
     /// The call of the shelf of this kind and number.
-    Shelf(Call, u32),
+    Shelf(ShelfCall, u32),
     /// The write of this number.
     Write(u32),
     /// Each write that passes this room.
@@ -31,9 +31,9 @@ impl Failure {
         let (kind, digits) = line.split_once(' ')?;
         let number = number(digits)?;
         match kind {
-            "start" => Some(Failure::Shelf(Call::Start, number)),
-            "piece" => Some(Failure::Shelf(Call::Piece, number)),
-            "keep" => Some(Failure::Shelf(Call::Keep, number)),
+            "start" => Some(Failure::Shelf(ShelfCall::Start, number)),
+            "piece" => Some(Failure::Shelf(ShelfCall::Piece, number)),
+            "keep" => Some(Failure::Shelf(ShelfCall::Keep, number)),
             "write" => Some(Failure::Write(number)),
             "room" => Some(Failure::Room(number)),
             _ => None,
@@ -41,7 +41,7 @@ impl Failure {
     }
 
     /// The calls of the shelf that fail.
-    pub(crate) fn calls(self, alloc: Global) -> Result<Vec<(Call, u32)>, AllocError> {
+    pub(crate) fn calls(self, alloc: Global) -> Result<Vec<(ShelfCall, u32)>, AllocError> {
         match self {
             Failure::Shelf(call, number) => Ok(vec![in alloc; (call, number)]?),
             _ => Ok(Vec::new(alloc)),

@@ -8,8 +8,8 @@ use Rattle.std.proofs.lemmas.Bool.Decides.{nat_tests}
 use Rattle.std.proofs.lemmas.Option.{same_Some}
 use Rattle.m51_cells.proofs.Passing.{goes_on}
 use Rattle.m51_cells.proofs.Small.{either}
-use Rattle.m51_script.specs.declared.forms.Form.{Form}
-use Rattle.m51_script.specs.declared.forms.Form.TheVariants.{Fill, Pin, Receive}
+use Rattle.m51_script.specs.declared.forms.LineForm.{LineForm}
+use Rattle.m51_script.specs.declared.forms.LineForm.TheVariants.{Fill, Pin, Receive}
 use Rattle.m51_script.specs.Parts.{cut}
 use Rattle.m51_script.specs.Digits.{decimal, hexadecimal}
 use Rattle.m51_script.specs.Grammar.{by_word, fill_of, form_of, letter_p, pin_of, port_of, received, received_as, receive_of}
@@ -22,7 +22,7 @@ use Rattle.m51_script.proofs.NumberLaws.{number_complete, number_lacks, number_s
 cut_at_word : (line word other text : List ℕ) → IsCut line word text → word ≡ other → IsCut line other text
 cut_at_word line word other text k is = subst (λ w. IsCut line w text) is k
 
-fill_sound : (line text : List ℕ) (form : Form) → IsCut line (codes "FILL") text → fill_of text ≡ Some form → Writes line form
+fill_sound : (line text : List ℕ) (form : LineForm) → IsCut line (codes "FILL") text → fill_of text ≡ Some form → Writes line form
 fill_sound line text form k h =
     let byte = goes_on _ (hexadecimal text) form h in
     Fills {one = k.blanks} {hh = text} {byte = byte.value} k.blank (number_sound 16 4 text byte.value byte.found) k.is (sym (same_Some (Fill byte.value) form byte.goes))
@@ -40,7 +40,7 @@ port_sound (letter ∷ digit) port h =
     (λ is found. record { digit = digit; is = ap (λ l. l ∷ digit) (let e : letter ≡ letter_p = grind (arith, nat_tests, is) in e); writes = number_sound 10 1 digit port found })
     (λ _ none. absurd (cc))
 
-pin_sound : (line text : List ℕ) (form : Form) → IsCut line (codes "PIN") text → pin_of text ≡ Some form → Writes line form
+pin_sound : (line text : List ℕ) (form : LineForm) → IsCut line (codes "PIN") text → pin_of text ≡ Some form → Writes line form
 pin_sound line text form k h =
     let first = goes_on _ (cut text) form h in
     let cycle = goes_on _ (decimal 10 first.value.0) form first.goes in
@@ -55,7 +55,7 @@ pin_sound line text form k h =
     (k.is ∙ ap (λ l. codes "PIN" ++ (k.blanks ++ l)) (one.is ∙ ap (λ l. first.value.0 ++ (one.blanks ++ l)) (two.is ∙ ap (λ l. l ++ (two.blanks ++ second.value.1)) pn.is)))
     (sym (same_Some (Pin cycle.value port.value level.value) form level.goes))
 
-frame_sound : (line text rest cc : List ℕ) (cycle : ℕ) (form : Form) (o : Option (List ℕ × List ℕ)) → IsCut line (codes "RX") text → IsCut text cc rest → WritesCycle cc cycle → cut rest ≡ o
+frame_sound : (line text rest cc : List ℕ) (cycle : ℕ) (form : LineForm) (o : Option (List ℕ × List ℕ)) → IsCut line (codes "RX") text → IsCut text cc rest → WritesCycle cc cycle → cut rest ≡ o
     → option_and_then (λ (frame : ℕ × ℕ). Some (Receive cycle frame.0 frame.1)) (received_as rest o) ≡ Some form → Writes line form
 frame_sound line text rest cc cycle form None k one w e h =
     let frame = goes_on (λ (frame : ℕ × ℕ). Some (Receive cycle frame.0 frame.1)) (received_as rest None) form h in
@@ -73,14 +73,14 @@ frame_sound line text rest cc cycle form (Some parts) k one w e h =
     k.blank w one.blank (number_sound 16 4 parts.0 byte.value byte.found) two.blank (number_sound 10 1 parts.1 bit.value bit.found)
     (k.is ∙ ap (λ l. codes "RX" ++ (k.blanks ++ l)) (one.is ∙ ap (λ l. cc ++ (one.blanks ++ l)) two.is)) (sym says)
 
-receive_sound : (line text : List ℕ) (form : Form) → IsCut line (codes "RX") text → receive_of text ≡ Some form → Writes line form
+receive_sound : (line text : List ℕ) (form : LineForm) → IsCut line (codes "RX") text → receive_of text ≡ Some form → Writes line form
 receive_sound line text form k h =
     let first = goes_on _ (cut text) form h in
     let cycle = goes_on _ (decimal 10 first.value.0) form first.goes in
     frame_sound line text first.value.1 first.value.0 cycle.value form (cut first.value.1) k (cut_sound text first.value first.found)
     (number_sound 10 10 first.value.0 cycle.value cycle.found) refl cycle.goes
 
-word_sound : (line word text : List ℕ) (form : Form) → IsCut line word text → by_word word text ≡ Some form → Writes line form
+word_sound : (line word text : List ℕ) (form : LineForm) → IsCut line word text → by_word word text ≡ Some form → Writes line form
 unfolding by_word
 word_sound line word text form k h =
     either (bytes_eq word (codes "FILL")) (fill_of text) _ form h (λ is found. fill_sound line text form (cut_at_word line word (codes "FILL") text k ((bytes_eq-Decides word (codes "FILL")).0 is)) found)
@@ -88,7 +88,7 @@ word_sound line word text form k h =
     λ _ h3. either (bytes_eq word (codes "RX")) (receive_of text) None form h3 (λ is found. receive_sound line text form (cut_at_word line word (codes "RX") text k ((bytes_eq-Decides word (codes "RX")).0 is)) found)
     λ _ h4. absurd (cc)
 
-line_sound : (line : List ℕ) (form : Form) → form_of line ≡ Some form → Writes line form
+line_sound : (line : List ℕ) (form : LineForm) → form_of line ≡ Some form → Writes line form
 line_sound line form h =
     let parts = goes_on _ (cut line) form h in
     word_sound line parts.value.0 parts.value.1 form (cut_sound line parts.value parts.found) parts.goes
@@ -150,7 +150,7 @@ two_parts hh three b byte bit wh b3 wb =
     ∙ ap (option_and_then (λ byte. option_and_then (λ bit. Some (byte, bit)) (decimal 1 b))) (number_complete 16 4 hh byte wh)
     ∙ ap (option_and_then (λ bit. Some (byte, bit))) (number_complete 10 1 b bit wb)
 
-line_complete : (line : List ℕ) (form : Form) → Writes line form → form_of line ≡ Some form
+line_complete : (line : List ℕ) (form : LineForm) → Writes line form → form_of line ≡ Some form
 line_complete line form (Fills {one = one} {hh = hh} {byte = byte} b1 wh is says) =
     of_word line (codes "FILL") one hh refl b1 (cut_complete (codes "FILL") one hh refl b1 (starts_alone hh (hex_lacks hh byte wh))) is
     ∙ by_fill hh ∙ ap (option_and_then (λ byte. Some (Fill byte))) (number_complete 16 4 hh byte wh) ∙ ap Some (sym says)

@@ -5,8 +5,8 @@ use Rattle.std.specs.Str.Lines.{lines as lines_of}
 use Rattle.m51_cells.specs.declared.limits.TheConstants.{MOST_SCRIPT_LINES}
 use Rattle.m51_script.specs.declared.error.ScriptError.{ScriptError}
 use Rattle.m51_script.specs.declared.error.ScriptError.TheVariants.{S1, S2, S3, Limit, Memory}
-use Rattle.m51_script.specs.declared.forms.Form.{Form}
-use Rattle.m51_script.specs.declared.forms.Form.TheVariants.{Fill, Pin, Receive}
+use Rattle.m51_script.specs.declared.forms.LineForm.{LineForm}
+use Rattle.m51_script.specs.declared.forms.LineForm.TheVariants.{Fill, Pin, Receive}
 use Rattle.m51_script.specs.declared.reading.Reading.{Reading}
 use Rattle.m51_script.specs.declared.script.Script.{Script}
 use Rattle.m51_cells.specs.Blanks.{is_skipped}
@@ -60,7 +60,7 @@ received_in number r cycle byte bit =
     })
 
 -- what a line adds to what is read, or why the line with this number is refused
-abbrev pub with_form : ℕ → Reading → Option Form → Result Reading ScriptError
+abbrev pub with_form : ℕ → Reading → Option LineForm → Result Reading ScriptError
 with_form number r None = Err (S1 number)
 with_form number r (Some (Fill byte)) = filled number r byte
 with_form number r (Some (Pin cycle port level)) = pinned number r cycle port level

@@ -7,7 +7,7 @@ use crate::parts::cut;
 
 // The form of a line, with its numbers as they are written.
 #[derive(Clone, Copy)]
-pub(crate) enum Form {
+pub(crate) enum LineForm {
     /// `FILL hh`.
     Fill(u64),
     /// `PIN cycle Pn hh`.
@@ -17,11 +17,11 @@ pub(crate) enum Form {
 }
 
 // What follows FILL.
-fn fill_of(text: &[u8]) -> Option<Form>
+fn fill_of(text: &[u8]) -> Option<LineForm>
     ensures { result ≡ fill_of text.now }
 {
     let byte = hexadecimal(text)?;
-    Some(Form::Fill(byte))
+    Some(LineForm::Fill(byte))
 }
 
 // The number of a port, after its P.
@@ -35,7 +35,7 @@ fn port_of(part: &[u8]) -> Option<u64>
 }
 
 // What follows PIN.
-fn pin_of(text: &[u8]) -> Option<Form>
+fn pin_of(text: &[u8]) -> Option<LineForm>
     ensures { result ≡ pin_of text.now }
 {
     let (cycle, rest) = cut(text)?;
@@ -43,7 +43,7 @@ fn pin_of(text: &[u8]) -> Option<Form>
     let (port, level) = cut(rest)?;
     let port = port_of(port)?;
     let level = hexadecimal(level)?;
-    Some(Form::Pin(cycle, port, level))
+    Some(LineForm::Pin(cycle, port, level))
 }
 
 // A byte, and its ninth or stop bit, which is 1 where it is missing.
@@ -64,18 +64,18 @@ fn received(text: &[u8]) -> Option<(u64, u64)>
 }
 
 // What follows RX.
-fn receive_of(text: &[u8]) -> Option<Form>
+fn receive_of(text: &[u8]) -> Option<LineForm>
     ensures { result ≡ receive_of text.now }
 {
     let (cycle, frame) = cut(text)?;
     let cycle = decimal(10, cycle)?;
     let (byte, bit) = received(frame)?;
-    Some(Form::Receive(cycle, byte, bit))
+    Some(LineForm::Receive(cycle, byte, bit))
 }
 
 // What a word says with what follows it.
 #[tactic(auto, unfolding(crate::specs::Grammar::by_word))]
-fn by_word(word: &[u8], text: &[u8]) -> Option<Form>
+fn by_word(word: &[u8], text: &[u8]) -> Option<LineForm>
     ensures { result ≡ by_word word.now text.now }
 {
     if word == b"FILL".as_slice() {
@@ -90,7 +90,7 @@ fn by_word(word: &[u8], text: &[u8]) -> Option<Form>
 }
 
 // The form of a line, if it has one.
-pub(crate) fn form_of(line: &[u8]) -> Option<Form>
+pub(crate) fn form_of(line: &[u8]) -> Option<LineForm>
     ensures { result ≡ form_of line.now }
 {
     let (word, rest) = cut(line)?;

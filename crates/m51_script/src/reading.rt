@@ -8,7 +8,7 @@ ghost use Rattle.m51_script.specs.Reading.{IsRead, filled, pinned, read_from, re
 ghost use Rattle.m51_script.specs.Reading.{unread, with_form, with_text};
 
 use crate::error::ScriptError;
-use crate::forms::{Form, form_of};
+use crate::forms::{LineForm, form_of};
 use crate::frame_lines::FrameLines;
 use crate::pin_lines::{Change, PinLines};
 use crate::script::Script;
@@ -177,16 +177,16 @@ fn receive(
 }
 
 // After a line with this form, if it has one.
-fn with_form(reading: Reading, number: u32, form: Option<Form>) -> Result<Reading, ScriptError>
+fn with_form(reading: Reading, number: u32, form: Option<LineForm>) -> Result<Reading, ScriptError>
     requires { IsRead reading }
     ensures value { Gives (λ r. r) refusal_of result (with_form number reading form) }
     ensures kept { IfOk result IsRead }
 {
     match form {
         None => Err(ScriptError::S1 { line: number }),
-        Some(Form::Fill(byte)) => fill(reading, number, byte),
-        Some(Form::Pin(cycle, port, level)) => pin(reading, number, cycle, port, level),
-        Some(Form::Receive(cycle, byte, bit)) => receive(reading, number, cycle, byte, bit),
+        Some(LineForm::Fill(byte)) => fill(reading, number, byte),
+        Some(LineForm::Pin(cycle, port, level)) => pin(reading, number, cycle, port, level),
+        Some(LineForm::Receive(cycle, byte, bit)) => receive(reading, number, cycle, byte, bit),
     }
 }
 

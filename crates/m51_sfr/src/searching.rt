@@ -9,7 +9,7 @@ ghost use Rattle.m51_sfr.specs.Coded.{register_in};
 use crate::addresses::{
     ACC, B, DPH, IE, IP, P0, P1, P2, P3, PCON, PSW, RCAP2L, SBUF, SCON, T2CON, TH1, TH2,
 };
-use crate::table::{Bit, REGISTERS, Row};
+use crate::table::{Bit, REGISTERS, RegisterRow};
 
 /// Whether the address is that of a register.
 ///
@@ -38,14 +38,14 @@ pub fn is_register(address: u8) -> bool
 }
 
 // The row with this name, if there is one.
-fn row_named<'a>(rows: &'a [Row], name: &[u8]) -> Option<&'a Row>
+fn row_named<'a>(rows: &'a [RegisterRow], name: &[u8]) -> Option<&'a RegisterRow>
     ensures { option_copied result ≡ find (λ r. bytes_eq r.0.now name.now) rows.now }
 {
     rows.iter().find(|row| row.0 == name)
 }
 
 // The address of the row with this name, if there is one.
-fn address_in(rows: &[Row], name: &[u8]) -> Option<u8>
+fn address_in(rows: &[RegisterRow], name: &[u8]) -> Option<u8>
     ensures { result ≡ address_in (map (λ r. row r.0.now r.1) rows.now) name.now }
 {
     let found = row_named(rows, name)?;
@@ -75,7 +75,7 @@ fn bit_in(address: u8, bits: &[Bit], name: &[u8]) -> Option<u16>
 }
 
 // The bit address of the bit with this name, if the register has it and its bits have addresses.
-fn bit_of(register: &Row, name: &[u8]) -> Option<u16>
+fn bit_of(register: &RegisterRow, name: &[u8]) -> Option<u16>
     ensures { result ≡ address_in (bits_of (register_in register.now)) name.now }
 {
     if register.1 % 8 == 0 {
@@ -86,7 +86,7 @@ fn bit_of(register: &Row, name: &[u8]) -> Option<u16>
 }
 
 // The bit address of the bit with this name, if one of these registers has it.
-fn bit_among(rows: &[Row], name: &[u8]) -> Option<u16>
+fn bit_among(rows: &[RegisterRow], name: &[u8]) -> Option<u16>
     ensures { result ≡ address_in (bits_among (map register_in rows.now)) name.now }
 {
     for row in rows {

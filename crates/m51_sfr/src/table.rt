@@ -13,14 +13,14 @@ use crate::bits::{
 pub(crate) type Bit = (&'static [u8], u8);
 
 /// A name of a register, its address, and its named bits, from bit 0 upward.
-pub(crate) type Row = (&'static [u8], u8, &'static [Bit]);
+pub(crate) type RegisterRow = (&'static [u8], u8, &'static [Bit]);
 
 /// The registers, by ascending addresses.
 ///
 /// The names of the bits 0 and 1 of T2CON hold a sign, so no source can write them, and they are not here.
 ///
 /// Source: family manual.
-pub(crate) const REGISTERS: [Row; 26] = [
+pub(crate) const REGISTERS: [RegisterRow; 26] = [
     (b"P0", P0, &[]),
     (b"SP", SP, &[]),
     (b"DPL", DPL, &[]),

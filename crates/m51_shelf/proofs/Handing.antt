@@ -1,7 +1,7 @@
 -- What a shelf returns from an open file, piece by piece.
 use Rattle.std.proofs.Common.{◌≡◌, ℕ, ◌+◌, ◌≤◌, length, List, [], ◌∷◌, ◌++◌, Option, Some, None, Result, Ok, Err, sym, ap, ◌∙◌, subst, append_assoc, append-nil}
 use Rattle.m51_cells.specs.declared.limits.TheConstants.{MOST_FILE_BYTES}
-use Rattle.m51_shelf.specs.declared.reading.ReadError.{ReadError}
+use Rattle.m51_shelf.specs.declared.reading.FileReadError.{FileReadError}
 use Rattle.m51_shelf.specs.Shelf.{File, Grows, GoesOn}
 use Rattle.m51_shelf.specs.States.{ReadAt}
 use Rattle.m51_shelf.specs.Reading.{GivesOn, HandsOver, IsGiven}
@@ -45,7 +45,7 @@ goes_on {T} {E} first before after old new value one h =
 
 -- all of an open file, or what came of it
 pub all_over : (first before after : ReadAt) (old new all : List ℕ) (count : ℕ) → GoesOn first.given before.given old
-    → GivesOn {T = ℕ} {E = ReadError} before after old new (Ok count) → all ≡ new → HandsOver first after (Ok all)
+    → GivesOn {T = ℕ} {E = FileReadError} before after old new (Ok count) → all ≡ new → HandsOver first after (Ok all)
 all_over first before after old new all count one h is =
     record {
       bytes = new;
@@ -54,13 +54,13 @@ all_over first before after old new all count one h is =
       all = is;
     }
 
-pub part_over : (first before after : ReadAt) (old new : List ℕ) (result : Result ℕ ReadError) (error : ReadError) → GoesOn first.given before.given old
+pub part_over : (first before after : ReadAt) (old new : List ℕ) (result : Result ℕ FileReadError) (error : FileReadError) → GoesOn first.given before.given old
     → GivesOn before after old new result → HandsOver first after (Err error)
 part_over first before after old new result error one h =
     record { bytes = old ++ h.piece; most = h.most; goes = goes_given first.given before after old new result one h; all = tt }
 
 -- a file that was started, and read on
-pub started_given : (before between after : ReadAt) (name : List ℕ) (result : Result (List ℕ) ReadError)
+pub started_given : (before between after : ReadAt) (name : List ℕ) (result : Result (List ℕ) FileReadError)
     → Grows before.given between.given ((name, []) ∷ []) → HandsOver between after result → IsGiven before after name result
 started_given before between after name result one h =
     record { bytes = h.bytes; most = h.most; grows = grows_then before.given between.given after.given name h.bytes one h.goes; all = h.all }

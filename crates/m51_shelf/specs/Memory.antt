@@ -3,8 +3,8 @@ use Rattle.std.specs.Prelude.{◌≡◌, ℕ, ◌-◌, ◌<◌, ◌⊎◌, Bool,
 use Rattle.std.specs.Prelude.{◌≤◌, Result, Ok, Err, Contains, Vec, vec_capacity}
 use Rattle.std.specs.declared.alloc.Global.{Global}
 use Rattle.m51_cells.specs.Outside.{one_more}
-use Rattle.m51_shelf.specs.declared.mem_shelf.Call.{Call}
-use Rattle.m51_shelf.specs.declared.mem_shelf.Call.TheVariants.{Start, Piece, Keep}
+use Rattle.m51_shelf.specs.declared.mem_shelf.ShelfCall.{ShelfCall}
+use Rattle.m51_shelf.specs.declared.mem_shelf.ShelfCall.TheVariants.{Start, Piece, Keep}
 use Rattle.m51_shelf.specs.Shelf.{File, file_of}
 
 -- what is kept: the files, in order; for how many more files and bytes there is room; how often keep was called; the
@@ -21,7 +21,7 @@ pub record MemoryStore : Type 0 where
 -- how many of these calls have failed; and what is kept
 pub record MemoryShelf : Type 0 where
   pub files : List File
-  pub fails : List (Call × ℕ)
+  pub fails : List (ShelfCall × ℕ)
   pub starts : ℕ
   pub pieces : ℕ
   pub name : List ℕ
@@ -32,7 +32,7 @@ pub record MemoryShelf : Type 0 where
   pub store : MemoryStore
 
 -- the shelf before its first call, with places for `places` files and room for `room` bytes in all
-abbrev pub made : List File → List (Call × ℕ) → ℕ → ℕ → MemoryShelf
+abbrev pub made : List File → List (ShelfCall × ℕ) → ℕ → ℕ → MemoryShelf
 made files fails places room = record {
   files = files;
   fails = fails;

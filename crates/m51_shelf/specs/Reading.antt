@@ -3,8 +3,8 @@ use Rattle.std.specs.Prelude.{◌≡◌, ℕ, ◌+◌, ◌<◌, ◌≤◌, true,
 use Rattle.std.specs.Prelude.{Result, Ok, Err}
 use Rattle.std.specs.Prelude.{OnOk, IfSome, IsSomeAnd}
 use Rattle.m51_cells.specs.declared.limits.TheConstants.{MOST_FILE_BYTES}
-use Rattle.m51_shelf.specs.declared.reading.ReadError.{ReadError}
-use Rattle.m51_shelf.specs.declared.reading.ReadError.TheVariants as error
+use Rattle.m51_shelf.specs.declared.reading.FileReadError.{FileReadError}
+use Rattle.m51_shelf.specs.declared.reading.FileReadError.TheVariants as error
 use Rattle.m51_shelf.specs.Shelf.{Files, Grows, GoesOn, Opens}
 use Rattle.m51_shelf.specs.States.{ReadAt, ShelfState, HasFailed}
 
@@ -20,19 +20,19 @@ pub record IsLong (holds : Option Files) (after : ReadAt) : Type 0 where
   pub held : IfSome holds (λ files. IsSomeAnd (files after.named) (λ file. MOST_FILE_BYTES < length file))
 
 -- the whole file, or that it is too long, or that a call failed; out of memory is free
-abbrev pub IsRead : Option Files → ReadAt → ReadAt → Result (List ℕ) ReadError → Type 0
+abbrev pub IsRead : Option Files → ReadAt → ReadAt → Result (List ℕ) FileReadError → Type 0
 IsRead holds before after (Ok bytes) = IsWhole holds after bytes
 IsRead holds before after (Err error.TooLong) = IsLong holds after
 IsRead holds before after (Err error.Failed) = HasFailed before after
 IsRead holds before after (Err error.Memory) = Unit {0}
 
-abbrev pub IsThat : List ℕ → Result (List ℕ) ReadError → Type 0
+abbrev pub IsThat : List ℕ → Result (List ℕ) FileReadError → Type 0
 IsThat bytes (Ok all) = all ≡ bytes
 IsThat bytes (Err error) = Unit {0}
 
 -- The file of this name was started, and these bytes were returned from it, at most one past the limit; if the answer
 -- has bytes, it has these.
-pub record IsGiven (before after : ReadAt) (name : List ℕ) (result : Result (List ℕ) ReadError) : Type 0 where
+pub record IsGiven (before after : ReadAt) (name : List ℕ) (result : Result (List ℕ) FileReadError) : Type 0 where
   pub bytes : List ℕ
   pub most : length bytes ≤ MOST_FILE_BYTES + 1
   pub grows : Grows before.given after.given ((name, bytes) ∷ [])
@@ -67,14 +67,14 @@ pub record TakesOn (at : ReadAt) (old new : List ℕ) (count : ℕ) : Type 0 whe
   pub at_end : count ≡ 0 → IsAll at.opened new
 
 -- a piece that did not come: the call failed; out of memory is free
-abbrev pub IsPieceError : ReadAt → ReadAt → Result ℕ ReadError → Type 0
+abbrev pub IsPieceError : ReadAt → ReadAt → Result ℕ FileReadError → Type 0
 IsPieceError before after (Ok count) = Unit {0}
 IsPieceError before after (Err error.TooLong) = ⊥
 IsPieceError before after (Err error.Failed) = HasFailed before after
 IsPieceError before after (Err error.Memory) = Unit {0}
 
 -- These bytes were returned from the open file, at most one past the limit; if the answer has bytes, it has these.
-pub record HandsOver (before after : ReadAt) (result : Result (List ℕ) ReadError) : Type 0 where
+pub record HandsOver (before after : ReadAt) (result : Result (List ℕ) FileReadError) : Type 0 where
   pub bytes : List ℕ
   pub most : length bytes ≤ MOST_FILE_BYTES + 1
   pub goes : GoesOn before.given after.given bytes

@@ -14,9 +14,9 @@ mod sure_shelf;
 mod sure_sink;
 
 pub use folder::DirShelf;
-pub use mem_shelf::{Call, MemShelf};
+pub use mem_shelf::{MemShelf, ShelfCall};
 pub use mem_sink::MemSink;
-pub use reading::{ReadError, read_file};
+pub use reading::{FileReadError, read_file};
 pub use shelf::Shelf;
 pub use sink::{Failed, Sink, write_whole};
 pub use stdout::{MOST_TRIES, StdSink};

@@ -20,7 +20,7 @@ use std::marker::Model;
 ///
 /// Source: own choice ("The outside").
 #[derive(Clone, Copy, Debug, PartialEq, Eq)]
-pub enum Call {
+pub enum ShelfCall {
     /// A start of a file.
     Start,
     /// A piece of the open file.
@@ -37,7 +37,7 @@ pub enum Call {
 #[derive(Drop)]
 pub struct MemShelf {
     files: Vec<(Bytes, Bytes)>,
-    fails: Vec<(Call, u32)>,
+    fails: Vec<(ShelfCall, u32)>,
     starts: u64,
     pieces: u64,
     name: Option<String>,
@@ -131,7 +131,7 @@ fn put_file(
 }
 
 // Whether this call of that number is listed.
-fn is_listed(fails: &[(Call, u32)], call: Call, number: u64) -> bool
+fn is_listed(fails: &[(ShelfCall, u32)], call: ShelfCall, number: u64) -> bool
     ensures { IsTrue result ↔ Contains fails.now (call, number) }
 {
     fails
@@ -141,24 +141,24 @@ fn is_listed(fails: &[(Call, u32)], call: Call, number: u64) -> bool
 
 // A start of that number fails where it is listed, and where no file has the name.
 fn check_start(
-    fails: &[(Call, u32)],
+    fails: &[(ShelfCall, u32)],
     files: &[(Bytes, Bytes)],
     number: u64,
     name: &[u8],
 ) -> Result<(), Failed>
-    ensures { IsErr result ↔ (Contains fails.now (Call.Start, number) ⊎ (file_of files.now name.now ≡ None)) }
+    ensures { IsErr result ↔ (Contains fails.now (ShelfCall.Start, number) ⊎ (file_of files.now name.now ≡ None)) }
 {
-    if is_listed(fails, Call::Start, number) || index_of(files, name) == files.len() {
+    if is_listed(fails, ShelfCall::Start, number) || index_of(files, name) == files.len() {
         return Err(Failed);
     }
     Ok(())
 }
 
 // A piece of that number fails where it is listed.
-fn check_piece(fails: &[(Call, u32)], number: u64) -> Result<(), Failed>
-    ensures { IsErr result ↔ Contains fails.now (Call.Piece, number) }
+fn check_piece(fails: &[(ShelfCall, u32)], number: u64) -> Result<(), Failed>
+    ensures { IsErr result ↔ Contains fails.now (ShelfCall.Piece, number) }
 {
-    if is_listed(fails, Call::Piece, number) {
+    if is_listed(fails, ShelfCall::Piece, number) {
         return Err(Failed);
     }
     Ok(())
@@ -176,15 +176,15 @@ fn check_room(places: usize, room: usize, count: usize) -> Result<(), Failed>
 
 // A keep of that number fails if it is listed, and if there is no place or no room for `count` bytes.
 fn check_keep(
-    fails: &[(Call, u32)],
+    fails: &[(ShelfCall, u32)],
     number: u64,
     places: usize,
     room: usize,
     count: usize,
 ) -> Result<(), Failed>
-    ensures { IsErr result ↔ (Contains fails.now (Call.Keep, number) ⊎ ((places ≡ 0) ⊎ (room < count))) }
+    ensures { IsErr result ↔ (Contains fails.now (ShelfCall.Keep, number) ⊎ ((places ≡ 0) ⊎ (room < count))) }
 {
-    if is_listed(fails, Call::Keep, number) {
+    if is_listed(fails, ShelfCall::Keep, number) {
         return Err(Failed);
     }
     check_room(places, room, count)
@@ -198,7 +198,7 @@ impl MemShelf {
     pub fn make(
         alloc: Global,
         files: Vec<(Bytes, Bytes)>,
-        fails: Vec<(Call, u32)>,
+        fails: Vec<(ShelfCall, u32)>,
         keeps: u32,
         room: u32,
     ) -> Result<MemShelf, NoMemory>

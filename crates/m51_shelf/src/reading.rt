@@ -17,7 +17,7 @@ const PIECE: usize = 4096;
 ///
 /// Source: own choice ("The outside").
 #[derive(Clone, Copy, Debug, PartialEq, Eq)]
-pub enum ReadError {
+pub enum FileReadError {
     /// It has more than `MOST_FILE_BYTES` bytes.
     TooLong,
     /// A call on the shelf failed.
@@ -26,25 +26,25 @@ pub enum ReadError {
     Memory,
 }
 
-impl From<Failed> for ReadError {
+impl From<Failed> for FileReadError {
     ghost use Rattle.std.specs.Prelude.{◌≡◌};
-    ghost use Rattle.m51_shelf.specs.declared.reading.ReadError.TheVariants.{Failed as ReadFailed};
+    ghost use Rattle.m51_shelf.specs.declared.reading.FileReadError.TheVariants.{Failed as ReadFailed};
 
     ghost from_gives = { λ _ error. error ≡ ReadFailed };
 
-    fn from(_error: Failed) -> ReadError {
-        ReadError::Failed
+    fn from(_error: Failed) -> FileReadError {
+        FileReadError::Failed
     }
 }
 
-impl From<NoMemory> for ReadError {
+impl From<NoMemory> for FileReadError {
     ghost use Rattle.std.specs.Prelude.{◌≡◌};
-    ghost use Rattle.m51_shelf.specs.declared.reading.ReadError.TheVariants.{Memory};
+    ghost use Rattle.m51_shelf.specs.declared.reading.FileReadError.TheVariants.{Memory};
 
     ghost from_gives = { λ _ error. error ≡ Memory };
 
-    fn from(_error: NoMemory) -> ReadError {
-        ReadError::Memory
+    fn from(_error: NoMemory) -> FileReadError {
+        FileReadError::Memory
     }
 }
 
@@ -58,7 +58,7 @@ fn append(bytes: &mut Vec<u8>, piece: &[u8]) -> Result<(), NoMemory>
 
 // Reads the next piece of the open file, and appends it. It may read one byte past MOST_FILE_BYTES, to detect a longer
 // file.
-fn read_piece<F: Shelf>(files: &mut F, bytes: &mut Vec<u8>) -> Result<usize, ReadError>
+fn read_piece<F: Shelf>(files: &mut F, bytes: &mut Vec<u8>) -> Result<usize, FileReadError>
     requires few { length bytes.old.items ≤ MOST_FILE_BYTES }
     requires taken { HasTaken (F.state files.old).reads bytes.old.items }
     ensures frame { ReadsOn (F.state files.old) (F.state files.new) }
@@ -76,7 +76,7 @@ fn read_piece<F: Shelf>(files: &mut F, bytes: &mut Vec<u8>) -> Result<usize, Rea
 }
 
 // Reads the open file to its end, in pieces, and at most one byte past MOST_FILE_BYTES.
-fn read_open<F: Shelf>(alloc: Global, files: &mut F) -> Result<Bytes, ReadError>
+fn read_open<F: Shelf>(alloc: Global, files: &mut F) -> Result<Bytes, FileReadError>
     requires { IsOpened (F.state files.old) }
     ensures frame { ReadsOn (F.state files.old) (F.state files.new) }
     ensures most { (F.state files.new).reads.taken ≤ MOST_FILE_BYTES + 1 }
@@ -89,7 +89,7 @@ fn read_open<F: Shelf>(alloc: Global, files: &mut F) -> Result<Bytes, ReadError>
             Ok(0) => return Ok(Bytes::of(bytes)),
             Ok(_) => {
                 if bytes.len() > MOST_FILE_BYTES {
-                    return Err(ReadError::TooLong);
+                    return Err(FileReadError::TooLong);
                 }
             }
             Err(error) => return Err(error),
@@ -102,7 +102,11 @@ fn read_open<F: Shelf>(alloc: Global, files: &mut F) -> Result<Bytes, ReadError>
 /// TooLong: it has more. Failed: a call on the shelf has failed. Memory: there is no memory for its bytes.
 ///
 /// Source: own choice ("The outside").
-pub fn read_file<F: Shelf>(alloc: Global, name: String, files: &mut F) -> Result<Bytes, ReadError>
+pub fn read_file<F: Shelf>(
+    alloc: Global,
+    name: String,
+    files: &mut F,
+) -> Result<Bytes, FileReadError>
     ensures frame { OnlyReads (F.state files.old) (F.state files.new) }
     ensures named { (F.state files.new).reads.named ≡ string_bytes name }
     ensures most { (F.state files.new).reads.taken ≤ MOST_FILE_BYTES + 1 }

@@ -17,8 +17,8 @@ use Rattle.m51_expr.specs.Looks.{has_form}
 use Rattle.m51_expr.specs.Reading.{Reads, line_of, expression_in, enough}
 use Rattle.m51_expr.specs.Grammar.{Writes}
 use Rattle.m51_expr.proofs.Sound.{sound}
-use Rattle.m51_stmt.specs.declared.definitions.Definition.{Definition}
-use Rattle.m51_stmt.specs.declared.definitions.Definition.TheVariants as definition
+use Rattle.m51_stmt.specs.declared.definitions.DefinitionWord.{DefinitionWord}
+use Rattle.m51_stmt.specs.declared.definitions.DefinitionWord.TheVariants as definition
 use Rattle.m51_stmt.specs.declared.directives.Directive.{Directive}
 use Rattle.m51_stmt.specs.declared.directives.Directive.TheVariants as directive
 use Rattle.m51_stmt.specs.declared.externs.Awaited.{Awaited}
@@ -205,7 +205,7 @@ segment_derived name (symbols.Word word ∷ symbols.Word type ∷ symbols.Word l
     segment_by name word (symbols.Word type ∷ []) (symbols.Word last ∷ []) (kind_of word) (reloc_of type) true refl (λ x is. grammar.Typed is) (overlaid last is))
 segment_derived name l = none_is
 
-definition_derived : (d : Definition) (name : List ℕ) (l : List Symbol) → IfSome (definition_form d name l) (IsDefinition name d l)
+definition_derived : (d : DefinitionWord) (name : List ℕ) (l : List Symbol) → IfSome (definition_form d name l) (IsDefinition name d l)
 definition_derived definition.Segment name l = segment_derived name l
 definition_derived definition.Equ name l = made (body.Equ name) (IsDefinition name definition.Equ l) l (λ e is. grammar.Equ is)
 definition_derived definition.Set name l = made (body.Set name) (IsDefinition name definition.Set l) l (λ e is. grammar.Set is)

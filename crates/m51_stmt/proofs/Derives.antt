@@ -18,7 +18,7 @@ use Rattle.m51_expr.specs.Ranks.{prefix_of, prefix_operator, infix_of, of_rank, 
 use Rattle.m51_expr.specs.Reading.{Line}
 use Rattle.m51_expr.specs.Grammar.{Writes, Leaf, Parens, Before, Between, Tighter}
 use Rattle.m51_expr.proofs.Complete.{expression_is}
-use Rattle.m51_stmt.specs.declared.definitions.Definition.{Definition}
+use Rattle.m51_stmt.specs.declared.definitions.DefinitionWord.{DefinitionWord}
 use Rattle.m51_stmt.specs.declared.directives.Directive.{Directive}
 use Rattle.m51_stmt.specs.declared.externs.Awaited.{Awaited}
 use Rattle.m51_stmt.specs.declared.externs.Awaited.TheVariants as awaited
@@ -261,7 +261,7 @@ segment_read name word k r b type last kinds (grammar.Typed {word = w} is) gramm
     ∙ segment_made name word k (reloc_of w) r b kinds is allowed
 segment_read name word k r b type last kinds (grammar.Typed {word = w} is) grammar.Overlay allowed = segment_made name word k (reloc_of w) r b kinds is allowed
 
-definition_reads : (d : Definition) (name : List ℕ) (l : List Symbol) (b : BodyTree) → IsDefinition name d l b → definition_form d name l ≡ Some b
+definition_reads : (d : DefinitionWord) (name : List ℕ) (l : List Symbol) (b : BodyTree) → IsDefinition name d l b → definition_form d name l ≡ Some b
 definition_reads d name l b (grammar.Segment {word = word} {k = k} {r = r} {overlay = over} {type = type} {last = last} kinds types overlay allowed) = segment_read name word k r over type last kinds types overlay allowed
 definition_reads d name l b (grammar.Equ {e = e} is) = ap (option_map (body.Equ name)) (expr_read l e is)
 definition_reads d name l b (grammar.Set {e = e} is) = ap (option_map (body.Set name)) (expr_read l e is)

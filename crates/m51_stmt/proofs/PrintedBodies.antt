@@ -13,8 +13,8 @@ use Rattle.m51_expr.specs.declared.symbol.Symbol.TheVariants as symbols
 use Rattle.m51_expr.specs.Symbol.{operator_of, prefix_word, relation_word, arithmetic_word, word_symbol, word_or_other}
 use Rattle.m51_expr.specs.Words.{is_language_word}
 use Rattle.m51_expr.specs.Tree.{Tree}
-use Rattle.m51_stmt.specs.declared.definitions.Definition.{Definition}
-use Rattle.m51_stmt.specs.declared.definitions.Definition.TheVariants as definition
+use Rattle.m51_stmt.specs.declared.definitions.DefinitionWord.{DefinitionWord}
+use Rattle.m51_stmt.specs.declared.definitions.DefinitionWord.TheVariants as definition
 use Rattle.m51_stmt.specs.declared.directives.Directive.{Directive}
 use Rattle.m51_stmt.specs.declared.directives.Directive.TheVariants as directive
 use Rattle.m51_stmt.specs.Statement as body
@@ -236,7 +236,7 @@ directive_said : (labelled : Bool) (w : List ℕ) (d : Directive) (rest : List W
 directive_said labelled w d rest b found word is = subst (SaysFirst labelled (map symbol rest) b) (sym word) (grammar.Directed found is)
 
 -- a definition without a label before it
-define_said : (labelled : Bool) (name w : List ℕ) (d : Definition) (rest : List Word) (b : BodyTree) → labelled ≡ false → IsFree name → definition_of w ≡ Some d → symbol (name_word w) ≡ symbols.Word w → grammar.IsDefinition name d (map symbol rest) b → IsSaid labelled (map symbol (name_word name ∷ name_word w ∷ rest)) b
+define_said : (labelled : Bool) (name w : List ℕ) (d : DefinitionWord) (rest : List Word) (b : BodyTree) → labelled ≡ false → IsFree name → definition_of w ≡ Some d → symbol (name_word w) ≡ symbols.Word w → grammar.IsDefinition name d (map symbol rest) b → IsSaid labelled (map symbol (name_word name ∷ name_word w ∷ rest)) b
 define_said labelled name w d rest b bare free found word is =
     subst (λ l. IsSaid l (map symbol (name_word name ∷ name_word w ∷ rest)) b) (sym bare)
     (subst (SaysFirst false (symbol (name_word w) ∷ map symbol rest) b) (sym (name_symbol name free.leaf))

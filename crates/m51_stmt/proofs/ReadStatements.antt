@@ -17,8 +17,8 @@ use Rattle.m51_cells.proofs.Passing.{front_passes}
 use Rattle.m51_lex.specs.declared.fault.TheConstants.{LONG_LINE}
 use Rattle.m51_expr.specs.declared.symbol.Symbol.{Symbol}
 use Rattle.m51_expr.specs.Tree.{Tree}
-use Rattle.m51_stmt.specs.declared.definitions.Definition.{Definition}
-use Rattle.m51_stmt.specs.declared.definitions.Definition.TheVariants as definition
+use Rattle.m51_stmt.specs.declared.definitions.DefinitionWord.{DefinitionWord}
+use Rattle.m51_stmt.specs.declared.definitions.DefinitionWord.TheVariants as definition
 use Rattle.m51_stmt.specs.declared.directives.Directive.{Directive}
 use Rattle.m51_stmt.specs.declared.directives.Directive.TheVariants as directive
 use Rattle.m51_stmt.specs.Statement.{BodyTree, OperandTree, ItemTree, StmtTree, R}
@@ -107,7 +107,7 @@ unit_good : IsReloc reloc.Unit
 unfolding reloc_of
 unit_good = refl
 
-abbrev IsDefinition : Definition → Type 0
+abbrev IsDefinition : DefinitionWord → Type 0
 IsDefinition (definition.Address k) = IsKind k
 IsDefinition d = Unit {0}
 
@@ -200,7 +200,7 @@ type_good : (l : List Symbol) (r : Reloc) → grammar.HasType l r → IsReloc r
 type_good l r grammar.Unit = unit_good
 type_good l r (grammar.Typed {word = word} is) = (reloc_good word).holds r is
 
-definition_body : (place : ℕ) (d : Definition) (name : List ℕ) (l : List Symbol) (b : BodyTree) → place ≡ 0 → IsDefinition d → IsFree name → grammar.IsDefinition name d l b → Each IsGood l → IsBody place b
+definition_body : (place : ℕ) (d : DefinitionWord) (name : List ℕ) (l : List Symbol) (b : BodyTree) → place ≡ 0 → IsDefinition d → IsFree name → grammar.IsDefinition name d l b → Each IsGood l → IsBody place b
 definition_body place d name l b first good free (grammar.Segment {word = word} {k = k} {r = r} {type = type} kinds types overlaid allowed) h =
     (first, record { name_is = free; kind_is = (kind_good word).holds k kinds; reloc_is = type_good type r types; allowed = allowed })
 definition_body place d name l b first good free (grammar.Equ {e = e} is) h = (first, free, expr_good l e is h)

@@ -9,8 +9,8 @@ use Rattle.m51_cells.specs.Kinds.{allows, may_overlay}
 use Rattle.m51_expr.specs.declared.symbol.Symbol.{Symbol}
 use Rattle.m51_expr.specs.declared.symbol.Symbol.TheVariants as symbol
 use Rattle.m51_stmt.specs.declared.lack.Want.TheVariants as want
-use Rattle.m51_stmt.specs.declared.definitions.Definition.{Definition}
-use Rattle.m51_stmt.specs.declared.definitions.Definition.TheVariants.{Segment, Equ, Set, Address}
+use Rattle.m51_stmt.specs.declared.definitions.DefinitionWord.{DefinitionWord}
+use Rattle.m51_stmt.specs.declared.definitions.DefinitionWord.TheVariants.{Segment, Equ, Set, Address}
 use Rattle.m51_stmt.specs.Statement as body
 use Rattle.m51_stmt.specs.Statement.{BodyTree}
 use Rattle.m51_stmt.specs.Kinds.{kind_of, reloc_of}
@@ -18,7 +18,7 @@ use Rattle.m51_stmt.specs.Lack.{lacks}
 use Rattle.m51_stmt.specs.Lists.{expression}
 
 -- the definition that a word makes
-unfoldable pub definition_of : List ℕ → Option Definition
+unfoldable pub definition_of : List ℕ → Option DefinitionWord
 definition_of word =
     if bytes_eq word (codes "SEGMENT") then Some Segment
     else if bytes_eq word (codes "EQU") then Some Equ
@@ -54,13 +54,13 @@ segment name (symbol.Word kind ∷ symbol.Word type ∷ symbol.Word last ∷ [])
 segment name other = None
 
 -- the definition of this name
-abbrev pub definition_form : Definition → List ℕ → List Symbol → Option BodyTree
+abbrev pub definition_form : DefinitionWord → List ℕ → List Symbol → Option BodyTree
 definition_form Segment name symbols = segment name symbols
 definition_form Equ name symbols = option_map (body.Equ name) (expression symbols)
 definition_form Set name symbols = option_map (body.Set name) (expression symbols)
 definition_form (Address k) name symbols = option_map (body.Address name k) (expression symbols)
 
 -- something that the definition requires after its word is missing
-abbrev pub definition_lacks : Definition → List Symbol → Bool
+abbrev pub definition_lacks : DefinitionWord → List Symbol → Bool
 definition_lacks Segment symbols = lacks want.Nothing want.Names symbols
 definition_lacks d symbols = lacks want.Expression want.Nothing symbols

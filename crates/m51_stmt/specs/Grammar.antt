@@ -16,8 +16,8 @@ use Rattle.m51_expr.specs.Tree.{Tree}
 use Rattle.m51_expr.specs.Reading.{line_of}
 use Rattle.m51_expr.specs.Grammar.{Writes}
 use Rattle.m51_expr.specs.Looks.{has_form}
-use Rattle.m51_stmt.specs.declared.definitions.Definition.{Definition}
-use Rattle.m51_stmt.specs.declared.definitions.Definition.TheVariants as definition
+use Rattle.m51_stmt.specs.declared.definitions.DefinitionWord.{DefinitionWord}
+use Rattle.m51_stmt.specs.declared.definitions.DefinitionWord.TheVariants as definition
 use Rattle.m51_stmt.specs.declared.directives.Directive.{Directive}
 use Rattle.m51_stmt.specs.declared.directives.Directive.TheVariants as directive
 use Rattle.m51_stmt.specs.Statement as body
@@ -101,7 +101,7 @@ pub data HasOverlay : List Symbol → Bool → Type 0 where
   Overlay : HasOverlay (symbol.Word (codes "OVERLAYABLE") ∷ []) true
 
 -- definition = SEGMENT kind [type] [OVERLAYABLE] | EQU expr | SET expr | kind expr, by its word and what follows it
-pub data IsDefinition (name : List ℕ) : Definition → List Symbol → BodyTree → Type 0 where
+pub data IsDefinition (name : List ℕ) : DefinitionWord → List Symbol → BodyTree → Type 0 where
   Segment : {word : List ℕ} {k : Kind} {r : Reloc} {overlay : Bool} {type last : List Symbol}
       → kind_of word ≡ Some k → HasType type r → HasOverlay last overlay → is_allowed k r overlay ≡ true
       → IsDefinition name definition.Segment (symbol.Word word ∷ type ++ last) (body.Segment name k r overlay)
@@ -144,7 +144,7 @@ pub data IsSaid : Bool → List Symbol → BodyTree → Type 0 where
       → IsSaid labelled (symbol.Word word ∷ symbols) (body.Code word os)
   Directed : {labelled : Bool} {word : List ℕ} {d : Directive} {symbols : List Symbol} {b : BodyTree}
       → directive_of word ≡ Some d → IsDirective d symbols b → IsSaid labelled (symbol.Word word ∷ symbols) b
-  Defined : {name word : List ℕ} {d : Definition} {symbols : List Symbol} {b : BodyTree}
+  Defined : {name word : List ℕ} {d : DefinitionWord} {symbols : List Symbol} {b : BodyTree}
       → is_reserved name ≡ false → definition_of word ≡ Some d → IsDefinition name d symbols b
       → IsSaid false (symbol.Name name ∷ symbol.Word word ∷ symbols) b
 

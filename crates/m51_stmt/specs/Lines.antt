@@ -14,8 +14,8 @@ use Rattle.m51_expr.specs.declared.symbol.Symbol.{Symbol}
 use Rattle.m51_expr.specs.declared.symbol.Symbol.TheVariants as symbol
 use Rattle.m51_expr.specs.Symbol.{symbol_of}
 use Rattle.m51_stmt.specs.declared.lack.Want.TheVariants as want
-use Rattle.m51_stmt.specs.declared.definitions.Definition.{Definition}
-use Rattle.m51_stmt.specs.declared.definitions.Definition.TheVariants.{Address}
+use Rattle.m51_stmt.specs.declared.definitions.DefinitionWord.{DefinitionWord}
+use Rattle.m51_stmt.specs.declared.definitions.DefinitionWord.TheVariants.{Address}
 use Rattle.m51_stmt.specs.declared.directives.Directive.{Directive}
 use Rattle.m51_stmt.specs.Statement.{BodyTree, Empty, StmtTree}
 use Rattle.m51_stmt.specs.Answer.{and_then, or_fault}
@@ -62,7 +62,7 @@ statement (symbol.Name name ∷ rest) = named name rest
 statement symbols = option_map (with_label None) (said false symbols)
 
 -- the word of definitions that comes first
-abbrev pub definition_in : List Symbol → Option Definition
+abbrev pub definition_in : List Symbol → Option DefinitionWord
 definition_in [] = None
 definition_in (s ∷ rest) = option_and_then definition_of (word_of s)
 
@@ -72,12 +72,12 @@ is_extrn (symbol.Word word) = bytes_eq word (codes "EXTRN")
 is_extrn s = false
 
 -- a kind after EXTRN is no word of definitions
-abbrev pub beside_extrn : Option Definition → Option Definition
+abbrev pub beside_extrn : Option DefinitionWord → Option DefinitionWord
 beside_extrn (Some (Address k)) = None
 beside_extrn d = d
 
 -- the word of definitions after a first word, if there is one
-abbrev pub definition_after : Symbol → List Symbol → Option Definition
+abbrev pub definition_after : Symbol → List Symbol → Option DefinitionWord
 definition_after first rest = if is_extrn first then beside_extrn (definition_in rest) else definition_in rest
 
 -- the fault of a directive, and fault 11 where the word begins none
@@ -94,7 +94,7 @@ spoken_fault rest None = NO_INSTRUCTION
 
 -- The fault of a definition, where a word of definitions follows the first word: 12 where that is reserved; then 6;
 -- then 12. Or else the fault of what the first word begins.
-abbrev pub begun_fault : Symbol → List Symbol → Option Definition → ℕ
+abbrev pub begun_fault : Symbol → List Symbol → Option DefinitionWord → ℕ
 begun_fault first rest (Some d) =
     if is_reserved_word first then BAD_FORM else lacking (definition_lacks d (drop 1 rest)) BAD_FORM
 begun_fault first rest None = spoken_fault rest (word_of first)

@@ -15,7 +15,7 @@ use std::alloc::Global;
 
 /// A word of definitions, which comes after the name that it defines.
 #[derive(Clone, Copy)]
-pub(crate) enum Definition {
+pub(crate) enum DefinitionWord {
     Segment,
     Equ,
     Set,
@@ -24,17 +24,17 @@ pub(crate) enum Definition {
 
 /// The definition that a word makes.
 #[tactic(auto, unfolding(crate::specs::Definitions::definition_of))]
-pub(crate) fn definition_of(word: &[u8]) -> Option<Definition>
+pub(crate) fn definition_of(word: &[u8]) -> Option<DefinitionWord>
     ensures { result ≡ definition_of word.now }
 {
     if word == b"SEGMENT".as_slice() {
-        Some(Definition::Segment)
+        Some(DefinitionWord::Segment)
     } else if word == b"EQU".as_slice() {
-        Some(Definition::Equ)
+        Some(DefinitionWord::Equ)
     } else if word == b"SET".as_slice() {
-        Some(Definition::Set)
+        Some(DefinitionWord::Set)
     } else {
-        kind_of(word).map(Definition::Address)
+        kind_of(word).map(DefinitionWord::Address)
     }
 }
 
@@ -93,17 +93,17 @@ fn segment(name: &Name, symbols: &[Symbol]) -> Option<Body>
 /// The definition of this name with what follows its word, if it has no syntax error.
 pub(crate) fn definition_form(
     alloc: Global,
-    kind: Definition,
+    kind: DefinitionWord,
     name: &Name,
     symbols: &[Symbol],
 ) -> Result<Option<Body>, NoMemory>
     ensures { IfOk result (λ found. option_map body_tree found ≡ definition_form kind name.now symbols.now) }
 {
     Ok(match kind {
-        Definition::Segment => segment(name, symbols),
-        Definition::Equ => expression(alloc, symbols)?.map(|value| Body::Equ(*name, value)),
-        Definition::Set => expression(alloc, symbols)?.map(|value| Body::Set(*name, value)),
-        Definition::Address(kind) => {
+        DefinitionWord::Segment => segment(name, symbols),
+        DefinitionWord::Equ => expression(alloc, symbols)?.map(|value| Body::Equ(*name, value)),
+        DefinitionWord::Set => expression(alloc, symbols)?.map(|value| Body::Set(*name, value)),
+        DefinitionWord::Address(kind) => {
             expression(alloc, symbols)?.map(|value| Body::Address(*name, kind, value))
         }
     })
@@ -112,14 +112,14 @@ pub(crate) fn definition_form(
 /// Whether something that a definition needs after its word is missing.
 pub(crate) fn definition_lacks(
     alloc: Global,
-    definition: Definition,
+    definition: DefinitionWord,
     symbols: &[Symbol],
 ) -> Result<bool, NoMemory>
     ensures { IfOk result (λ lacks. lacks ≡ definition_lacks definition symbols.now) }
 {
     match definition {
-        Definition::Segment => lacks(alloc, Want::Nothing, Want::Names, symbols),
-        Definition::Equ | Definition::Set | Definition::Address(_) => {
+        DefinitionWord::Segment => lacks(alloc, Want::Nothing, Want::Names, symbols),
+        DefinitionWord::Equ | DefinitionWord::Set | DefinitionWord::Address(_) => {
             lacks(alloc, Want::Expression, Want::Nothing, symbols)
         }
     }

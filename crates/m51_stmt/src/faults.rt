@@ -4,7 +4,7 @@ ghost use Rattle.m51_stmt.specs.Lines.{definition_in, is_extrn, beside_extrn, de
 ghost use Rattle.m51_stmt.specs.Lines.{begun_fault, fault, is_colon, statement_fault};
 ghost use Rattle.m51_stmt.specs.Words.{first_is};
 
-use crate::definitions::{Definition, definition_lacks, definition_of};
+use crate::definitions::{DefinitionWord, definition_lacks, definition_of};
 use crate::directives::{directive_fault, directive_of, lacking};
 use crate::lack::{Want, lacks};
 use crate::words::{is_reserved_word, is_word, word_of};
@@ -14,7 +14,7 @@ use m51_isa::is_mnemonic;
 use std::alloc::Global;
 
 // The word of definitions that comes first.
-fn definition_in(symbols: &[Symbol]) -> Option<Definition>
+fn definition_in(symbols: &[Symbol]) -> Option<DefinitionWord>
     ensures { result ≡ definition_in symbols.now }
 {
     match symbols {
@@ -36,17 +36,17 @@ fn is_extrn(symbol: &Symbol) -> bool
 }
 
 // A kind after EXTRN is no word of definitions.
-fn beside_extrn(definition: Option<Definition>) -> Option<Definition>
+fn beside_extrn(definition: Option<DefinitionWord>) -> Option<DefinitionWord>
     ensures { result ≡ beside_extrn definition }
 {
     match definition {
-        Some(Definition::Address(_)) => None,
+        Some(DefinitionWord::Address(_)) => None,
         _ => definition,
     }
 }
 
 // The word of definitions after a first word, if there is one.
-fn definition_after(first: &Symbol, rest: &[Symbol]) -> Option<Definition>
+fn definition_after(first: &Symbol, rest: &[Symbol]) -> Option<DefinitionWord>
     ensures { result ≡ definition_after first.now rest.now }
 {
     if is_extrn(first) {

@@ -3,7 +3,7 @@ use Rattle.std.proofs.Common.{◌≡◌, ℕ, ◌+◌, Bool, true, false, cond, 
 use Rattle.m51_module.specs.declared.source.SourceFile.{SourceFile}
 use Rattle.std.specs.Str.Lines.{lines}
 use Rattle.m51_text.specs.declared.inclusion.Inclusion.{Inclusion}
-use Rattle.m51_text.specs.declared.reading.Reading.{Reading}
+use Rattle.m51_text.specs.declared.reading.TextReading.{TextReading}
 use Rattle.m51_text.specs.Said.{said}
 use Rattle.m51_text.specs.Text.{TextLine, inclusion_of, brought, lines_with}
 use Rattle.m51_text.specs.Reading.{State, state_of, next, after, inserted}
@@ -64,5 +64,5 @@ unfolding after
 after_end includes levels file number rest s whole none so_far = ap (λ r. after includes s (lines_with (brought includes levels) levels file number (lines r))) (sym none) ∙ so_far
 
 -- reading has stopped
-pub after_stop : (includes : List SourceFile) (r : Reading) (xs : List TextLine) (whole : State) → nat_le 65536 (length r.entries.items) ≡ true → after includes (state_of r) xs ≡ whole → state_of r ≡ whole
+pub after_stop : (includes : List SourceFile) (r : TextReading) (xs : List TextLine) (whole : State) → nat_le 65536 (length r.entries.items) ≡ true → after includes (state_of r) xs ≡ whole → state_of r ≡ whole
 after_stop includes r xs whole full so_far = sym (after_full includes (state_of r) xs (ap (nat_le 65536) (length_trees r.entries.items) ∙ full)) ∙ so_far

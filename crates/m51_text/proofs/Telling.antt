@@ -6,7 +6,7 @@ use Rattle.m51_stmt.specs.declared.statement.Stmt.{Stmt}
 use Rattle.m51_module.specs.declared.source.Fault.{Fault}
 use Rattle.m51_cells.specs.declared.fault.TheConstants.{MISPLACED_END}
 use Rattle.m51_text.specs.declared.text.Line.{Line}
-use Rattle.m51_text.specs.declared.entry.Entry.{Entry}
+use Rattle.m51_text.specs.declared.entry.LineEntry.{LineEntry}
 use Rattle.m51_text.specs.Answer.{Lines, Faults, LineTree, line_tree, faults_or_lines}
 use Rattle.m51_text.specs.Said.{said_tree}
 use Rattle.m51_text.specs.Entries.{entry_tree, fault_at, fault_kept, fault_of_entry, line_said, line_of_entry, tree_said, tree_of_entry}
@@ -24,7 +24,7 @@ is_nothing [] h = refl
 is_nothing (x ∷ xs) h = absurd (omega (arith, is_zero (suc (length xs)) h))
 
 -- the faults of lines as contracts see them
-same_faults : (entries : List Entry) → filter_map fault_of_entry (map entry_tree entries) ≡ filter_map fault_kept entries
+same_faults : (entries : List LineEntry) → filter_map fault_of_entry (map entry_tree entries) ≡ filter_map fault_kept entries
 unfolding fault_kept
 same_faults [] = refl
 same_faults (e ∷ entries) = ap (cons_option (fault_of_entry (entry_tree e))) (same_faults entries)
@@ -34,12 +34,12 @@ one_line : (file line : ℕ) (r : Result Stmt ℕ) (lines : List Line) (trees : 
 one_line file line (Ok statement) lines trees same = let here : LineTree = line_tree (record { file = file; line = line; stmt = statement }) in ap (λ l. here ∷ l) same
 one_line file line (Err number) lines trees same = same
 
-same_lines : (entries : List Entry) → map line_tree (filter_map line_of_entry entries) ≡ filter_map tree_of_entry (map entry_tree entries)
+same_lines : (entries : List LineEntry) → map line_tree (filter_map line_of_entry entries) ≡ filter_map tree_of_entry (map entry_tree entries)
 same_lines [] = refl
 same_lines (e ∷ entries) = one_line e.file e.line e.said (filter_map line_of_entry entries) (filter_map tree_of_entry (map entry_tree entries)) (same_lines entries)
 
 -- the lines, where there is no fault
-pub lines_told : (entries : List Entry) (faults : List Fault) (lines : List Line) → (length faults == 0) ≡ true → faults ≡ filter_map fault_kept entries → lines ≡ filter_map line_of_entry entries
+pub lines_told : (entries : List LineEntry) (faults : List Fault) (lines : List Line) → (length faults == 0) ≡ true → faults ≡ filter_map fault_kept entries → lines ≡ filter_map line_of_entry entries
     → Lines (map line_tree lines) ≡ faults_or_lines (filter_map fault_of_entry (map entry_tree entries)) (filter_map tree_of_entry (map entry_tree entries))
 lines_told entries faults lines empty kept said =
     ap (λ l. Lines (map line_tree l)) said
@@ -51,17 +51,17 @@ some_faults [] lines h = absurd (is_not_zero h)
 some_faults (fault ∷ faults) lines h = refl
 
 -- the faults, where there are some
-pub faults_told : (entries : List Entry) (faults : List Fault) → (length faults == 0) ≡ false → faults ≡ filter_map fault_kept entries
+pub faults_told : (entries : List LineEntry) (faults : List Fault) → (length faults == 0) ≡ false → faults ≡ filter_map fault_kept entries
     → Faults faults ≡ faults_or_lines (filter_map fault_of_entry (map entry_tree entries)) (filter_map tree_of_entry (map entry_tree entries))
 faults_told entries faults some kept =
     some_faults faults (filter_map tree_of_entry (map entry_tree entries)) some
     ∙ ap (λ f. faults_or_lines f (filter_map tree_of_entry (map entry_tree entries))) (kept ∙ sym (same_faults entries))
 
 -- of no lines
-pub nothing_told : (entries : List Entry) → (length entries == 0) ≡ true → Faults (fault_at 0 1 MISPLACED_END ∷ []) ≡ told (map entry_tree entries)
+pub nothing_told : (entries : List LineEntry) → (length entries == 0) ≡ true → Faults (fault_at 0 1 MISPLACED_END ∷ []) ≡ told (map entry_tree entries)
 nothing_told entries h = ap (λ l. told (map entry_tree l)) (sym (is_nothing entries h))
 
 -- of lines
-pub some_told : (entries : List Entry) → (length entries == 0) ≡ false → faults_or_lines (filter_map fault_of_entry (map entry_tree entries)) (filter_map tree_of_entry (map entry_tree entries)) ≡ told (map entry_tree entries)
+pub some_told : (entries : List LineEntry) → (length entries == 0) ≡ false → faults_or_lines (filter_map fault_of_entry (map entry_tree entries)) (filter_map tree_of_entry (map entry_tree entries)) ≡ told (map entry_tree entries)
 some_told [] h = absurd (is_not_zero h)
 some_told (e ∷ entries) h = refl

@@ -7,7 +7,7 @@ use Rattle.m51_stmt.specs.Statement.{StmtTree}
 use Rattle.m51_module.specs.declared.source.Fault.{Fault}
 use Rattle.m51_cells.specs.declared.fault.TheConstants.{MISPLACED_END}
 use Rattle.m51_text.specs.declared.text.Line.{Line}
-use Rattle.m51_text.specs.declared.entry.Entry.{Entry}
+use Rattle.m51_text.specs.declared.entry.LineEntry.{LineEntry}
 use Rattle.m51_text.specs.Said.{said_tree}
 use Rattle.m51_text.specs.Answer.{LineTree}
 
@@ -19,7 +19,7 @@ pub record EntryTree : Type 0 where
   pub by_place : Option ℕ
 
 -- a line, apart from the memory that holds its expressions
-abbrev pub entry_tree : Entry → EntryTree
+abbrev pub entry_tree : LineEntry → EntryTree
 entry_tree e = record { file = e.file; line = e.line; said = said_tree e.said; by_place = e.by_place }
 
 -- the fault of this number at a line
@@ -36,7 +36,7 @@ abbrev pub fault_of_entry : EntryTree → Option Fault
 fault_of_entry e = fault_said e.file e.line e.by_place e.said
 
 -- the same of a line as it is kept
-unfoldable pub fault_kept : Entry → Option Fault
+unfoldable pub fault_kept : LineEntry → Option Fault
 fault_kept e = fault_of_entry (entry_tree e)
 
 -- the line that says this, if it is a statement
@@ -45,7 +45,7 @@ line_said file line (Ok statement) = Some (record { file = file; line = line; st
 line_said file line (Err number) = None
 
 -- a line with its statement
-abbrev pub line_of_entry : Entry → Option Line
+abbrev pub line_of_entry : LineEntry → Option Line
 line_of_entry e = line_said e.file e.line e.said
 
 -- the same as contracts see it

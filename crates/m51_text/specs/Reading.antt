@@ -9,8 +9,8 @@ use Rattle.m51_cells.specs.declared.fault.TheConstants.{MISPLACED_END}
 use Rattle.m51_cells.specs.declared.limits.TheConstants.{MOST_SOURCE_LINES}
 use Rattle.m51_text.specs.declared.inclusion.Inclusion.{Inclusion}
 use Rattle.m51_text.specs.declared.inclusion.Inclusion.TheVariants.{Given}
-use Rattle.m51_text.specs.declared.reading.Place.{Place}
-use Rattle.m51_text.specs.declared.reading.Reading.{Reading}
+use Rattle.m51_text.specs.declared.reading.TextPlace.{TextPlace}
+use Rattle.m51_text.specs.declared.reading.TextReading.{TextReading}
 use Rattle.m51_text.specs.Said.{said}
 use Rattle.m51_text.specs.Text.{TextLine, inclusion_of, bytes_of, file_lines}
 use Rattle.m51_text.specs.Faults.{ends_source, is_misplaced, fault_by_place}
@@ -23,11 +23,11 @@ pub record State : Type 0 where
   pub ended : Bool
 
 -- the same of what the code keeps
-abbrev pub state_of : Reading → State
+abbrev pub state_of : TextReading → State
 state_of r = record { entries = map entry_tree r.entries.items; ended = r.ended }
 
 -- a line at this place
-abbrev pub text_line : Place → List ℕ → TextLine
+abbrev pub text_line : TextPlace → List ℕ → TextLine
 text_line place bytes = record { file = place.file; line = place.line; levels = place.levels; bytes = bytes }
 
 -- the fault by its place of a line with `above` lines above it, of which one is the END of the source or not

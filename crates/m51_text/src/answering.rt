@@ -7,10 +7,10 @@ ghost use Rattle.m51_text.specs.Entries.{tree_of_entry};
 ghost use Rattle.m51_text.specs.Answer.{faults_or_lines, text_of, text_tree};
 ghost use Rattle.m51_text.specs.Reading.{state_of, settled, told};
 
-use crate::entry::Entry;
+use crate::entry::LineEntry;
 use crate::inserting::read_file;
 use crate::missing_end::mark_missing_end;
-use crate::reading::Reading;
+use crate::reading::TextReading;
 use crate::text::{Line, Lines, Text};
 use m51_cells::{MISPLACED_END, MOST_INCLUDE_LEVELS, NoMemory};
 use m51_module::{Fault, Faults, SourceFile};
@@ -20,7 +20,7 @@ use std::alloc::{AllocError, Global};
 const MOST_LEVELS: u8 = MOST_INCLUDE_LEVELS as u8;
 
 // The faults of lines.
-fn faults_of(alloc: Global, entries: &[Entry]) -> Result<Vec<Fault>, AllocError>
+fn faults_of(alloc: Global, entries: &[LineEntry]) -> Result<Vec<Fault>, AllocError>
     ensures { IfOk result (λ faults. faults.items ≡ filter_map fault_kept entries.now) }
 {
     entries
@@ -30,7 +30,7 @@ fn faults_of(alloc: Global, entries: &[Entry]) -> Result<Vec<Fault>, AllocError>
 }
 
 // The lines with their statements.
-fn lines_of(alloc: Global, entries: Vec<Entry>) -> Result<Vec<Line>, AllocError>
+fn lines_of(alloc: Global, entries: Vec<LineEntry>) -> Result<Vec<Line>, AllocError>
     ensures { IfOk result (λ lines. lines.items ≡ filter_map line_of_entry entries.items) }
 {
     entries
@@ -53,7 +53,7 @@ fn faults_of_nothing(alloc: Global) -> Result<Vec<Fault>, NoMemory>
 }
 
 // The faults of lines, or where there are none the lines.
-fn faults_or_lines(alloc: Global, entries: Vec<Entry>) -> Result<Text, NoMemory>
+fn faults_or_lines(alloc: Global, entries: Vec<LineEntry>) -> Result<Text, NoMemory>
     ensures { IfOk result (λ text. text_tree text
         ≡ faults_or_lines (filter_map fault_of_entry (map entry_tree entries.items))
         (filter_map tree_of_entry (map entry_tree entries.items))) }
@@ -67,11 +67,11 @@ fn faults_or_lines(alloc: Global, entries: Vec<Entry>) -> Result<Text, NoMemory>
 }
 
 // The lines that were read, with the missing END.
-fn settled(reading: Reading) -> Vec<Entry>
+fn settled(reading: TextReading) -> Vec<LineEntry>
     ensures { map entry_tree result.items ≡ settled (state_of reading) }
 {
     let lacks_end = reading.lacks_end();
-    let Reading { mut entries, .. } = reading;
+    let TextReading { mut entries, .. } = reading;
     if lacks_end {
         mark_missing_end(&mut entries);
     }
@@ -79,7 +79,7 @@ fn settled(reading: Reading) -> Vec<Entry>
 }
 
 // What the lines that were read give.
-fn told(alloc: Global, entries: Vec<Entry>) -> Result<Text, NoMemory>
+fn told(alloc: Global, entries: Vec<LineEntry>) -> Result<Text, NoMemory>
     ensures { IfOk result (λ text. text_tree text ≡ told (map entry_tree entries.items)) }
 {
     if entries.is_empty() {
@@ -113,7 +113,7 @@ pub fn read_text(
     requires { length includes.now ≤ 65535 }
     ensures { IfOk result (λ text. text_tree text ≡ text_of source.now includes.now) }
 {
-    let mut reading = Reading::new(alloc);
+    let mut reading = TextReading::new(alloc);
     read_file(
         alloc,
         includes,

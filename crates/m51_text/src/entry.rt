@@ -7,7 +7,7 @@ use m51_module::Fault;
 
 /// A line that was read.
 #[derive(Drop)]
-pub(crate) struct Entry {
+pub(crate) struct LineEntry {
     pub file: u16,
     pub line: u32,
     pub said: Said,
@@ -15,7 +15,7 @@ pub(crate) struct Entry {
     pub by_place: Option<u8>,
 }
 
-impl Entry {
+impl LineEntry {
     ghost use Rattle.m51_text.specs.Entries.{fault_kept, line_of_entry};
 
     fn fault_with(&self, number: u8) -> Fault
@@ -46,7 +46,7 @@ impl Entry {
     pub(crate) fn into_line(self) -> Option<Line>
         ensures { result ≡ line_of_entry self }
     {
-        let Entry {
+        let LineEntry {
             file,
             line,
             said,

@@ -4,7 +4,7 @@ ghost use Rattle.m51_text.specs.Text.{IsAllowed, file_lines};
 ghost use Rattle.m51_text.specs.Reading.{state_of, after, inserted};
 
 use crate::inclusion::{Inclusion, bytes_at};
-use crate::reading::{Place, Reading};
+use crate::reading::{TextPlace, TextReading};
 use m51_cells::{NoMemory, first_line};
 use m51_module::SourceFile;
 use std::alloc::Global;
@@ -20,7 +20,7 @@ pub(crate) fn read_file(
     levels: u8,
     file: u16,
     bytes: &[u8],
-    reading: &mut Reading,
+    reading: &mut TextReading,
 ) -> Result<(), NoMemory>
     requires { length includes.now ≤ 65535 }
     ensures state { OnOk result (state_of reading.new
@@ -33,7 +33,7 @@ pub(crate) fn read_file(
         if reading.is_full() {
             return Ok(());
         }
-        let place = Place { file, line, levels };
+        let place = TextPlace { file, line, levels };
         let inclusion = reading.read_line(alloc, includes, place, text)?;
         insert(alloc, includes, levels, inclusion, reading)?;
         line += 1;
@@ -50,7 +50,7 @@ fn insert(
     includes: &[SourceFile],
     levels: u8,
     inclusion: Inclusion,
-    reading: &mut Reading,
+    reading: &mut TextReading,
 ) -> Result<(), NoMemory>
     requires few { length includes.now ≤ 65535 }
     requires allowed { IsAllowed (length includes.now) levels inclusion }

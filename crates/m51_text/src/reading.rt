@@ -5,7 +5,7 @@ ghost use Rattle.m51_text.specs.Said.{said, said_tree, is_end};
 ghost use Rattle.m51_text.specs.Text.{inclusion_of, IsAllowed};
 ghost use Rattle.m51_text.specs.Reading.{State, state_of, text_line, fault_above, next};
 
-use crate::entry::Entry;
+use crate::entry::LineEntry;
 use crate::inclusion::{Inclusion, inclusion_of};
 use crate::placing::{MOST_LINES, fault_by_place, is_end};
 use crate::saying::{Said, said};
@@ -15,7 +15,7 @@ use std::alloc::Global;
 
 /// Where a line is.
 #[derive(Clone, Copy)]
-pub(crate) struct Place {
+pub(crate) struct TextPlace {
     /// The file: 0 for the source, k for the k-th include.
     pub file: u16,
     /// The line in that file, counted from 1.
@@ -26,8 +26,8 @@ pub(crate) struct Place {
 
 /// The lines that were read, and whether the END of the source is among them.
 #[derive(Drop)]
-pub(crate) struct Reading {
-    pub entries: Vec<Entry>,
+pub(crate) struct TextReading {
+    pub entries: Vec<LineEntry>,
     pub ended: bool,
 }
 
@@ -38,12 +38,12 @@ fn ends_source(file: u16, said: &Said) -> bool
     file == 0 && is_end(said)
 }
 
-impl Reading {
+impl TextReading {
     /// No line is read yet.
-    pub(crate) fn new(alloc: Global) -> Reading
+    pub(crate) fn new(alloc: Global) -> TextReading
         ensures { state_of result ≡ record { entries = []; ended = false } }
     {
-        Reading {
+        TextReading {
             entries: Vec::new(alloc),
             ended: false,
         }
@@ -86,7 +86,7 @@ impl Reading {
         &mut self,
         alloc: Global,
         includes: &[SourceFile],
-        place: Place,
+        place: TextPlace,
         line: &[u8],
     ) -> Result<Inclusion, NoMemory>
         requires { vec_len self.old.entries < 65536 }
@@ -100,7 +100,7 @@ impl Reading {
         let inclusion = inclusion_of(includes, place.levels, &said);
         let by_place = self.next_fault(place.file, inclusion, &said);
         let ends = ends_source(place.file, &said);
-        self.entries.push(Entry {
+        self.entries.push(LineEntry {
             file: place.file,
             line: place.line,
             said,

@@ -6,7 +6,7 @@ use Rattle.m51_cells.specs.Outcome.{RefusesWith}
 use Rattle.m51_script.specs.declared.script.Script.{Script}
 use Rattle.m51_sim.specs.Boards.{FlatState, IsFlatStarted}
 use Rattle.m51_sim.specs.Report.{flat_report_of}
-use Rattle.m51_verbs.specs.declared.work.Ending.TheVariants.{FlatRun, Ran}
+use Rattle.m51_verbs.specs.declared.work.Finish.TheVariants.{FlatRun, Ran}
 use Rattle.m51_verbs.specs.declared.work.Finished.{Finished}
 use Rattle.m51_verbs.specs.declared.work.Stop.{Stop}
 use Rattle.m51_verbs.specs.FlatRuns.{flat_report}

@@ -3,7 +3,7 @@ use Rattle.std.proofs.Common.{◌≡◌, ◌⊎◌, ℕ, suc, ◌+◌, ◌<◌, 
 use Rattle.std.specs.List.{All}
 use Rattle.std.proofs.lemmas.List.Elements.{All-append, All-cons, All-head, All-nil, All-tail}
 use Rattle.m51_cells.specs.declared.limits.TheConstants.{MOST_FILE_BYTES}
-use Rattle.m51_shelf.specs.declared.reading.ReadError.{ReadError}
+use Rattle.m51_shelf.specs.declared.reading.FileReadError.{FileReadError}
 use Rattle.m51_shelf.specs.Shelf.{File, Grows}
 use Rattle.m51_shelf.specs.States.{ReadAt}
 use Rattle.m51_shelf.specs.Reading.{IsGiven}
@@ -98,7 +98,7 @@ reads_some names contents index name bytes before between after low count is nam
 })
 
 -- what was returned from a file of this name, and all of it
-pub given_some : (before after : ReadAt) (text name : List ℕ) (result : Result (List ℕ) ReadError) → text ≡ name
+pub given_some : (before after : ReadAt) (text name : List ℕ) (result : Result (List ℕ) FileReadError) → text ≡ name
     → (h : IsGiven before after text result) → Grows before.given after.given ((name, h.bytes) ∷ [])
 given_some before after text name result same h =
     subst (λ (n : List ℕ). Grows before.given after.given ((n, h.bytes) ∷ [])) same h.grows

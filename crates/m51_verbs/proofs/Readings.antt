@@ -7,8 +7,8 @@ use Rattle.std.proofs.lemmas.List.{length-take-le, take_more}
 use Rattle.std.proofs.lemmas.List.Elements.{All-append, Contains-get_or}
 use Rattle.std.proofs.lemmas.Option.{slice_get-get_or}
 use Rattle.m51_cells.specs.declared.limits.TheConstants.{MOST_FILE_BYTES}
-use Rattle.m51_shelf.specs.declared.reading.ReadError.{ReadError}
-use Rattle.m51_shelf.specs.declared.reading.ReadError.TheVariants as errors
+use Rattle.m51_shelf.specs.declared.reading.FileReadError.{FileReadError}
+use Rattle.m51_shelf.specs.declared.reading.FileReadError.TheVariants as errors
 use Rattle.m51_shelf.specs.Shelf.{Files}
 use Rattle.m51_shelf.specs.States.{ReadAt}
 use Rattle.m51_shelf.specs.Reading.{IsWhole, IsLong, IsRead}
@@ -143,7 +143,7 @@ pub named_among : (names : List (List ℕ)) (index : ℕ) (name named : List ℕ
 named_among names index name named low is same = subst (λ n. Contains names n) (sym is ∙ sym same) (Contains-get_or names index name low)
 
 -- The file at an index was not read whole.
-pub unread : (holds : Option Files) (names contents : List (List ℕ)) (index : ℕ) (name : List ℕ) (first before after : ReadAt) (error : ReadError)
+pub unread : (holds : Option Files) (names contents : List (List ℕ)) (index : ℕ) (name : List ℕ) (first before after : ReadAt) (error : FileReadError)
     → index < length names → AreRead holds (take index names) contents → name ≡ get_or names index name → after.named ≡ name
     → first.faults ≤ before.faults → IsRead holds before after (Err error) → AreReadOr holds names contents first after (Err error)
 unread holds names contents index name first before after errors.TooLong low read is same later long =

@@ -7,29 +7,29 @@ use Rattle.m51_module.specs.declared.parts.ModuleParts.{ModuleParts}
 use Rattle.m51_module.specs.Library.{added, deleted, raised_in, replaced}
 use Rattle.m51_jobs.specs.declared.job.Operation.{Operation}
 use Rattle.m51_jobs.specs.declared.job.Operation.TheVariants as operation
-use Rattle.m51_verbs.specs.declared.editing.Edit.{Edit}
-use Rattle.m51_verbs.specs.declared.editing.Edit.TheVariants as edit
+use Rattle.m51_verbs.specs.declared.editing.LibraryEdit.{LibraryEdit}
+use Rattle.m51_verbs.specs.declared.editing.LibraryEdit.TheVariants as edit
 use Rattle.m51_verbs.specs.Outcome.{Outcome, or_refused, then_do}
 use Rattle.m51_verbs.specs.Refusals.{object_outcome}
 
 -- the modules after an edit, or why it is refused
-abbrev pub edited : List ModuleParts → Edit → Result (List ModuleParts) LibError
+abbrev pub edited : List ModuleParts → LibraryEdit → Result (List ModuleParts) LibError
 edited modules (edit.Add m) = added modules m
 edited modules (edit.Replace m) = replaced modules m
 edited modules (edit.Delete name) = and_then (deleted modules name) (λ found. Ok found.1)
 edited modules (edit.Raise name) = raised_in modules name
 
 -- edits made one by one, up to the first that is refused
-abbrev pub edited_each : List ModuleParts → List Edit → Result (List ModuleParts) LibError
+abbrev pub edited_each : List ModuleParts → List LibraryEdit → Result (List ModuleParts) LibError
 edited_each modules [] = Ok modules
 edited_each modules (next ∷ more) = and_then (edited modules next) (λ now. edited_each now more)
 
 -- what an operation does with one of its objects, and with the module of one of its names
-abbrev pub object_edit : Operation → ModuleParts → Edit
+abbrev pub object_edit : Operation → ModuleParts → LibraryEdit
 object_edit (operation.Replace names) m = edit.Replace m
 object_edit other m = edit.Add m
 
-abbrev pub name_edit : Operation → List ℕ → Edit
+abbrev pub name_edit : Operation → List ℕ → LibraryEdit
 name_edit (operation.Raise names) name = edit.Raise name
 name_edit other name = edit.Delete name
 
@@ -41,13 +41,13 @@ abbrev pub with_first : {A : Type 0} → A → List A → Result (List A) Outcom
 with_first x xs = Ok (x ∷ xs)
 
 -- what it does with the objects of these names, in order, or the first refusal of an object
-abbrev pub object_edits : Operation → List (List ℕ) → List (List ℕ) → Result (List Edit) Outcome
+abbrev pub object_edits : Operation → List (List ℕ) → List (List ℕ) → Result (List LibraryEdit) Outcome
 object_edits op (name ∷ names) (file ∷ files) =
     then_do (object_in name file) (λ m. then_do (object_edits op names files) (with_first (object_edit op m)))
 object_edits op names files = Ok []
 
 -- the edits of an operation, in order, with the files of its objects
-unfoldable pub edits_of : Operation → List (List ℕ) → Result (List Edit) Outcome
+unfoldable pub edits_of : Operation → List (List ℕ) → Result (List LibraryEdit) Outcome
 edits_of (operation.Build names) files = object_edits (operation.Build names) names files
 edits_of (operation.Add names) files = object_edits (operation.Add names) names files
 edits_of (operation.Replace names) files = object_edits (operation.Replace names) names files

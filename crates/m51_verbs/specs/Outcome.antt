@@ -15,8 +15,8 @@ use Rattle.m51_sim.specs.Runs.{Record, record_of}
 use Rattle.m51_sim.specs.SeparateMachine.{Separate, separate_machine}
 use Rattle.m51_verbs.specs.declared.status.Status.{Status}
 use Rattle.m51_verbs.specs.declared.status.Status.TheVariants as status
-use Rattle.m51_verbs.specs.declared.work.Ending.{Ending}
-use Rattle.m51_verbs.specs.declared.work.Ending.TheVariants as ending
+use Rattle.m51_verbs.specs.declared.work.Finish.{Finish}
+use Rattle.m51_verbs.specs.declared.work.Finish.TheVariants as ending
 use Rattle.m51_verbs.specs.declared.work.Finished.{Finished}
 use Rattle.m51_verbs.specs.declared.plan.Kept.{Kept}
 use Rattle.m51_verbs.specs.declared.plan.Plan.{Plan}
@@ -74,13 +74,13 @@ flat_run_of board steps =
     record_of (flat_machine board.chip.image (inputs_of board.chip.script)) steps (flat_of board)
 
 -- the status of an ending, and the text that comes with it
-unfoldable pub status_at : Ending → Status
+unfoldable pub status_at : Finish → Status
 status_at ending.Ran = status.Ran
 status_at ending.Event = status.Event
 status_at (ending.Run board steps) = status_by (run_of board steps).event
 status_at (ending.FlatRun board steps) = status_by (flat_run_of board steps).event
 
-unfoldable pub text_at : Ending → List ℕ
+unfoldable pub text_at : Finish → List ℕ
 text_at ending.Ran = []
 text_at ending.Event = []
 text_at (ending.Run board steps) = record_text (titles_of board.monitor.layout.placed) (run_of board steps)

@@ -3,8 +3,8 @@ use Rattle.std.specs.Prelude.{◌≡◌, ℕ, ◌+◌, ◌≤◌, nat_le, List, 
 use Rattle.std.specs.Prelude.{Result, Ok, Err, IfSome, Contains, slice_get, if◌then◌else◌}
 use Rattle.std.specs.List.{All}
 use Rattle.m51_cells.specs.declared.limits.TheConstants.{MOST_FILE_BYTES}
-use Rattle.m51_shelf.specs.declared.reading.ReadError.{ReadError}
-use Rattle.m51_shelf.specs.declared.reading.ReadError.TheVariants as error
+use Rattle.m51_shelf.specs.declared.reading.FileReadError.{FileReadError}
+use Rattle.m51_shelf.specs.declared.reading.FileReadError.TheVariants as error
 use Rattle.m51_shelf.specs.Reading.{IsLong}
 use Rattle.m51_shelf.specs.Shelf.{File, Files, Grows}
 use Rattle.m51_shelf.specs.States.{ReadAt, HasFailed}
@@ -46,7 +46,7 @@ pub record IsReached (holds : Option Files) (names : List (List ℕ)) (named : L
   pub read : AreRead holds front contents
 
 -- all files, or that the one reached is too long, or that a call failed on it; out of memory is free
-abbrev pub AreReadOr : Option Files → List (List ℕ) → List (List ℕ) → ReadAt → ReadAt → Result (Unit {0}) ReadError
+abbrev pub AreReadOr : Option Files → List (List ℕ) → List (List ℕ) → ReadAt → ReadAt → Result (Unit {0}) FileReadError
     → Type 0
 AreReadOr holds names contents before after (Ok all) = AreRead holds names contents
 AreReadOr holds names contents before after (Err error.TooLong) =

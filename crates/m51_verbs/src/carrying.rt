@@ -6,7 +6,7 @@ ghost use Rattle.m51_shelf.specs.Shelf.{HoldsOthers};
 
 use crate::plan::{Kept, Plan};
 use crate::status::Status;
-use crate::work::Ending;
+use crate::work::Finish;
 use m51_shelf::{Failed, Shelf, Sink, write_whole};
 use m51_sim::RunEnd;
 
@@ -34,20 +34,20 @@ fn status_after(end: RunEnd) -> Result<Status, Failed>
 
 // Ends: runs, if there is something to run, and writes the record.
 #[tactic(auto, unfolding(crate::specs::Outcome::status_at, crate::specs::Outcome::text_at))]
-fn end<S: Sink>(ending: Ending, out: &mut S) -> Result<Status, Failed>
+fn end<S: Sink>(ending: Finish, out: &mut S) -> Result<Status, Failed>
     ensures written { IsWritten (status_at ending) (text_at ending) (S.state out.old) (S.state out.new) result }
     ensures later { (S.state out.old).faults ≤ (S.state out.new).faults }
 {
     match ending {
-        Ending::Ran => Ok(Status::Ran),
-        Ending::Event => Ok(Status::Event),
-        Ending::Run { mut board, steps } => status_after(board.run(steps.number(), out)),
-        Ending::FlatRun { mut board, steps } => status_after(board.run(steps.number(), out)),
+        Finish::Ran => Ok(Status::Ran),
+        Finish::Event => Ok(Status::Event),
+        Finish::Run { mut board, steps } => status_after(board.run(steps.number(), out)),
+        Finish::FlatRun { mut board, steps } => status_after(board.run(steps.number(), out)),
     }
 }
 
 // Writes a text, and then ends.
-fn report<S: Sink>(text: &[u8], ending: Ending, out: &mut S) -> Result<Status, Failed>
+fn report<S: Sink>(text: &[u8], ending: Finish, out: &mut S) -> Result<Status, Failed>
     ensures written { IsWritten (status_at ending) (text.now ++ text_at ending)
         (S.state out.old) (S.state out.new) result }
     ensures later { (S.state out.old).faults ≤ (S.state out.new).faults }
@@ -74,7 +74,7 @@ pub fn status_told(written: Result<Status, Failed>) -> Status
 fn keep_first<F: Shelf, S: Sink>(
     file: Kept,
     text: &[u8],
-    ending: Ending,
+    ending: Finish,
     files: &mut F,
     out: &mut S,
 ) -> Status

@@ -4,7 +4,7 @@ ghost use Rattle.m51_module.specs.Plan.{IsRootAt};
 ghost use Rattle.m51_verbs.specs.Counts.{overlaid_size, overlaid_sizes, summary_outcome};
 ghost use Rattle.m51_verbs.specs.Outcome.{outcome_of, status_at, status_by, text_at};
 
-use crate::work::{Ending, Finished};
+use crate::work::{Finish, Finished};
 use m51_args::Steps;
 use m51_cells::{Bytes, NoMemory};
 use m51_module::{Image, Layout, Mark, Placed, Tally};
@@ -37,13 +37,13 @@ fn overlaid_sizes(placed: &[Placed]) -> u32
 
 // How a run that was counted ends.
 #[tactic(auto, unfolding(crate::specs::Outcome::status_at, crate::specs::Outcome::text_at))]
-fn ending_of(tally: &Tally) -> Ending
+fn ending_of(tally: &Tally) -> Finish
     ensures status { status_at result ≡ status_by tally.now.event }
     ensures text { text_at result ≡ [] }
 {
     match tally.event {
-        Some(_) => Ending::Event,
-        None => Ending::Ran,
+        Some(_) => Finish::Event,
+        None => Finish::Ran,
     }
 }
 

@@ -19,7 +19,7 @@ use std::collections::VecDeque;
 
 // An edit of a library.
 #[derive(Drop)]
-pub(crate) enum Edit {
+pub(crate) enum LibraryEdit {
     // The module is added.
     Add(Module),
     // The module is put in the place of the one of its name.
@@ -31,25 +31,25 @@ pub(crate) enum Edit {
 }
 
 // Edits, which contracts see as a list.
-pub(crate) type Edits = ListOf<Edit>;
+pub(crate) type Edits = ListOf<LibraryEdit>;
 
 // What the operation does with one of its objects.
-fn object_edit(operation: &Operation, object: Module) -> Edit
+fn object_edit(operation: &Operation, object: Module) -> LibraryEdit
     ensures { result ≡ object_edit operation.now object }
 {
     match operation {
-        Operation::Replace(_) => Edit::Replace(object),
-        _ => Edit::Add(object),
+        Operation::Replace(_) => LibraryEdit::Replace(object),
+        _ => LibraryEdit::Add(object),
     }
 }
 
 // What the operation does with the module of one of its names.
-fn name_edit(operation: &Operation, name: Name) -> Edit
+fn name_edit(operation: &Operation, name: Name) -> LibraryEdit
     ensures { result ≡ name_edit operation.now name }
 {
     match operation {
-        Operation::Raise(_) => Edit::Raise(name),
-        _ => Edit::Delete(name),
+        Operation::Raise(_) => LibraryEdit::Raise(name),
+        _ => LibraryEdit::Delete(name),
     }
 }
 
@@ -114,7 +114,7 @@ pub(crate) fn edits_of(alloc: Global, operation: &Operation, files: &[Bytes]) ->
 
 // Deletes the module of this name.
 fn delete(library: &mut Library, name: &Name) -> Result<(), LibError>
-    ensures { Gives (λ _. library.new) Some result (edited library.old (Edit.Delete name.now)) }
+    ensures { Gives (λ _. library.new) Some result (edited library.old (LibraryEdit.Delete name.now)) }
 {
     library.delete(name)?;
     Ok(())
@@ -122,14 +122,14 @@ fn delete(library: &mut Library, name: &Name) -> Result<(), LibError>
 
 // Makes an edit.
 #[tactic(auto, using(crate::proofs::Edits::with_memory))]
-fn make_edit(library: &mut Library, edit: Edit) -> Result<(), LibError>
+fn make_edit(library: &mut Library, edit: LibraryEdit) -> Result<(), LibError>
     ensures { Gives (λ _. library.new) refusal_of result (edited library.old edit) }
 {
     match edit {
-        Edit::Add(object) => library.add(object),
-        Edit::Replace(object) => library.replace(object),
-        Edit::Delete(name) => delete(library, &name),
-        Edit::Raise(name) => library.raise(&name),
+        LibraryEdit::Add(object) => library.add(object),
+        LibraryEdit::Replace(object) => library.replace(object),
+        LibraryEdit::Delete(name) => delete(library, &name),
+        LibraryEdit::Raise(name) => library.raise(&name),
     }
 }
 

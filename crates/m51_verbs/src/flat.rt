@@ -16,7 +16,7 @@ use crate::object_refusing::{numbered, refuse_file};
 use crate::optional::content_if;
 use crate::refusing::bytes_of;
 use crate::script_refusing::refuse_script;
-use crate::work::{Ending, Finished, Stop};
+use crate::work::{Finish, Finished, Stop};
 use m51_args::FlatJob;
 use m51_cells::{Bytes, NoMemory};
 use m51_hex::{HexError, read_hex};
@@ -61,7 +61,7 @@ fn run(alloc: Global, job: &FlatJob, image: Image, script: Script) -> Result<Fin
     Ok(Finished {
         keeps: None,
         text,
-        ending: Ending::FlatRun {
+        ending: Finish::FlatRun {
             board,
             steps: job.steps,
         },

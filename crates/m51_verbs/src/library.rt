@@ -17,7 +17,7 @@ ghost use Rattle.m51_verbs.specs.Outcome.{Comes, outcome_of, stopped};
 
 use crate::editing::{edits_of, make_edits};
 use crate::object_refusing::{refuse_edit, refuse_library};
-use crate::work::{Ending, Finished, Stop, text_alone};
+use crate::work::{Finish, Finished, Stop, text_alone};
 use m51_args::{FileName, LibraryJob, Operation};
 use m51_cells::{Bytes, Name, NoMemory};
 use m51_library::{read_library, write_library};
@@ -44,7 +44,7 @@ fn keep(alloc: Global, bytes: Vec<u8>) -> Finished
     Finished {
         keeps: Some(Bytes::of(bytes)),
         text: Bytes::new(alloc),
-        ending: Ending::Ran,
+        ending: Finish::Ran,
     }
 }
 

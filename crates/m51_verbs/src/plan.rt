@@ -3,8 +3,8 @@ ghost use Rattle.std.specs.Prelude.{◌≡◌, ℕ, List, Option, option_map};
 ghost use Rattle.m51_verbs.specs.Outcome.{answer_of, file_of, named_answer, outcome_of, refused, under};
 
 use crate::status::Status;
-use crate::target::Target;
-use crate::work::{Ending, Finished, Reason, status_of};
+use crate::target::KeptName;
+use crate::work::{Finish, Finished, Reason, status_of};
 use m51_cells::Bytes;
 
 /// What is to be kept and written.
@@ -21,7 +21,7 @@ pub enum Plan {
     Accepted {
         keeps: Option<Kept>,
         text: Bytes,
-        ending: Ending,
+        ending: Finish,
     },
 }
 
@@ -30,12 +30,12 @@ pub enum Plan {
 /// Source: own choice ("The top call").
 #[derive(Drop)]
 pub struct Kept {
-    pub target: Target,
+    pub target: KeptName,
     pub bytes: Bytes,
 }
 
 // The bytes under the name, if both exist.
-fn under(target: Option<Target>, bytes: Option<Bytes>) -> Option<Kept>
+fn under(target: Option<KeptName>, bytes: Option<Bytes>) -> Option<Kept>
     ensures { option_map file_of result ≡ under target bytes }
 {
     match (target, bytes) {
@@ -47,7 +47,7 @@ fn under(target: Option<Target>, bytes: Option<Bytes>) -> Option<Kept>
 /// The plan for accepted work, where the file that is kept has this name.
 ///
 /// Source: own choice ("The top call").
-pub fn accepted(target: Option<Target>, work: Finished) -> Plan
+pub fn accepted(target: Option<KeptName>, work: Finished) -> Plan
     ensures { answer_of result ≡ named_answer target (outcome_of work) }
 {
     let Finished {

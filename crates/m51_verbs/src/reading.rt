@@ -5,13 +5,13 @@ ghost use Rattle.m51_verbs.specs.Reading.{AreGiven, AreReadOr, ReadsSome};
 
 use m51_args::FileName;
 use m51_cells::{Bytes, ListOf};
-use m51_shelf::{ReadError, Shelf, read_file};
+use m51_shelf::{FileReadError, Shelf, read_file};
 use std::alloc::Global;
 
 /// The contents of files, in order, which contracts see as a list.
 ///
 /// Source: own choice ("The top call").
-pub type Contents = ListOf<Bytes>;
+pub type FileContents = ListOf<Bytes>;
 
 /// Reads the files of these names into the contents, which must be empty, one after another, up to the first that can't
 /// be read whole.
@@ -24,8 +24,8 @@ pub fn read_all<F: Shelf>(
     alloc: Global,
     names: &[FileName],
     files: &mut F,
-    contents: &mut Contents,
-) -> Result<(), ReadError>
+    contents: &mut FileContents,
+) -> Result<(), FileReadError>
     requires none { contents.old ≡ [] }
     ensures frame { OnlyReads (F.state files.old) (F.state files.new) }
     ensures reads { ((F.state files.new).reads ≡ (F.state files.old).reads)

@@ -12,12 +12,12 @@ use std::marker::Model;
 ///
 /// Source: own choice ("The top call").
 #[derive(Drop)]
-pub struct Target {
+pub struct KeptName {
     name: FileName,
     unkept: Bytes,
 }
 
-impl Model for Target {
+impl Model for KeptName {
     ghost use Rattle.std.specs.Prelude.{◌≡◌, ℕ, List};
     ghost use Rattle.m51_verbs.specs.Targets.{unkept_text};
 
@@ -36,15 +36,15 @@ fn unkept_text(alloc: Global, name: &str) -> Result<Bytes, NoMemory>
     Ok(Bytes::of(text.as_bytes().to_vec(alloc)?))
 }
 
-impl Target {
-    /// The target of this name. Out of memory is the only error.
+impl KeptName {
+    /// The name, with the text where its file could not be kept. Out of memory is the only error.
     ///
     /// Source: own choice ("The top call").
-    pub fn of(alloc: Global, name: FileName) -> Result<Target, NoMemory>
+    pub fn of(alloc: Global, name: FileName) -> Result<KeptName, NoMemory>
         ensures { IfOk result (λ target. target ≡ name) }
     {
         let unkept = unkept_text(alloc, name.as_str())?;
-        Ok(Target { name, unkept })
+        Ok(KeptName { name, unkept })
     }
 
     // The name and the text.
@@ -52,7 +52,7 @@ impl Target {
         ensures name { result.0 ≡ self }
         ensures text { result.1 ≡ unkept_text self }
     {
-        let Target { name, unkept } = self;
+        let KeptName { name, unkept } = self;
         (name, unkept)
     }
 }

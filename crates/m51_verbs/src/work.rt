@@ -44,7 +44,7 @@ pub(crate) fn status_of(why: Reason) -> Status
 ///
 /// Source: own choice ("The top call").
 #[derive(Drop)]
-pub enum Ending {
+pub enum Finish {
     /// Without an event.
     Ran,
     /// By an event of a run whose record is not written.
@@ -65,7 +65,7 @@ pub struct Finished {
     /// The text that is written first.
     pub text: Bytes,
     /// How it ends.
-    pub ending: Ending,
+    pub ending: Finish,
 }
 
 // This text is written, and nothing is kept.
@@ -76,7 +76,7 @@ pub(crate) fn text_alone(text: Vec<u8>) -> Finished
     Finished {
         keeps: None,
         text: Bytes::of(text),
-        ending: Ending::Ran,
+        ending: Finish::Ran,
     }
 }
 

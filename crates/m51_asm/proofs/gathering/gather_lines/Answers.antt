@@ -3,7 +3,7 @@ use Rattle.std.proofs.lemmas.List.{length-map}
 use Rattle.std.proofs.lemmas.Option.{slice_get_read}
 use Rattle.m51_text.specs.Answer.{line_tree}
 use Rattle.m51_emit.specs.Within.{LieInside}
-use Rattle.m51_emit.specs.declared.content.Content.{Content}
+use Rattle.m51_emit.specs.declared.content.EmittedContent.{EmittedContent}
 use Rattle.m51_asm.specs.Assignment.{TextSegment}
 use Rattle.m51_asm.specs.Gathering.{gathered_before}
 use Rattle.m51_asm.specs.Numbering.{number_at}
@@ -52,7 +52,7 @@ add_line-requires-clause-inside c =
     let a = fitting lines in
     let is = c.requires.given a (fits lines) in
     let given = is.each k c.index-given-k.result (slice_get_read c.args.given.now (length c.args.given.now) k c.index-given-k.result refl c.loop-k-test.true c.index-given-k.is) in
-    subst (λ (x : Content). LieInside (length x.bytes) x.references) (sym given) (line_lies lines a (clean_text lines a t c.args.given.now c.requires.text is) k)
+    subst (λ (x : EmittedContent). LieInside (length x.bytes) x.references) (sym given) (line_lies lines a (clean_text lines a t c.args.given.now c.requires.text is) k)
 
 pub loop-k-preserved : goal.loop-k-preserved
 loop-k-preserved c = λ a f.

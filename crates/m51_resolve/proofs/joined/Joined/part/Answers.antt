@@ -1,5 +1,5 @@
 use Rattle.std.proofs.Common.{ap, ◌∙◌, arith}
-use Rattle.m51_resolve.specs.declared.joining.Part.{Part}
+use Rattle.m51_resolve.specs.declared.joining.SegmentPart.{SegmentPart}
 use Rattle.m51_resolve.proofs.Entries.{begin, part_entry, reads, stands}
 use Rattle.m51_resolve.proofs.joined.Joined.part.Goals as goal
 
@@ -22,16 +22,16 @@ pub overflow_cast-result : goal.overflow_cast-result
 overflow_cast-result c =
     let e = part_entry _ _ _ _ _ _ c.args.module c.args.segment c.self.invariant (rw (← c.self.view_is) at c.requires) in
     let is = reads _ _ _ _ _ _ _ _ _ e.entry c.index-start.ensures c.from.ensures c.from-2.ensures c.index-part.ensures in
-    omega (arith, e.number, ap (λ (x : Part). x.number) is)
+    omega (arith, e.number, ap (λ (x : SegmentPart). x.number) is)
 
 pub overflow_cast-result-2 : goal.overflow_cast-result-2
 overflow_cast-result-2 c =
     let e = part_entry _ _ _ _ _ _ c.args.module c.args.segment c.self.invariant (rw (← c.self.view_is) at c.requires) in
     let is = reads _ _ _ _ _ _ _ _ _ e.entry c.index-start.ensures c.from.ensures c.from-2.ensures c.index-part.ensures in
-    omega (arith, e.offset, ap (λ (x : Part). x.offset) is)
+    omega (arith, e.offset, ap (λ (x : SegmentPart). x.offset) is)
 
 pub returns : goal.returns
 returns c =
     let e = part_entry _ _ _ _ _ _ c.args.module c.args.segment c.self.invariant (rw (← c.self.view_is) at c.requires) in
     let is = reads _ _ _ _ _ _ _ _ _ e.entry c.index-start.ensures c.from.ensures c.from-2.ensures c.index-part.ensures in
-    rw (← c.self.view_is) (ap (λ (x : Part). (x.number, x.offset)) is ∙ e.value)
+    rw (← c.self.view_is) (ap (λ (x : SegmentPart). (x.number, x.offset)) is ∙ e.value)

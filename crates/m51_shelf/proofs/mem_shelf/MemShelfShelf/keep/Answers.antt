@@ -1,7 +1,7 @@
 use Rattle.std.proofs.Common.{◌≡◌, ◌⊎◌, ◌<◌, length, refl, rules}
 use Rattle.std.specs.Prelude.{Contains}
 use Rattle.m51_cells.specs.Outside.{one_more}
-use Rattle.m51_shelf.specs.declared.mem_shelf.Call.TheVariants.{Keep}
+use Rattle.m51_shelf.specs.declared.mem_shelf.ShelfCall.TheVariants.{Keep}
 use Rattle.m51_shelf.proofs.mem_shelf.MemShelfShelf.keep.Goals as goal
 
 pub returns-in-Err-clause-failed : goal.returns-in-Err-clause-failed

@@ -1,7 +1,7 @@
 use Rattle.std.proofs.Common.{◌≡◌, ◌⊎◌, None, refl, string_bytes}
 use Rattle.std.specs.Prelude.{Contains}
 use Rattle.m51_cells.specs.Outside.{one_more}
-use Rattle.m51_shelf.specs.declared.mem_shelf.Call.TheVariants.{Start}
+use Rattle.m51_shelf.specs.declared.mem_shelf.ShelfCall.TheVariants.{Start}
 use Rattle.m51_shelf.specs.Shelf.{file_of}
 use Rattle.m51_shelf.proofs.mem_shelf.MemShelfShelf.start.Goals as goal
 

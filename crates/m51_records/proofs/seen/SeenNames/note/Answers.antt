@@ -2,7 +2,7 @@ use Rattle.std.proofs.Common.{◌≡◌, false, [], ◌∷◌, ◌++◌, ap, ◌
 use Rattle.m51_frame.specs.Fields.{is_among}
 use Rattle.m51_records.specs.WorkNames.{items_of}
 use Rattle.m51_records.proofs.SeenLaws.{put_last}
-use Rattle.m51_records.proofs.seen.Seen.note.Goals as goal
+use Rattle.m51_records.proofs.seen.SeenNames.note.Goals as goal
 
 pub returns : goal.returns
 returns c =

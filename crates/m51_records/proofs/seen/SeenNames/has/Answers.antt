@@ -4,7 +4,7 @@ use Rattle.std.specs.Global.{Vec}
 use Rattle.std.specs.List.{list_any}
 use Rattle.m51_frame.specs.Fields.{is_among}
 use Rattle.m51_records.proofs.SeenLaws.{among_is}
-use Rattle.m51_records.proofs.seen.Seen.has.Goals as goal
+use Rattle.m51_records.proofs.seen.SeenNames.has.Goals as goal
 
 pub returns : goal.returns
 returns c =

@@ -108,18 +108,18 @@ good_line (Some name) b is = good_body 2 b is.1
 character_byte : (b : ℕ) → is_character b ≡ true → b < 256
 character_byte b h = grind (arith, nat_tests)
 
-bytes_all : (line : List ℕ) → list_all is_character line ≡ true → AllByRecursion IsByte line
+pub bytes_all : (line : List ℕ) → list_all is_character line ≡ true → AllByRecursion IsByte line
 bytes_all [] h = tt
 bytes_all (b ∷ line) h = let p = and_parts (is_character b) (list_all is_character line) h in (character_byte b p.0, bytes_all line p.1)
 
 abbrev read_as : StmtTree → Result StmtTree ℕ
 read_as s = Ok s
 
-passes : (b : Bool) (k : ℕ) (r : Result StmtTree ℕ) (s : StmtTree) → cond b r (Err k) ≡ read_as s → (b ≡ true) × (r ≡ Ok s)
+pub passes : (b : Bool) (k : ℕ) (r : Result StmtTree ℕ) (s : StmtTree) → cond b r (Err k) ≡ read_as s → (b ≡ true) × (r ≡ Ok s)
 passes true k r s h = (refl, h)
 passes false k r s h = absurd (cc h)
 
-short : (b : Bool) (k : ℕ) (r : Result StmtTree ℕ) (s : StmtTree) → cond b (Err k) r ≡ read_as s → r ≡ Ok s
+pub short : (b : Bool) (k : ℕ) (r : Result StmtTree ℕ) (s : StmtTree) → cond b (Err k) r ≡ read_as s → r ≡ Ok s
 short true k r s h = absurd (cc h)
 short false k r s h = h
 

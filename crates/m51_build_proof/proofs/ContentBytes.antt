@@ -2,6 +2,7 @@
 use Rattle.std.proofs.Common.{◌≡◌, ℕ, zero, suc, ◌%◌, ◌<◌, nat_lt, Bool, true, false, cond, List, [], ◌∷◌, ◌++◌, length, map, take, drop, Option, Some, None, Ok, Err, refl, sym, subst, arith}
 use Rattle.std.specs.Prelude.{IfSome}
 use Rattle.std.proofs.lemmas.Bool.{ltb-true}
+use Rattle.m51_cells.proofs.Passing.{same_Ok}
 use Rattle.m51_isa.specs.declared.generics.Jump.{Jump}
 use Rattle.m51_isa.specs.declared.instr.Instr.{Instr}
 use Rattle.m51_isa.specs.declared.look.Look.{Look}
@@ -22,6 +23,7 @@ use Rattle.m51_expr.specs.Meanings.{Meanings}
 use Rattle.m51_expr.specs.Evaluation.{value_of}
 use Rattle.m51_expr.specs.Looks.{look_of as operand_look}
 use Rattle.m51_expr.specs.Operand.{OperandTree, A, Ab, C, Dptr, APc, ADptr, AtDptr, R, AtR, Imm, Plain, NotBit, ItemTree, Text, Value as ValueItem}
+use Rattle.m51_encode.specs.declared.filling.CodingError.{CodingError}
 use Rattle.m51_encode.specs.declared.reference.FieldValue.{FieldValue}
 use Rattle.m51_encode.specs.declared.reference.FieldValue.TheVariants.{Number, Linked}
 use Rattle.m51_encode.specs.declared.reference.Reference.{Reference}
@@ -141,11 +143,8 @@ record IfHeld (r : Answer Held) : Type 0 where
 abbrev ok_held : Held → Answer Held
 ok_held x = Ok x
 
-held_same : (x y : Held) → ok_held x ≡ ok_held y → x ≡ y
-held_same x y h = cc h
-
 held_ok : (x : Held) → x.number < 65536 → IfHeld (Ok x)
-held_ok x h = record { holds = λ y e. subst (λ (z : Held). z.number < 65536) (held_same x y e) h }
+held_ok x h = record { holds = λ y e. subst (λ (z : Held). z.number < 65536) (same_Ok {E = CodingError} x y e) h }
 
 in_field : (byte : ℕ) (o : Option FieldValue) → IfField o → IfHeld (and_then (or_out_of_range o) (λ held. ok_held (held_at byte held)))
 in_field byte (Some (Number n)) h = held_ok (held_at byte (Number n)) (h.holds n refl)

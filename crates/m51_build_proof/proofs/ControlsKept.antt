@@ -6,7 +6,9 @@ use Rattle.std.proofs.lemmas.Bool.{ltb-false}
 use Rattle.std.proofs.lemmas.List.Elements.{All-nil, All-cons}
 use Rattle.m51_cells.specs.declared.limits.TheConstants.{MOST_CONTROL_LINES}
 use Rattle.m51_cells.specs.Blanks.{is_skipped}
+use Rattle.m51_cells.proofs.Passing.{same_Ok}
 use Rattle.m51_control.specs.declared.control.Control.{Control}
+use Rattle.m51_control.specs.declared.error.ControlError.{ControlError}
 use Rattle.m51_control.specs.declared.error.ControlError.TheVariants.{Limit}
 use Rattle.m51_control.specs.Controls.{AreKept, IsAllowed, Read, controls_of, read_from, with_line}
 use Rattle.m51_control.specs.Grammar.{control_of}
@@ -31,19 +33,13 @@ record AreAllowed (most : ℕ) (controls : List (ℕ × Control)) : Type 0 where
   few : length controls ≤ most
   each : All IsAllowedLine controls
 
-abbrev read : List (ℕ × Control) → Read
-read controls = Ok controls
-
-ok_same : (xs ys : List (ℕ × Control)) → read xs ≡ read ys → xs ≡ ys
-ok_same xs ys h = cc h
-
 with_one : (number most : ℕ) (line : List ℕ) (o : Option Control) (after : Read) (controls : List (ℕ × Control)) → control_of line ≡ o
     → ((rest : List (ℕ × Control)) → after ≡ Ok rest → AreAllowed most rest) → with_line number o after ≡ Ok controls → AreAllowed (suc most) controls
 with_one number most line None after controls found rest h = absurd (cc h)
 with_one number most line (Some control) (Err error) controls found rest h = absurd (cc h)
 with_one number most line (Some control) (Ok later) controls found rest h =
     let more = rest later refl in
-    subst (AreAllowed (suc most)) (ok_same ((number, control) ∷ later) controls h)
+    subst (AreAllowed (suc most)) (same_Ok {A = List (ℕ × Control)} {E = ControlError} ((number, control) ∷ later) controls h)
     (record { few = omega (arith, more.few); each = All-cons IsAllowedLine (number, control) later (allowed line control found) more.each })
 
 skipped : (b : Bool) (number most : ℕ) (line : List ℕ) (after : Read) (controls : List (ℕ × Control))
@@ -54,7 +50,7 @@ skipped false number most line after controls rest h = with_one number most line
 
 are_allowed : (number : ℕ) (all : List (List ℕ)) (controls : List (ℕ × Control)) → read_from number all ≡ Ok controls → AreAllowed (length all) controls
 are_allowed number [] controls h =
-    subst (AreAllowed 0) (ok_same [] controls h) (record { few = omega arith; each = All-nil IsAllowedLine })
+    subst (AreAllowed 0) (same_Ok {A = List (ℕ × Control)} {E = ControlError} [] controls h) (record { few = omega arith; each = All-nil IsAllowedLine })
 are_allowed number (line ∷ more) controls h =
     skipped (is_skipped line) number (length more) line (read_from (number + 1) more) controls (λ rest k. are_allowed (number + 1) more rest k) h
 

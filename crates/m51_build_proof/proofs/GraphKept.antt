@@ -2,6 +2,7 @@
 use Rattle.std.proofs.Common.{◌≡◌, ℕ, ◌≤◌, List, [], ◌∷◌, length, None, Result, Ok, refl, subst, arith}
 use Rattle.std.specs.Prelude.{option_map}
 use Rattle.std.proofs.lemmas.List.{length-map}
+use Rattle.m51_cells.proofs.Passing.{same_Ok}
 use Rattle.m51_control.specs.declared.control.Control.{Control}
 use Rattle.m51_module.specs.declared.linked.Refusal.{Refusal}
 use Rattle.m51_module.specs.declared.linked.Refusal.TheVariants.{L6, L7}
@@ -25,9 +26,6 @@ no_cycles : (titles : List (List ℕ)) → on_cycles titles ≡ None → titles 
 no_cycles [] h = refl
 no_cycles (title ∷ more) h = absurd (cc h)
 
-graph_same : (one two : GraphParts) (h : ◌≡◌ {A = Result GraphParts Refusal} (Ok one) (Ok two)) → one ≡ two
-graph_same one two h = cc h
-
 pub graph_kept : (modules : List ModuleParts) (controls : List (ℕ × Control)) (g : GraphParts) → AreResolved modules → graph_of modules controls ≡ Ok g → IsGraph g
 graph_kept modules controls g resolved h =
     let segments : List JoinedSegment = segments_of modules in
@@ -40,6 +38,6 @@ graph_kept modules controls g resolved h =
     let free = unless_none (on_cycles (cyclic_from (leads parts.edges) 0 titles)) single g reset.1 in
     let one = unless_none (first_under_two (leads parts.edges) parts.roots parts.own 0 titles) (Ok parts) g free.1 in
     let few : length titles ≤ 1000 = omega (arith, length-map (code_segments segments) (λ (j : JoinedSegment). j.title), resolved.few_units) in
-    subst IsGraph (graph_same parts g one.1)
+    subst IsGraph (same_Ok {E = Refusal} parts g one.1)
     (graph_judged titles parts (parts_fit segments controls (fixup_edges modules) few (fixups_within modules)) (titles_are segments)
     (no_cycles (cyclic_from (leads parts.edges) 0 titles) free.0) one.0)

@@ -6,6 +6,7 @@ use Rattle.std.specs.List.{All}
 use Rattle.std.proofs.lemmas.List.Elements.{All-nil, All-cons, All-head, All-tail, All-take, All-append}
 use Rattle.std.proofs.lemmas.Option.{same_Some}
 use Rattle.m51_cells.specs.Outcome.{and_then}
+use Rattle.m51_cells.proofs.Passing.{same_Ok}
 use Rattle.m51_cells.proofs.Small.{all_one}
 use Rattle.m51_control.specs.declared.control.Control.{Control}
 use Rattle.m51_control.specs.declared.error.ControlError.{ControlError}
@@ -126,9 +127,6 @@ module _ (P : ModuleParts → Type 0)
     modules : All P l.modules
     libraries : All (All P) l.libraries
 
-  linked_same : (x y : objects.Linked) (h : ◌≡◌ {A = Result objects.Linked InputError} (Ok x) (Ok y)) → x ≡ y
-  linked_same x y h = cc h
-
   -- what the words after give
   abbrev AreFollowed : (List ModuleParts → Result objects.Linked InputError) → Type 0
   AreFollowed after = (sources : List ModuleParts) (l : objects.Linked) → All P sources → after sources ≡ Ok l → AreLinked l
@@ -136,14 +134,14 @@ module _ (P : ModuleParts → Type 0)
   module_first : (r : Result objects.Linked InputError) (m : ModuleParts) (l : objects.Linked) → P m → ((k : objects.Linked) → r ≡ Ok k → AreLinked k) → with_module r m ≡ Ok l → AreLinked l
   module_first (Ok k) m l valid rest h =
       let more = rest k refl in
-      subst AreLinked (linked_same (record { modules = m ∷ k.modules; libraries = k.libraries }) l h)
+      subst AreLinked (same_Ok {A = objects.Linked} {E = InputError} (record { modules = m ∷ k.modules; libraries = k.libraries }) l h)
       (record { modules = All-cons P m k.modules valid more.modules; libraries = more.libraries })
   module_first (Err error) m l valid rest h = absurd (cc h)
 
   library_first : (r : Result objects.Linked InputError) (ms : List ModuleParts) (l : objects.Linked) → All P ms → ((k : objects.Linked) → r ≡ Ok k → AreLinked k) → with_library r ms ≡ Ok l → AreLinked l
   library_first (Ok k) ms l valid rest h =
       let more = rest k refl in
-      subst AreLinked (linked_same (record { modules = k.modules; libraries = ms ∷ k.libraries }) l h)
+      subst AreLinked (same_Ok {A = objects.Linked} {E = InputError} (record { modules = k.modules; libraries = ms ∷ k.libraries }) l h)
       (record { modules = more.modules; libraries = All-cons (All P) ms k.libraries valid more.libraries })
   library_first (Err error) ms l valid rest h = absurd (cc h)
 
@@ -180,8 +178,8 @@ module _ (P : ModuleParts → Type 0)
 
   words_linked : (word : ℕ) (names contents : List (List ℕ)) (sources : List ModuleParts) (l : objects.Linked) → All IsOfBytes contents → All P sources
       → linked_from word names contents sources ≡ Ok l → AreLinked l
-  words_linked word [] contents sources l bytes valid h = subst AreLinked (linked_same (record { modules = []; libraries = [] }) l h) none_linked
-  words_linked word (name ∷ names) [] sources l bytes valid h = subst AreLinked (linked_same (record { modules = []; libraries = [] }) l h) none_linked
+  words_linked word [] contents sources l bytes valid h = subst AreLinked (same_Ok {A = objects.Linked} {E = InputError} (record { modules = []; libraries = [] }) l h) none_linked
+  words_linked word (name ∷ names) [] sources l bytes valid h = subst AreLinked (same_Ok {A = objects.Linked} {E = InputError} (record { modules = []; libraries = [] }) l h) none_linked
   words_linked word (name ∷ names) (file ∷ contents) sources l bytes valid h =
       word_first (ending_of name) word file sources (linked_from (word + 1) names contents) l (bytes_are file (All-head IsOfBytes file contents bytes)) valid
       (λ others k all is. words_linked (word + 1) names contents others k (All-tail IsOfBytes file contents bytes) all is) h
@@ -196,9 +194,6 @@ module _ (P : ModuleParts → Type 0)
     pub libraries : All (All P) inputs.libraries
     pub controls : AreKept inputs.controls
 
-  inputs_same : (x y : InputsTree) (h : ◌≡◌ {A = Result InputsTree InputError} (Ok x) (Ok y)) → x ≡ y
-  inputs_same x y h = cc h
-
   from_answers : (files contents : List (List ℕ)) (control script : Option (List ℕ)) (answers : List AnswerTree) (inputs : InputsTree) → All IsOfBytes contents → All P (modules_in answers)
       → inputs_of files contents control script answers ≡ Ok inputs → AreInputs inputs
   unfolding inputs_of
@@ -210,7 +205,7 @@ module _ (P : ModuleParts → Type 0)
       let all : All P sources = subst (λ (ms : List ModuleParts). All P ms) (no_faults (faults_in (source_words 0 files) answers) (modules_in answers) sources one) valid in
       let known = words_linked 0 files contents sources linked bytes all two in
       let made : InputsTree = record { modules = linked.modules; libraries = linked.libraries; controls = lines; script = board } in
-      subst AreInputs (inputs_same made inputs h4) (record { modules = known.modules; libraries = known.libraries; controls = lines_kept control lines three })) h3) h2) h1) h
+      subst AreInputs (same_Ok {E = InputError} made inputs h4) (record { modules = known.modules; libraries = known.libraries; controls = lines_kept control lines three })) h3) h2) h1) h
 
   pub inputs_known : (files : ProgramFiles) (contents : List (List ℕ)) (inputs : InputsTree) → AreOfBytes contents → AreAnswered files contents (Ok inputs) → AreInputs inputs
   inputs_known files contents inputs bytes h =

@@ -1,5 +1,6 @@
 -- The figure of overlaid bytes that a map prints is the one of the laws on placing.
-use Rattle.std.proofs.Common.{◌≡◌, ℕ, zero, suc, ◌+◌, Bool, true, false, cond, ◌&&◌, ◌||◌, List, [], ◌∷◌, ◌++◌, refl, ap, ◌∙◌, arith}
+use Rattle.std.proofs.Common.{◌≡◌, ℕ, zero, suc, ◌+◌, Bool, cond, ◌&&◌, ◌||◌, List, [], ◌∷◌, ◌++◌, refl, ap, ◌∙◌, arith}
+use Rattle.std.proofs.Math.Bool.{and_assoc}
 use Rattle.std.specs.Prelude.{codes, nat_le, nat_lt}
 use Rattle.std.specs.List.{list_any}
 use Rattle.std.specs.Fmt.{decimal}
@@ -52,13 +53,9 @@ same_mark Plain Bits = refl
 same_mark Plain Number = refl
 
 -- both ask for three things
-grouped : (a b c : Bool) → (a && b && c) ≡ (a && (b && c))
-grouped true b c = refl
-grouped false b c = refl
-
 same_byte : (byte : ℕ) (p : Placed) → overlays byte p ≡ overlays_byte byte p
 same_byte byte p =
-    grouped (is_overlaid_in_data p.mark p.kind) (nat_le p.base byte) (nat_lt byte (p.base + p.size))
+    and_assoc (is_overlaid_in_data p.mark p.kind) (nat_le p.base byte) (nat_lt byte (p.base + p.size))
     ∙ ap (λ (b : Bool). b && (nat_le p.base byte && nat_lt byte (p.base + p.size))) (same_mark p.mark p.kind)
 
 any_same : (byte : ℕ) (placed : List Placed) → list_any (overlays byte) placed ≡ list_any (overlays_byte byte) placed

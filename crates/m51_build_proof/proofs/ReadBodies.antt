@@ -1,18 +1,16 @@
 -- What the lines of a source say: their expressions write numbers of 16 bits, and their texts are bytes.
-use Rattle.std.proofs.Common.{◌≡◌, inl, inr, ℕ, ◌<◌, nat_lt, Bool, true, false, cond, List, [], ◌∷◌, ◌++◌, drop, take, Option, Some, None, Result, Ok, Err, refl, subst, arith}
+use Rattle.std.proofs.Common.{◌≡◌, inl, inr, ℕ, nat_lt, Bool, true, false, List, [], ◌∷◌, drop, take, Option, Some, None, Result, Ok, Err, refl, subst}
 use Rattle.std.specs.Char.{is_ascii_alphanumeric}
 use Rattle.std.specs.List.{AllByRecursion, list_all, prefix_len}
 use Rattle.std.specs.Str.{bytes_eq}
 use Rattle.std.specs.Prelude.{codes}
-use Rattle.std.proofs.lemmas.Bool.{and_parts}
-use Rattle.std.proofs.lemmas.Bool.Decides.{nat_tests}
 use Rattle.std.proofs.lemmas.List.Elements.{All-from_recursion}
 use Rattle.m51_cells.specs.declared.fault.TheConstants.{BAD_FORM}
 use Rattle.m51_cells.specs.Name.{name_of}
 use Rattle.m51_expr.specs.declared.symbol.Symbol.{Symbol}
 use Rattle.m51_module.specs.declared.source.SourceFile.{SourceFile}
 use Rattle.m51_stmt.specs.Control as control
-use Rattle.m51_stmt.specs.Control.{by_name, ends, ignored_if, include, include_of, is_ignored_word, parenthesized}
+use Rattle.m51_stmt.specs.Control.{by_name, ends, ignored_if, include_of, is_ignored_word, parenthesized}
 use Rattle.m51_stmt.specs.Grammar as grammar
 use Rattle.m51_stmt.specs.Laws.{IsByte}
 use Rattle.m51_stmt.specs.Lines.{any_line, statement_of, symbols_of}
@@ -26,13 +24,13 @@ use Rattle.m51_stmt.proofs.PrintedLists.{IsItem}
 use Rattle.m51_stmt.proofs.PrintedOperands.{IsOperand}
 use Rattle.m51_stmt.proofs.PrintedStatements.{IsControl, IsLine}
 use Rattle.m51_stmt.proofs.PrintedTrees.{IsTree}
-use Rattle.m51_stmt.proofs.ReadStatements.{written_is_good}
+use Rattle.m51_stmt.proofs.ReadStatements.{each_back, each_byte, each_front, written_is_good}
 use Rattle.m51_stmt.proofs.ReadSymbols.{IsGood, symbols_good, tokens_good}
 use Rattle.m51_text.specs.Answer.{LineTree, Lines, statements_of, text_of, with_statement}
 use Rattle.m51_text.specs.Faults.{faults_of}
 use Rattle.m51_text.specs.Said.{is_character, said}
 use Rattle.m51_text.specs.Text.{TextLine, text_lines}
-use Rattle.m51_asm.proofs.GoodLines.{found_are}
+use Rattle.m51_asm.proofs.GoodLines.{bytes_all, found_are, passes, short}
 
 -- a text of DB is of bytes
 abbrev pub IsTextItem : ItemTree → Type 0
@@ -79,14 +77,6 @@ small_line None b is texts = elim is [ inl c ↦ small_control b c | inr d ↦ s
 small_line (Some name) b is texts = small_body 2 b is.1 texts
 
 -- texts come from symbols, which are of bytes
-each_front : {A : Type 0} (P : A → Type 0) (xs ys : List A) → Each P (xs ++ ys) → Each P xs
-each_front P [] ys h = tt
-each_front P (x ∷ xs) ys h = (h.0, each_front P xs ys h.1)
-
-each_back : {A : Type 0} (P : A → Type 0) (xs ys : List A) → Each P (xs ++ ys) → Each P ys
-each_back P [] ys h = h
-each_back P (x ∷ xs) ys h = each_back P xs ys h.1
-
 item_texts : (l : List Symbol) (i : ItemTree) → grammar.IsItem l i → Each IsGood l → IsTextItem i
 item_texts l i grammar.Text h = h.0
 item_texts l i (grammar.Value other is) h = tt
@@ -166,28 +156,6 @@ line_texts line s (grammar.Statement {tokens = tokens} no_dollar no_percent cut 
     statement_texts (symbols_of line tokens) s is (symbols_good line tokens bytes ((tokens_good line 0 0).holds tokens cut))
 
 -- lines
-character_byte : (b : ℕ) → is_character b ≡ true → b < 256
-character_byte b h = grind (arith, nat_tests)
-
-bytes_all : (line : List ℕ) → list_all is_character line ≡ true → AllByRecursion IsByte line
-bytes_all [] h = tt
-bytes_all (b ∷ line) h = let p = and_parts (is_character b) (list_all is_character line) h in (character_byte b p.0, bytes_all line p.1)
-
-each_byte : (xs : List ℕ) → AllByRecursion IsByte xs → Each IsByte xs
-each_byte [] h = tt
-each_byte (x ∷ xs) h = (h.0, each_byte xs h.1)
-
-abbrev read_as : StmtTree → Result StmtTree ℕ
-read_as s = Ok s
-
-passes : (b : Bool) (k : ℕ) (r : Result StmtTree ℕ) (s : StmtTree) → cond b r (Err k) ≡ read_as s → (b ≡ true) × (r ≡ Ok s)
-passes true k r s h = (refl, h)
-passes false k r s h = absurd (cc h)
-
-short : (b : Bool) (k : ℕ) (r : Result StmtTree ℕ) (s : StmtTree) → cond b (Err k) r ≡ read_as s → r ≡ Ok s
-short true k r s h = absurd (cc h)
-short false k r s h = h
-
 small_said : (line : List ℕ) (s : StmtTree) → said line ≡ Ok s → IsSmallBody s.body
 unfolding said
 small_said line s h =

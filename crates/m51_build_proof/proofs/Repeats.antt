@@ -4,6 +4,7 @@ use Rattle.std.specs.Prelude.{flat_map}
 use Rattle.m51_cells.specs.declared.event.Entry.{Entry}
 use Rattle.m51_cells.specs.declared.event.Event.{Event}
 use Rattle.m51_cells.specs.declared.event.Event.TheVariants.{Outside, PowerDown, Reserved, Transfer, Unwritten}
+use Rattle.m51_cells.proofs.Passing.{same_Ok}
 use Rattle.m51_asm.specs.Answer.{AnswerTree}
 use Rattle.m51_flat.specs.Reads.{CellMap}
 use Rattle.m51_inputs.specs.declared.error.InputError.{InputError}
@@ -39,9 +40,6 @@ use Rattle.m51_build_proof.specs.Builds.{AreOfBytes, IsBuilt, flat_run, separate
 use Rattle.m51_build_proof.specs.Headline.{FlatGives, FlatRepeats, IfShared, RunsAlike}
 use Rattle.m51_build_proof.proofs.Alike.{runs_alike}
 
-inputs_same : (x y : InputsTree) (h : ◌≡◌ {A = Result InputsTree InputError} (Ok x) (Ok y)) → x ≡ y
-inputs_same x y h = cc h
-
 given_script : (files contents : List (List ℕ)) (control script : Option (List ℕ)) (answers : List AnswerTree) (inputs : InputsTree)
     → all_inputs files contents control script answers ≡ Ok inputs → flats.script_in script ≡ Ok inputs.script
 unfolding all_inputs
@@ -51,7 +49,7 @@ given_script files contents control script answers inputs h =
     on_value (controls_in control) _ inputs (flats.script_in script ≡ Ok inputs.script) (λ lines three h3.
     on_value (script_in script) _ inputs (flats.script_in script ≡ Ok inputs.script) (λ board four h4.
     let made : InputsTree = record { modules = linked.modules; libraries = linked.libraries; controls = lines; script = board } in
-    script_is script board four ∙ ap (λ (i : InputsTree). Ok i.script) (inputs_same made inputs h4)) h3) h2) h1) h
+    script_is script board four ∙ ap (λ (i : InputsTree). Ok i.script) (same_Ok {E = InputError} made inputs h4)) h3) h2) h1) h
 
 -- a record of steps
 module _ {M : Type 0} (machine : Machine M) where

@@ -11,6 +11,7 @@ use Rattle.m51_cells.specs.declared.kind.Base.TheVariants as base
 use Rattle.m51_cells.specs.declared.kind.Kind.{Kind}
 use Rattle.m51_cells.specs.declared.kind.Kind.TheVariants as kind
 use Rattle.m51_cells.specs.Outcome.{and_then}
+use Rattle.m51_cells.proofs.Passing.{same_Ok}
 use Rattle.m51_expr.specs.declared.fault.ExprError.{ExprError}
 use Rattle.m51_expr.specs.declared.value.Part.{Part}
 use Rattle.m51_expr.specs.declared.value.Part.TheVariants.{Whole, High, Low, Bit}
@@ -48,20 +49,8 @@ pub record AreSmall (names : Meanings) : Type 0 where
   pub value : (name : List ℕ) → IfSomeSmall (names.value name)
   pub here : IsSmall names.here
 
-abbrev ok_value : Value → Valued Value
-ok_value v = Ok v
-
-abbrev ok_number : ℕ → Valued ℕ
-ok_number n = Ok n
-
-ok_same : (v w : Value) → ok_value v ≡ ok_value w → v ≡ w
-ok_same v w h = cc h
-
-number_same : (n m : ℕ) → ok_number n ≡ ok_number m → n ≡ m
-number_same n m h = cc h
-
 if_ok : (v : Value) → IsSmall v → IfSmall (Ok v)
-if_ok v h = record { holds = λ w e. subst IsSmall (ok_same v w e) h }
+if_ok v h = record { holds = λ w e. subst IsSmall (same_Ok {E = ExprError} v w e) h }
 
 if_err : (k : ExprError) → IfSmall (Err k)
 if_err k = record { holds = λ w e. absurd (cc e) }
@@ -75,7 +64,7 @@ if_then (Ok v) f h go = go v (h.holds v refl)
 if_then (Err k) f h go = if_err k
 
 number_ok : (n : ℕ) → n < 65536 → IfNumber (Ok n)
-number_ok n h = record { holds = λ m e. subst (λ x. x < 65536) (number_same n m e) h }
+number_ok n h = record { holds = λ m e. subst (λ x. x < 65536) (same_Ok {E = ExprError} n m e) h }
 
 number_err : (k : ExprError) → IfNumber (Err k)
 number_err k = record { holds = λ w e. absurd (cc e) }

@@ -4,7 +4,6 @@ use Rattle.std.specs.List.{All, AllPairs}
 use Rattle.std.proofs.lemmas.List.Elements.{All-head, All-tail}
 use Rattle.std.proofs.lemmas.List.Sums.{sum_by-cons}
 use Rattle.std.specs.Prelude.{map}
-use Rattle.m51_hex.specs.Writing.{IsWithin}
 use Rattle.m51_module.specs.declared.linked.Run.{Run}
 use Rattle.m51_linker.specs.declared.linked.Linked.{Linked}
 use Rattle.m51_linker.specs.Link.{IsInside, IsReady}
@@ -29,7 +28,3 @@ pub ready_few : (linked : Linked) → IsReady linked → filled_by linked.writte
 ready_few linked ready =
     let all = runs_below linked.written 0 (omega arith) (λ k d below. omega arith) ready.runs ready.ascending in
     omega (arith, all)
-
--- the runs lie in program memory
-pub ready_within : (linked : Linked) → IsReady linked → All IsWithin linked.written
-ready_within linked ready = λ k d below. (ready.runs k d below).inside

@@ -1,6 +1,7 @@
 -- Each statement of a disassembly is at its address.
-use Rattle.std.proofs.Common.{◌≡◌, ℕ, zero, suc, ◌+◌, ◌-◌, ◌<◌, ◌≤◌, nat_le, Bool, true, false, cond, List, [], ◌∷◌, ◌++◌, append_assoc, length, map, flat_map, Option, Some, None, refl, ap, sym, ◌∙◌, subst, arith, slice_get, slice_index}
+use Rattle.std.proofs.Common.{◌≡◌, ℕ, zero, suc, ◌+◌, ◌-◌, ◌<◌, ◌≤◌, nat_le, Bool, true, false, cond, List, [], ◌∷◌, ◌++◌, append_assoc, length, map, flat_map, Option, Some, None, refl, ap, ◌∙◌, subst, arith, slice_get, slice_index}
 use Rattle.std.proofs.lemmas.Bool.{leb-true}
+use Rattle.std.proofs.lemmas.Grind.{flat_map-append}
 use Rattle.m51_cells.specs.declared.kind.Kind.TheVariants as kind
 use Rattle.m51_isa.specs.declared.instr.Instr.{Instr}
 use Rattle.m51_isa.specs.declared.instr.Instr.TheVariants.{Nop}
@@ -111,18 +112,12 @@ spots_after (x ∷ xs) ys k seg place =
           ∙ ap (λ i. slice_get (spots_from i more.segment more.place ys) j) next;
     }
 
-flat_joined : (image : List ℕ) (xs ys : List Part) → flat_map (part_lines image) (xs ++ ys) ≡ flat_map (part_lines image) xs ++ flat_map (part_lines image) ys
-flat_joined image [] ys = refl
-flat_joined image (x ∷ xs) ys =
-    ap (λ l. part_lines image x ++ l) (flat_joined image xs ys)
-    ∙ sym (append_assoc (part_lines image x) (flat_map (part_lines image) xs) (flat_map (part_lines image) ys))
-
 -- the lines of a disassembly, about one of its parts
 pub around : (image : List ℕ) (before : List Part) (part : Part) (after : List Part)
     → lines_of image (before ++ part ∷ after) ≡ (line.Nomod51 ∷ flat_map (part_lines image) before) ++ (part_lines image part ++ (flat_map (part_lines image) after ++ line.End ∷ []))
 unfolding lines_of
 around image before part after =
-    ap (λ l. line.Nomod51 ∷ (l ++ line.End ∷ [])) (flat_joined image before (part ∷ after))
+    ap (λ l. line.Nomod51 ∷ (l ++ line.End ∷ [])) (flat_map-append (part_lines image) before (part ∷ after))
     ∙ ap (λ l. line.Nomod51 ∷ l) (append_assoc (flat_map (part_lines image) before) (part_lines image part ++ flat_map (part_lines image) after) (line.End ∷ [])
     ∙ ap (λ l. flat_map (part_lines image) before ++ l) (append_assoc (part_lines image part) (flat_map (part_lines image) after) (line.End ∷ [])))
 

@@ -1,5 +1,6 @@
 -- The text of a disassembly is read as its lines, and no line has a fault.
 use Rattle.std.proofs.Common.{◌≡◌, ℕ, zero, suc, ◌+◌, ◌-◌, ◌<◌, ◌≤◌, ◌&&◌, ◌||◌, not, nat_lt, Bool, true, false, cond, List, [], ◌∷◌, ◌++◌, length, length-append, take, map, get_or, Some, None, Ok, Err, refl, ap, ◌∙◌, append_assoc, arith}
+use Rattle.std.proofs.Math.Bool.{and-false}
 use Rattle.std.specs.Prelude.{codes}
 use Rattle.std.specs.List.{AllByRecursion, list_all, list_any, slice_split}
 use Rattle.std.specs.Str.Lines.{lines, lines_of_parts, strip_carriage_return}
@@ -7,6 +8,7 @@ use Rattle.std.proofs.lemmas.Bool.{ne_eqb}
 use Rattle.std.proofs.lemmas.Grind.{common_steps}
 use Rattle.std.proofs.lemmas.List.{take_all}
 use Rattle.std.proofs.lemmas.List.Elements.{All-from_recursion}
+use Rattle.std.proofs.lemmas.List.Folds.{list_any-append}
 use Rattle.std.proofs.lemmas.List.Splits.{slice_split_at, length-slice_split}
 use Rattle.m51_cells.specs.declared.fault.TheConstants.{BAD_BYTE, TOO_MANY}
 use Rattle.m51_cells.specs.Lines.{is_line_feed}
@@ -125,21 +127,9 @@ EndsOnce [] = ⊥
 EndsOnce (l ∷ []) = l ≡ line.End
 EndsOnce (l ∷ m ∷ ls) = (is_end_body (meant l).body ≡ false) × EndsOnce (m ∷ ls)
 
-or_joined : (a b c : Bool) → (a || (b || c)) ≡ ((a || b) || c)
-or_joined true b c = refl
-or_joined false b c = refl
-
 or_true : (a b : Bool) → b ≡ true → (a || b) ≡ true
 or_true true b h = refl
 or_true false b h = h
-
-and_false : (a : Bool) → (a && false) ≡ false
-and_false true = refl
-and_false false = refl
-
-any_joined : {A : Type 0} (p : A → Bool) (xs ys : List A) → list_any p (xs ++ ys) ≡ (list_any p xs || list_any p ys)
-any_joined p [] ys = refl
-any_joined p (x ∷ xs) ys = ap (λ b. p x || b) (any_joined p xs ys) ∙ or_joined (p x) (list_any p xs) (list_any p ys)
 
 ends_said : (n : ℕ) (l : Line) → IsSound l → ends_source (record { file = 0; line = n; levels = 8; bytes = line_text l }) ≡ is_end_body (meant l).body
 ends_said n l is = ap is_end (line_said l is)
@@ -158,7 +148,7 @@ no_fault above n l is none few =
     ap (fault_with [] above this false) (line_said l is)
     ∙ ap (λ o. fault_by_place (list_any ends_source above && is_text s || is_end (Ok s) && false) (inclusion_by [] 8 o) (length above)) (nothing_asked l)
     ∙ ap (λ b. fault_by_place (b && is_text s || is_end (Ok s) && false) (inclusion_by [] 8 None) (length above)) none
-    ∙ ap (λ b. fault_by_place b (inclusion_by [] 8 None) (length above)) (and_false (is_end_body s.body))
+    ∙ ap (λ b. fault_by_place b (inclusion_by [] 8 None) (length above)) (and-false (is_end_body s.body))
     ∙ ap (λ b. cond b (Some TOO_MANY) None) (ne_eqb (length above) 65535 (λ e. omega (arith, e, few)))
 
 no_faults : (above : List TextLine) (n : ℕ) (ls : List Line) → AllByRecursion IsSound ls → EndsOnce ls → list_any ends_source above ≡ false → length above + length ls ≤ 65535
@@ -171,7 +161,7 @@ no_faults above n (l ∷ m ∷ ls) is e none few =
     let this : TextLine = record { file = 0; line = n; levels = 8; bytes = line_text l } in
     let rest = numbered (n + 1) (m ∷ ls) in
     let still : list_any ends_source (above ++ this ∷ []) ≡ false =
-    any_joined ends_source above (this ∷ []) ∙ (λ i. none i || (((ends_said n l is.0 ∙ e.0) i) || false)) in
+    list_any-append ends_source above (this ∷ []) ∙ (λ i. none i || (((ends_said n l is.0 ∙ e.0) i) || false)) in
     let size = length-append above (this ∷ []) in
     ap (λ o. before this o (faults_from [] false (above ++ this ∷ []) rest)) (no_fault above n l is.0 none (omega (arith, few)))
     ∙ no_faults (above ++ this ∷ []) (n + 1) (m ∷ ls) is.1 e.1 still (omega (arith, few, size))
@@ -188,7 +178,7 @@ faults_are [] is e few = absurd e
 faults_are (l ∷ ls) is e few =
     let all = numbered 1 (l ∷ ls) in
     ap (λ b. faults_from [] (nat_lt (length all) 65536 && not b) [] all) (has_end 1 (l ∷ ls) is e)
-    ∙ ap (λ b. faults_from [] b [] all) (and_false (nat_lt (length all) 65536))
+    ∙ ap (λ b. faults_from [] b [] all) (and-false (nat_lt (length all) 65536))
     ∙ no_faults [] 1 (l ∷ ls) is e refl (omega (arith, few))
 
 -- the text of lines is read as these lines

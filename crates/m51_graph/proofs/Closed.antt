@@ -1,7 +1,8 @@
 -- The pairs that walks along edges join, found unit by unit.
-use Rattle.std.proofs.Common.{◌≡◌, ◌⊎◌, inl, inr, ℕ, zero, suc, ◌+◌, ◌<◌, true, false, Bool, ◌||◌, ◌&&◌, nat_eq, List, [], ◌∷◌, length, take, get_or, refl, sym, ap, subst, ◌∙◌, arith}
+use Rattle.std.proofs.Common.{◌≡◌, ◌⊎◌, inl, inr, ℕ, zero, suc, ◌+◌, ◌<◌, true, Bool, ◌||◌, ◌&&◌, nat_eq, List, [], ◌∷◌, length, take, get_or, refl, sym, ap, subst, ◌∙◌, arith}
+use Rattle.std.proofs.Math.Bool.{and_comm, or_comm}
 use Rattle.std.specs.Bool.{Decides}
-use Rattle.std.specs.List.{Contains, list_any}
+use Rattle.std.specs.List.{Contains}
 use Rattle.std.proofs.lemmas.Bool.{cases_eq}
 use Rattle.std.proofs.lemmas.Bool.Decides.{Decides-eqb}
 use Rattle.std.proofs.lemmas.List.Folds.{Any-from_list_any, list_any_at, list_any_more}
@@ -29,26 +30,14 @@ edge_tells edges u v =
     )
 
 -- one more edge
-pub or_swap : (a b : Bool) → (a || b) ≡ (b || a)
-or_swap true true = refl
-or_swap true false = refl
-or_swap false true = refl
-or_swap false false = refl
-
 pub edge_more : (edges : Edges) (i : ℕ) (d : ℕ × ℕ) (has : ℕ → ℕ → Bool) → i < length edges → has ≡ edge_test (take i edges)
     → with_pair (get_or edges i d).0 (get_or edges i d).1 has ≡ edge_test (take (i + 1) edges)
 edge_more edges i d has below is =
     let edge : ℕ × ℕ = get_or edges i d in
     same_pairs (with_pair edge.0 edge.1 has) (edge_test (take (i + 1) edges))
     (λ u v. ap (λ (p : ℕ → ℕ → Bool). (nat_eq u edge.0 && nat_eq v edge.1) || p u v) is
-    ∙ or_swap (nat_eq u edge.0 && nat_eq v edge.1) (edge_test (take i edges) u v)
+    ∙ or_comm (nat_eq u edge.0 && nat_eq v edge.1) (edge_test (take i edges) u v)
     ∙ sym (list_any_more (same_edge (u, v)) edges i d below))
-
-pub and_swap : (a b : Bool) → (a && b) ≡ (b && a)
-and_swap true true = refl
-and_swap true false = refl
-and_swap false true = refl
-and_swap false false = refl
 
 -- one more edge, reversed
 pub caller_more : (edges : Edges) (i : ℕ) (d : ℕ × ℕ) (has : ℕ → ℕ → Bool) → i < length edges → has ≡ flipped (edge_test (take i edges))
@@ -57,8 +46,8 @@ caller_more edges i d has below is =
     let edge : ℕ × ℕ = get_or edges i d in
     same_pairs (with_pair edge.1 edge.0 has) (flipped (edge_test (take (i + 1) edges)))
     (λ u v. ap (λ (p : ℕ → ℕ → Bool). (nat_eq u edge.1 && nat_eq v edge.0) || p u v) is
-    ∙ ap (λ b. b || edge_test (take i edges) v u) (and_swap (nat_eq u edge.1) (nat_eq v edge.0))
-    ∙ or_swap (nat_eq v edge.0 && nat_eq u edge.1) (edge_test (take i edges) v u)
+    ∙ ap (λ b. b || edge_test (take i edges) v u) (and_comm (nat_eq u edge.1) (nat_eq v edge.0))
+    ∙ or_comm (nat_eq v edge.0 && nat_eq u edge.1) (edge_test (take i edges) v u)
     ∙ sym (list_any_more (same_edge (v, u)) edges i d below))
 
 module _ (edges : Edges) (has : ℕ → ℕ → Bool) (tells : (u v : ℕ) → Decides (has u v) (HasEdge edges u v)) where

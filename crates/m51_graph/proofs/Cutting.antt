@@ -1,5 +1,6 @@
 -- The set of the edges that lines cut.
-use Rattle.std.proofs.Common.{◌≡◌, ℕ, ◌+◌, ◌<◌, true, false, Bool, not, ◌||◌, ◌&&◌, nat_eq, List, length, filter, take, get_or, Option, Some, None, refl, sym, ap, subst, ◌∙◌, arith}
+use Rattle.std.proofs.Common.{◌≡◌, ℕ, ◌+◌, ◌<◌, true, false, Bool, not, ◌||◌, List, length, filter, take, get_or, Option, Some, None, refl, sym, ap, subst, ◌∙◌}
+use Rattle.std.proofs.Math.Bool.{or_comm}
 use Rattle.std.specs.Prelude.{IfSome}
 use Rattle.std.specs.List.{list_any}
 use Rattle.std.proofs.lemmas.List.Folds.{list_any_more}
@@ -9,10 +10,9 @@ use Rattle.m51_module.specs.declared.parts.ModuleParts.{ModuleParts}
 use Rattle.m51_module.specs.Walks.{Edges}
 use Rattle.m51_resolve.specs.Joining.{segments_of}
 use Rattle.m51_graph.specs.Conditions.{IsWithin}
-use Rattle.m51_graph.specs.Drawing.{cuts, edge_named, fixup_edge, is_cut, is_edge}
+use Rattle.m51_graph.specs.Drawing.{cuts, edge_named, fixup_edge, is_cut}
 use Rattle.m51_graph.specs.Locals.{is_apart, keeps_apart}
 use Rattle.m51_graph.specs.Units.{units_of}
-use Rattle.m51_graph.proofs.Closed.{or_swap}
 use Rattle.m51_graph.proofs.Within.{EdgeWithin, fixup_within, named_within, titles_are}
 
 -- an edge between named units, if there is one, is among the units
@@ -63,7 +63,7 @@ pub apart_more : (titles : List (List ℕ)) (controls : List (ℕ × Control)) (
     → new ≡ (keeps_apart titles unit (get_or controls i d).1 || now) → now ≡ is_apart titles (take i controls) unit → new ≡ is_apart titles (take (i + 1) controls) unit
 apart_more titles controls i d unit now new below is before =
     is ∙ ap (λ b. keeps_apart titles unit (get_or controls i d).1 || b) before
-    ∙ or_swap (keeps_apart titles unit (get_or controls i d).1) (is_apart titles (take i controls) unit)
+    ∙ or_comm (keeps_apart titles unit (get_or controls i d).1) (is_apart titles (take i controls) unit)
     ∙ sym (list_any_more (λ (line : ℕ × Control). keeps_apart titles unit line.1) controls i d below)
 
 pub same_units : (p q : ℕ → Bool) → ((unit : ℕ) → p unit ≡ q unit) → p ≡ q

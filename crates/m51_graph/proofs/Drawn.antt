@@ -1,7 +1,7 @@
 -- Edges drawn one after another, and what fixups of valid modules refer to.
-use Rattle.std.proofs.Common.{◌≡◌, ℕ, zero, suc, ◌+◌, ◌<◌, true, Bool, List, [], ◌∷◌, ◌++◌, length, ltb, drop, get_or, Option, Some, None, refl, sym, ap, subst, ◌∙◌, arith, add-one, drop-cons, append_assoc}
+use Rattle.std.proofs.Common.{◌≡◌, ℕ, ◌+◌, ◌<◌, true, List, [], ◌∷◌, ◌++◌, length, ltb, drop, get_or, Option, Some, None, refl, sym, ap, subst, ◌∙◌, arith, add-one, drop-cons, append-nil}
 use Rattle.std.specs.Prelude.{IsSome, is_some, flat_map, slice_get, option_and_then}
-use Rattle.std.specs.List.{All, Contains, cons_option, filter_map, range_with_len}
+use Rattle.std.specs.List.{All, cons_option, filter_map, range_with_len}
 use Rattle.std.proofs.lemmas.Grind.{flat_map-append}
 use Rattle.std.proofs.lemmas.List.Elements.{All-contains, Contains-get_or}
 use borrow.Author.Tests.{ltb-true}
@@ -58,10 +58,6 @@ found_more f xs i d now new below is =
     ∙ ap (λ ys. with_edges now (filter_map f ys)) (sym (drop_rest xs i d below))
 
 -- one more module
-append_none : (edges : Edges) → edges ++ [] ≡ edges
-append_none [] = refl
-append_none (e ∷ edges) = ap (λ es. e ∷ es) (append_none edges)
-
 pub modules_step : (modules : List ModuleParts) (m : ℕ) (edges new : Edges)
     → new ≡ with_edges edges (module_edges modules m) → edges ≡ with_edges [] (flat_map (module_edges modules) (range_with_len 0 m))
     → new ≡ with_edges [] (flat_map (module_edges modules) (range_with_len 0 (m + 1)))
@@ -72,7 +68,7 @@ modules_step modules m edges new is before =
     ∙ ap (with_edges []) (sym (ap (λ n. flat_map (module_edges modules) (range_with_len 0 n)) (add-one m)
     ∙ ap (flat_map (module_edges modules)) (range_suc 0 m)
     ∙ flat_map-append (module_edges modules) (range_with_len 0 m) ((0 + m) ∷ [])
-    ∙ ap (λ es. done ++ es) (ap (λ k. flat_map (module_edges modules) (k ∷ [])) (omega arith) ∙ append_none (module_edges modules m))))
+    ∙ ap (λ es. done ++ es) (ap (λ k. flat_map (module_edges modules) (k ∷ [])) (omega arith) ∙ append-nil (module_edges modules m))))
 
 -- what fixups of a valid module refer to
 module _ (modules : List ModuleParts) (m : ℕ) (parts : ModuleParts) (here : slice_get modules m ≡ Some parts) where

@@ -1,22 +1,22 @@
 -- Where an edge is.
-use Rattle.std.proofs.Common.{◌≡◌, ◌≢◌, ◌⊎◌, inl, inr, ℕ, zero, suc, ◌+◌, ◌<◌, true, false, Bool, not, cond, nat_eq, List, [], ◌∷◌, ◌++◌, length, map, filter, get_or, Option, Some, None, refl, sym, ap, subst, ◌∙◌, arith}
-use Rattle.std.specs.Prelude.{flat_map, slice_get, ◌↔◌}
-use Rattle.std.specs.List.{Contains, cons_option, filter_map, list_any, range_with_len}
+use Rattle.std.proofs.Common.{◌≡◌, ◌≢◌, ◌⊎◌, inl, inr, ℕ, ◌+◌, ◌<◌, true, false, Bool, not, cond, nat_eq, List, [], ◌∷◌, ◌++◌, length, filter, Option, Some, None, refl, sym, ap, subst, ◌∙◌, arith}
+use Rattle.std.specs.Prelude.{flat_map, slice_get}
+use Rattle.std.specs.List.{Contains, cons_option, filter_map, range_with_len}
 use Rattle.std.specs.Option.{option_map_or}
 use Rattle.std.proofs.lemmas.Bool.{and_from, and_parts, cases_Bool, cases_eq, eq-eqb, eqb-true, false≢true, ne_eqb}
 use Rattle.std.proofs.lemmas.List.Elements.{Contains-append_cases, Contains-append_left, Contains-append_right, Contains-push}
 use Rattle.std.proofs.lemmas.List.Folds.{Any-from_list_any, list_any_at}
 use Rattle.std.proofs.lemmas.List.FromFn.{get_or-range_with_len, length-range_with_len}
-use Rattle.std.proofs.lemmas.Option.{slice_get_within}
+use Rattle.std.proofs.lemmas.Option.{none-some, same_Some, slice_get_within}
 use Rattle.m51_cells.proofs.Small.{contains_first}
 use Rattle.m51_control.specs.declared.control.Control.{Control}
 use Rattle.m51_control.specs.declared.control.Control.TheVariants.{Add, Cut, NoOverlay, Reserve, Order}
 use Rattle.m51_module.specs.declared.content.Fixup.{Fixup}
 use Rattle.m51_module.specs.declared.parts.ModuleParts.{ModuleParts}
-use Rattle.m51_module.specs.Walks.{Edges, HasEdge}
+use Rattle.m51_module.specs.Walks.{Edges}
 use Rattle.m51_cells.proofs.Small.{contains_after, first_or_after, none_in_empty}
 use Rattle.m51_resolve.specs.Joining.{segments_of}
-use Rattle.m51_graph.specs.Drawing.{added_by, cuts, edge_between, edge_named, edge_test, edges_of, fixup_edge, fixup_edges, has_edge, is_cut, is_edge, module_edges, same_edge, with_added, with_edge, with_edges}
+use Rattle.m51_graph.specs.Drawing.{added_by, cuts, edge_between, edge_named, fixup_edge, fixup_edges, has_edge, is_cut, is_edge, module_edges, same_edge, with_edge, with_edges}
 use Rattle.m51_graph.specs.Targets.{target_unit, unit_with}
 use Rattle.m51_graph.specs.Laws.{EdgesAre, IsAdded, IsCut, RefersTo}
 use Rattle.m51_graph.specs.Units.{named, unit_titles}
@@ -115,22 +115,16 @@ record Ends (a b : Option ℕ) (u v : ℕ) : Type 0 where
   to : b ≡ Some v
   differ : u ≢ v
 
-not_some : (p q : ℕ × ℕ) → None ≡ Some q → ⊥
-not_some p q h = absurd (cc h)
-
-some_same : (p q : ℕ × ℕ) → Some p ≡ Some q → p ≡ q
-some_same p q h = cc h
-
 between_ends : (a b : Option ℕ) (u v : ℕ) → edge_between a b ≡ Some (u, v) → Ends a b u v
 between_ends None b u v h = absurd (cc h)
 between_ends (Some x) None u v h = absurd (cc h)
 between_ends (Some x) (Some y) u v h = elim (cases_eq x y) as (λ _. Ends (Some x) (Some y) u v) [
   | inl same ↦
       let none : edge_between (Some x) (Some y) ≡ None = ap (λ b. cond b None (Some (x, y))) (eq-eqb x y same) in
-      absurd (not_some (x, y) (u, v) (sym none ∙ h))
+      absurd (none-some (u, v) (sym none ∙ h))
   | inr other ↦
       let is : Some (x, y) ≡ Some (u, v) = sym (ap (λ (b : Bool). cond b None (Some (x, y))) (ne_eqb x y other)) ∙ h in
-      let pair : (x, y) ≡ (u, v) = some_same (x, y) (u, v) is in
+      let pair : (x, y) ≡ (u, v) = same_Some (x, y) (u, v) is in
       record {
         from = ap (λ (p : ℕ × ℕ). Some p.0) pair;
         to = ap (λ (p : ℕ × ℕ). Some p.1) pair;

@@ -1,19 +1,17 @@
 -- Pairs joined by a pair of one set and then one of another, and which owners they say are related.
-use Rattle.std.proofs.Common.{◌≡◌, ℕ, zero, suc, ◌+◌, ◌<◌, ◌≤◌, true, false, Bool, ◌||◌, ◌&&◌, List, [], ◌∷◌, length, refl, sym, ap, ◌∙◌, arith}
+use Rattle.std.proofs.Common.{◌≡◌, ℕ, zero, suc, ◌+◌, ◌<◌, ◌≤◌, true, false, Bool, ◌||◌, ◌&&◌, [], ◌∷◌, length, refl, sym, ap, ◌∙◌, arith}
 use Rattle.std.specs.List.{list_any, range_with_len}
 use Rattle.std.proofs.lemmas.List.Folds.{list_any-append}
-use Rattle.std.proofs.Math.Bool.{or-false}
+use Rattle.std.proofs.Math.Bool.{and_comm, or-false}
 use Rattle.m51_cells.proofs.Small.{range_suc}
 use Rattle.m51_relations.specs.declared.owner_pairs.Owned.{Owned}
 use Rattle.m51_graph.specs.declared.parts.GraphParts.{GraphParts}
 use Rattle.m51_graph.specs.declared.tables.Tables.{Tables}
 use Rattle.m51_graph.specs.Drawing.{edge_test}
 use Rattle.m51_graph.specs.Kept.{AreTables}
-use Rattle.m51_graph.specs.Leading.{leads}
 use Rattle.m51_relations.specs.OwnerPairs.{owner_pair, related_by}
 use Rattle.m51_graph.specs.Relating.{are_related, owner_related, owners_related}
 use Rattle.m51_relations.specs.Rows.{flipped, pairs, passed_below}
-use Rattle.m51_graph.proofs.Closed.{and_swap}
 
 or_three : (a b c : Bool) → ((a || b) || c) ≡ (a || (b || (c || false)))
 or_three true b c = refl
@@ -60,7 +58,7 @@ module _ (g : GraphParts) (t : Tables) (are : AreTables g t) where
       let p : ℕ → Bool = λ k. pairs t.edges k v && are_related t k u in
       are.owners.second u v below
       ∙ passed_is (pairs t.owners.plain) (edge_test g.edges) (pairs t.owners.plain) (are_related t v u) p u v count (plain_is u v below below')
-      (λ k inside. ap (λ b. b && edge_test g.edges k v) (plain_is u k below inside) ∙ ap (λ b. are_related t k u && b) (edge_is k v) ∙ and_swap (are_related t k u) (pairs t.edges k v))
+      (λ k inside. ap (λ b. b && edge_test g.edges k v) (plain_is u k below inside) ∙ ap (λ b. are_related t k u && b) (edge_is k v) ∙ and_comm (are_related t k u) (pairs t.edges k v))
       count (omega arith)
       ∙ ap (λ n. are_related t v u || list_any p (range_with_len 0 n)) (sym are.edge_count)
 

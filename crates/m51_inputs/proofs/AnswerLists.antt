@@ -1,7 +1,7 @@
 -- Answers, source by source.
-use Rattle.std.proofs.Common.{◌≡◌, ◌∙◌, ℕ, suc, ◌+◌, ◌<◌, List, [], ◌∷◌, ◌++◌, length, take, drop, get_or, map, refl, ap, sym, subst, append_assoc, append-nil, arith}
+use Rattle.std.proofs.Common.{◌≡◌, ◌∙◌, ℕ, ◌+◌, ◌<◌, List, [], ◌∷◌, ◌++◌, length, take, drop, get_or, refl, ap, sym, subst, append_assoc, append-nil, arith}
 use Rattle.std.specs.List.{slice_index_or}
-use Rattle.std.proofs.lemmas.List.{take_more, length-map}
+use Rattle.std.proofs.lemmas.List.{take_more, length-map, map-append}
 use Rattle.m51_module.specs.declared.parts.ModuleParts.{ModuleParts}
 use Rattle.m51_module.specs.declared.source.SourceFile.{SourceFile}
 use Rattle.m51_asm.specs.Answer.{AnswerTree, Gives, Faults, IsAnswer, tree_of}
@@ -22,10 +22,6 @@ one_more includes (first ∷ sources) (given ∷ answers) source answer are is =
 one_more includes [] (given ∷ answers) source answer are is = absurd are
 one_more includes (first ∷ sources) [] source answer are is = absurd are
 
-map_push : {A B : Type 0} (f : A → B) (xs : List A) (x : A) → map f (xs ++ x ∷ []) ≡ map f xs ++ f x ∷ []
-map_push f [] x = refl
-map_push f (y ∷ xs) x = ap (λ zs. f y ∷ zs) (map_push f xs x)
-
 taken : (sources : List SourceArgument) (i : ℕ) (source : SourceArgument) → i < length sources → source ≡ get_or sources i source
     → take (i + 1) sources ≡ take i sources ++ source ∷ []
 taken sources i source some is = take_more sources i source some ∙ ap (λ (s : SourceArgument). take i sources ++ s ∷ []) (sym is)
@@ -36,9 +32,9 @@ pub assembled_more : (includes : List SourceFile) (sources : List SourceArgument
     → AreAnswers includes (files_in (take i sources)) (answers_of old) → AreAnswers includes (files_in (take (i + 1) sources)) (answers_of new)
 assembled_more includes sources i source old new one some is put answer are =
     let files : files_in (take (i + 1) sources) ≡ files_in (take i sources) ++ source.file ∷ [] =
-    ap files_in (taken sources i source some is) ∙ map_push (λ (s : SourceArgument). s.file) (take i sources) source in
+    ap files_in (taken sources i source some is) ∙ map-append (λ (s : SourceArgument). s.file) (take i sources) (source ∷ []) in
     let told : answers_of new ≡ answers_of old ++ tree_of one.assembled ∷ [] =
-    ap answers_of put ∙ map_push (λ (a : Answered). tree_of a.assembled) old one in
+    ap answers_of put ∙ map-append (λ (a : Answered). tree_of a.assembled) old (one ∷ []) in
     let P : List SourceFile → Type 0 = λ ss. AreAnswers includes ss (answers_of new) in
     let Q : List AnswerTree → Type 0 = λ ts. AreAnswers includes (files_in (take i sources) ++ source.file ∷ []) ts in
     subst P (sym files) (subst Q (sym told) (one_more includes (files_in (take i sources)) (answers_of old) source.file (tree_of one.assembled) are answer))
@@ -47,9 +43,9 @@ pub words_more : (sources : List SourceArgument) (i : ℕ) (source : SourceArgum
     → i < length sources → source ≡ get_or sources i source → new ≡ old ++ one ∷ [] → one.word ≡ source.word
     → words_of old ≡ words_in (take i sources) → words_of new ≡ words_in (take (i + 1) sources)
 words_more sources i source old new one some is put word before =
-    ap words_of put ∙ map_push (λ (a : Answered). a.word) old one
+    ap words_of put ∙ map-append (λ (a : Answered). a.word) old (one ∷ [])
     ∙ ap (λ (ws : List ℕ). ws ++ one.word ∷ []) before ∙ ap (λ (w : ℕ). words_in (take i sources) ++ w ∷ []) word
-    ∙ sym (map_push (λ (s : SourceArgument). s.word) (take i sources) source) ∙ ap words_in (sym (taken sources i source some is))
+    ∙ sym (map-append (λ (s : SourceArgument). s.word) (take i sources) (source ∷ [])) ∙ ap words_in (sym (taken sources i source some is))
 
 -- the first of several answers
 modules_first : (answer : AnswerTree) (answers : List AnswerTree) → modules_in (answer ∷ answers) ≡ modules_in (answer ∷ []) ++ modules_in answers

@@ -1,9 +1,8 @@
 -- Files of a kind, argument by argument.
-use Rattle.std.proofs.Common.{◌≡◌, ◌∙◌, ℕ, suc, ◌+◌, ◌<◌, Bool, true, false, cond, List, [], ◌∷◌, ◌++◌, length, drop, get_or, length-append, append_assoc, add-one, drop-cons, count_by, filter, refl, ap, sym, arith}
+use Rattle.std.proofs.Common.{◌≡◌, ◌∙◌, ℕ, suc, ◌+◌, ◌<◌, Bool, true, false, cond, List, [], ◌∷◌, ◌++◌, length, drop, get_or, append_assoc, add-one, drop-cons, count_by, filter, refl, ap, sym, arith}
 use Rattle.std.proofs.lemmas.List.Sums.{length-filter}
 use Rattle.m51_module.specs.declared.source.SourceFile.{SourceFile}
-use Rattle.m51_jobs.specs.Endings.{is_source}
-use Rattle.m51_inputs.specs.Files.{files_that, sources_of, source_words}
+use Rattle.m51_inputs.specs.Files.{files_that}
 
 -- one more of both, or of none
 one_of_both : {A B : Type 0} (counts : Bool) (a : A) (b : B) (as' : List A) (bs : List B) → length as' ≡ length bs

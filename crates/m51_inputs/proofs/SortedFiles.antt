@@ -1,13 +1,13 @@
 -- Files by kind, one file after the other.
 use Rattle.std.proofs.Common.{◌≡◌, ◌∙◌, ℕ, suc, ◌+◌, ◌<◌, ◌≤◌, Bool, true, false, cond, List, [], ◌∷◌, ◌++◌, length, map, drop, get_or, Option, Some, None, refl, ap, sym, subst, append_assoc, append-nil, add-one, drop-cons, length-append, arith}
-use Rattle.std.proofs.lemmas.List.{drop_all, length-map}
+use Rattle.std.proofs.lemmas.List.{drop_all, length-map, map-append}
 use Rattle.m51_module.specs.declared.source.SourceFile.{SourceFile}
 use Rattle.m51_jobs.specs.declared.endings.Ending.{Ending}
 use Rattle.m51_jobs.specs.declared.endings.Ending.TheVariants as ending
 use Rattle.m51_jobs.specs.Endings.{ending_of, is_source, is_include, is_a_source, is_an_include}
 use Rattle.m51_inputs.specs.declared.sorting.Sorted.{Sorted}
 use Rattle.m51_inputs.specs.declared.sorting.SourceArgument.{SourceArgument}
-use Rattle.m51_inputs.specs.Files.{files_that, includes_of, source_words, sources_of}
+use Rattle.m51_inputs.specs.Files.{includes_of, source_words, sources_of}
 use Rattle.m51_inputs.specs.Sorting.{IsSorted, files_in, with_file, words_in}
 use Rattle.m51_inputs.proofs.FileLists.{file_kept, file_passed}
 
@@ -18,10 +18,6 @@ pub record IsSortedTo (index : ℕ) (names contents : List (List ℕ)) (sorted :
   pub words : words_in sorted.sources ++ source_words index (drop index names) ≡ source_words 0 names
   pub includes : sorted.includes ++ includes_of (drop index names) (drop index contents) ≡ includes_of names contents
   pub few : length sorted.includes ≤ index
-
-map_push : {A B : Type 0} (f : A → B) (xs : List A) (x : A) → map f (xs ++ x ∷ []) ≡ map f xs ++ f x ∷ []
-map_push f [] x = refl
-map_push f (y ∷ xs) x = ap (λ zs. f y ∷ zs) (map_push f xs x)
 
 cut : (names : List (List ℕ)) (i : ℕ) (name : List ℕ) → i < length names → name ≡ get_or names i name → drop i names ≡ name ∷ drop (i + 1) names
 cut names i name some at =
@@ -73,8 +69,8 @@ sorted_more names contents i name bytes (Some ending.Source) s some more at has 
     record {
       endings = subst (λ (o : Option Ending). (s.endings ++ o ∷ []) ++ map ending_of (drop (i + 1) names) ≡ map ending_of names) is (ending_more names i name s.endings some at h.endings);
       sources = file_kept is_source names contents i name bytes (files_in s.sources) (files_in (s.sources ++ source ∷ [])) (sources_of names contents) file some more at has counts refl
-          (map_push (λ (source : SourceArgument). source.file) s.sources source) h.sources;
-      words = ap (λ (ws : List ℕ). ws ++ source_words (i + 1) (drop (i + 1) names)) (map_push (λ (source : SourceArgument). source.word) s.sources source)
+          (map-append (λ (source : SourceArgument). source.file) s.sources (source ∷ [])) h.sources;
+      words = ap (λ (ws : List ℕ). ws ++ source_words (i + 1) (drop (i + 1) names)) (map-append (λ (source : SourceArgument). source.word) s.sources (source ∷ []))
           ∙ word_more names i name (words_in s.sources) true some at counts h.words;
       includes = file_passed is_include names contents i name s.includes (includes_of names contents) some more at (ap is_an_include is) h.includes;
       few = omega (arith, h.few);

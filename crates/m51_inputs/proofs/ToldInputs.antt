@@ -3,7 +3,6 @@ use Rattle.std.proofs.Common.{◌≡◌, ◌∙◌, ℕ, List, map, Option, Resu
 use Rattle.m51_asm.specs.Answer.{AnswerTree}
 use Rattle.m51_cells.specs.Outcome.{and_then, Gives, ◌>>=◌}
 use Rattle.m51_control.specs.declared.control.Control.{Control}
-use Rattle.m51_module.specs.declared.parts.ModuleParts.{ModuleParts}
 use Rattle.m51_module.specs.declared.source.SourceFile.{SourceFile}
 use Rattle.m51_script.specs.declared.script.Script.{Script}
 use Rattle.m51_jobs.specs.declared.endings.Ending.{Ending}
@@ -14,7 +13,7 @@ use Rattle.m51_inputs.specs.declared.inputs.Inputs.{Inputs}
 use Rattle.m51_inputs.specs.declared.sorting.Sorted.{Sorted}
 use Rattle.m51_inputs.specs.declared.sources.Answered.{Answered}
 use Rattle.m51_inputs.specs.Answered.{answers_of, words_of}
-use Rattle.m51_inputs.specs.Files.{includes_of, source_words, sources_of}
+use Rattle.m51_inputs.specs.Files.{source_words, sources_of}
 use Rattle.m51_inputs.specs.Inputs.{Answers, InputsTree, IsTold, controls_in, inputs_of, inputs_tree, refusal_of, script_in}
 use Rattle.m51_inputs.specs.Objects.{Linked, linked_from}
 use Rattle.m51_inputs.specs.Sorting.{IsSorted, files_in, words_in}

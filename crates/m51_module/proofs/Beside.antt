@@ -1,5 +1,6 @@
 -- The names of publics without those of one module.
 use Rattle.std.proofs.Common.{◌≡◌, inl, inr, ℕ, zero, suc, ◌+◌, ◌<◌, ◌≤◌, Bool, true, false, cond, not, ◌&&◌, ◌||◌, List, [], ◌∷◌, ◌++◌, length, take, get_or, Option, Some, None, refl, sym, ap, subst, ◌∙◌, arith}
+use Rattle.std.proofs.Math.Bool.{or_assoc, or_comm, or-false}
 use Rattle.std.specs.Prelude.{option_map, remove, slice_set}
 use Rattle.std.specs.List.{Any, list_any}
 use Rattle.std.specs.Str.{bytes_eq}
@@ -79,33 +80,19 @@ pub names_back : (modules others : List ModuleParts) (m : ModuleParts) (names : 
 names_back modules others m None each are = tt
 names_back modules others m (Some names) each are = record {
   each = λ name.
-      are.each name ∙ list_any-append (has_public name) others (m ∷ []) ∙ ap (λ b. defines others name || b) (last (has_public name m)) ∙ sym (each name);
+      are.each name ∙ list_any-append (has_public name) others (m ∷ []) ∙ ap (λ b. defines others name || b) (or-false (has_public name m)) ∙ sym (each name);
 }
-  where
-    last : (a : Bool) → (a || false) ≡ a
-    last true = refl
-    last false = refl
 
 -- a test over a list without one item, and with another in its place
-moved : (a b c : Bool) → (a || (b || c)) ≡ ((a || b) || c)
-moved true b c = refl
-moved false b c = refl
-
-swapped : (a b : Bool) → (a || b) ≡ (b || a)
-swapped true true = refl
-swapped true false = refl
-swapped false true = refl
-swapped false false = refl
-
 pub any_removed : {X : Type 0} (p : X → Bool) (xs : List X) (i : ℕ) (x : X) → i < length xs → x ≡ get_or xs i x → list_any p xs ≡ (list_any p (remove xs i) || p x)
 any_removed p [] i x below is = absurd (omega (arith, below))
-any_removed p (y ∷ ys) zero x below is = swapped (p y) (list_any p ys) ∙ ap (λ z. list_any p ys || p z) (sym is)
-any_removed p (y ∷ ys) (suc i) x below is = ap (λ b. p y || b) (any_removed p ys i x (omega (arith, below)) is) ∙ moved (p y) (list_any p (remove ys i)) (p x)
+any_removed p (y ∷ ys) zero x below is = or_comm (p y) (list_any p ys) ∙ ap (λ z. list_any p ys || p z) (sym is)
+any_removed p (y ∷ ys) (suc i) x below is = ap (λ b. p y || b) (any_removed p ys i x (omega (arith, below)) is) ∙ sym (or_assoc (p y) (list_any p (remove ys i)) (p x))
 
 pub any_set : {X : Type 0} (p : X → Bool) (xs : List X) (i : ℕ) (x : X) → i < length xs → list_any p (slice_set xs i x) ≡ (list_any p (remove xs i) || p x)
 any_set p [] i x below = absurd (omega (arith, below))
-any_set p (y ∷ ys) zero x below = swapped (p x) (list_any p ys)
-any_set p (y ∷ ys) (suc i) x below = ap (λ b. p y || b) (any_set p ys i x (omega (arith, below))) ∙ moved (p y) (list_any p (remove ys i)) (p x)
+any_set p (y ∷ ys) zero x below = or_comm (p x) (list_any p ys)
+any_set p (y ∷ ys) (suc i) x below = ap (λ b. p y || b) (any_set p ys i x (omega (arith, below))) ∙ sym (or_assoc (p y) (list_any p (remove ys i)) (p x))
 
 -- two modules that share no public
 no_both : (m n : ModuleParts) (name : List ℕ) → ShareNoPublic m n → has_public name m ≡ true → has_public name n ≡ true → ⊥

@@ -5,6 +5,7 @@ use Rattle.std.specs.List.{Contains}
 use Rattle.std.proofs.lemmas.Bool.{cases_lt}
 use Rattle.std.proofs.lemmas.List.{get_or-replicate, get_or-set_same, get_or-set_other, length-replicate, length-set}
 use Rattle.std.proofs.lemmas.List.Elements.{Contains-push, Contains-push_cases, Contains-append_left}
+use Rattle.std.proofs.lemmas.Option.{same_Some}
 use Rattle.m51_cells.specs.declared.kind.Kind.TheVariants.{Code}
 use Rattle.m51_cells.specs.declared.cell.Space.TheVariants.{Code as CodeSpace}
 use Rattle.m51_cells.specs.Extent.{Covers, extent, extent_of}
@@ -178,7 +179,7 @@ units_more l unit p old new sound h is code entered = record {
   some = λ address v inside e. elim (lies p.base p.size address) as (λ _. (v < unit + 1) × IsUnitAt l address v) [
     | IsBefore low ↦ before address v (h.some address v inside (sym (entered.before address low) ∙ e))
     | IsAfter high ↦ before address v (h.some address v inside (sym (entered.after address high) ∙ e))
-    | IsWithin from below ↦ at_unit address v (some_is (sym (entered.within address from below) ∙ e)) (covers l address unit p is code from below)
+    | IsWithin from below ↦ at_unit address v (same_Some unit v (sym (entered.within address from below) ∙ e)) (covers l address unit p is code from below)
   ];
   only = λ address v inside below at. elim (below_or_last v unit below) as (λ _. slice_index_or new address None ≡ Some v) [
     | inl less ↦ elim (lies p.base p.size address) as (λ _. slice_index_or new address None ≡ Some v) [
@@ -194,6 +195,3 @@ units_more l unit p old new sound h is code entered = record {
 
   at_unit : (address v : ℕ) → unit ≡ v → IsUnitAt l address unit → (v < unit + 1) × IsUnitAt l address v
   at_unit address v e at = (omega (arith, e), subst (IsUnitAt l address) e at)
-
-  some_is : {v w : ℕ} → Some v ≡ Some w → v ≡ w
-  some_is e = cc e

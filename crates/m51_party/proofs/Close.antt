@@ -3,6 +3,7 @@ use Rattle.std.proofs.Common.{◌≡◌, ℕ, zero, suc, ◌+◌, ◌-◌, ◌�
 use Rattle.std.specs.Prelude.{◌&&◌, flat_map, option_to_list, is_none, nat_lt, if◌then◌else◌}
 use Rattle.std.proofs.lemmas.Bool.{ltb-false, ltb-true}
 use Rattle.std.proofs.lemmas.Grind.{flat_map-append}
+use Rattle.std.proofs.lemmas.Option.{none-some, same_Some}
 use Rattle.m51_cells.specs.declared.event.Entry.{Entry}
 use Rattle.m51_cells.specs.declared.event.Event.{Event}
 use Rattle.m51_module.specs.declared.parts.LayoutParts.{LayoutParts}
@@ -81,18 +82,12 @@ pub record IsStarting (n cycle : ℕ) (s : Seat) : Type 0 where
 
 starting_by : (b : Bool) (o : Option Event) (now cycle : ℕ) → (if b && is_none o then Some now else None) ≡ Some cycle
     → (b ≡ true) × (o ≡ None) × (now ≡ cycle)
-starting_by b (Some event) now cycle h = absurd (none_some cycle (sym (and_none b now) ∙ h))
+starting_by b (Some event) now cycle h = absurd (none-some cycle (sym (and_none b now) ∙ h))
   where
-    none_some : (cycle : ℕ) → None ≡ Some cycle → ⊥
-    none_some cycle h = cc h
-
     and_none : (b : Bool) (now : ℕ) → (if b && false then Some now else None) ≡ None
     and_none true now = refl
     and_none false now = refl
-starting_by true None now cycle h = (refl, refl, some_number now cycle h)
-  where
-    some_number : (a b : ℕ) → Some a ≡ Some b → a ≡ b
-    some_number a b e = cc e
+starting_by true None now cycle h = (refl, refl, same_Some now cycle h)
 starting_by false None now cycle h = absurd (cc h)
 
 pub starting : (n cycle : ℕ) (s : Seat) → start_of n s ≡ Some cycle → IsStarting n cycle s

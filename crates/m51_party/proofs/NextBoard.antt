@@ -2,6 +2,7 @@
 use Rattle.std.proofs.Common.{◌≡◌, ℕ, zero, suc, ◌+◌, ◌≤◌, Bool, true, false, List, [], ◌∷◌, Option, Some, None, refl, sym, subst, arith}
 use Rattle.std.specs.Prelude.{nat_lt, if◌then◌else◌}
 use Rattle.std.proofs.lemmas.Bool.{ltb-true, ltb-false}
+use Rattle.std.proofs.lemmas.Option.{same_Some}
 use Rattle.m51_party.specs.declared.choosing.NextStep.{NextStep}
 use Rattle.m51_party.specs.declared.seat.Seat.{Seat}
 use Rattle.m51_party.specs.Seats.{next_from, sooner, start_of}
@@ -44,10 +45,7 @@ module _ (n : ℕ) where
 
   first_starts : (least : ℕ) (o : Option ℕ) → o ≡ Some least → StartsFrom least o
   first_starts least None e = absurd (cc e)
-  first_starts least (Some cycle) e = omega (arith, some_same cycle least e)
-    where
-      some_same : (a b : ℕ) → Some a ≡ Some b → a ≡ b
-      some_same a b e = cc e
+  first_starts least (Some cycle) e = omega (arith, same_Some cycle least e)
 
   pub next_all : (index cycle : ℕ) (ss : List Seat) → IsNextAt index cycle ss → AllStartFrom cycle ss
   next_all index cycle [] h = absurd h

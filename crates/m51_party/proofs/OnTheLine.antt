@@ -2,6 +2,7 @@
 use Rattle.std.proofs.Common.{◌≡◌, ℕ, zero, suc, ◌+◌, ◌≤◌, ◌<◌, Bool, true, false, List, [], ◌∷◌, ◌++◌, length, Option, Some, None, refl, sym, ap, subst, ◌∙◌, arith, length-append, zero-add}
 use Rattle.std.specs.Prelude.{◌==◌, flat_map, option_to_list, slice_get, slice_index_or, slice_set, if◌then◌else◌}
 use Rattle.std.proofs.lemmas.Bool.{eq-eqb, ne_eqb}
+use Rattle.std.proofs.lemmas.Option.{none-some, same_Some}
 use Rattle.m51_timers_uart.specs.declared.receiving.Frame.{Frame}
 use Rattle.m51_sim.specs.declared.cycles.Timed.{Timed}
 use Rattle.m51_sim.specs.Cycles.{AreFew, frames_in}
@@ -135,12 +136,6 @@ all_over at n family (r ∷ rs) [] few h c = absurd h
 all_over at n family (r ∷ rs) (s ∷ ss) few h c =
     (over_rest n few (frames_for at family) r s h.0 (over n s c.0), all_over (suc at) n family rs ss few h.1 c.1)
 
-pub some_seat : (a b : Seat) → Some a ≡ Some b → a ≡ b
-some_seat a b e = cc e
-
-none_seat : (b : Seat) → None ≡ Some b → ⊥
-none_seat b e = cc e
-
 -- one board of them, and the others with another state of it
 pub record HasBoard (at n : ℕ) (family rs : Family) (index number : ℕ) (ss : List Seat) (s : Seat) : Type 0 where
   pub record_is : Record Separate
@@ -150,12 +145,12 @@ pub record HasBoard (at n : ℕ) (family rs : Family) (index number : ℕ) (ss :
 
 pub board_at : (at n : ℕ) (family rs : Family) (index number : ℕ) (ss : List Seat) (s : Seat) → number ≡ at + index → slice_get ss index ≡ Some s
     → AllUnderWay at n family rs ss → HasBoard at n family rs index number ss s
-board_at at n family [] index number [] s is e h = absurd (none_seat s e)
+board_at at n family [] index number [] s is e h = absurd (none-some s e)
 board_at at n family [] index number (x ∷ xs) s is e h = absurd h
 board_at at n family (r ∷ rs) index number [] s is e h = absurd h
 board_at at n family (r ∷ rs) zero number (x ∷ xs) s is e h =
     let here : at ≡ number = omega (arith, is) in
-    let same : x ≡ s = some_seat x s e in
+    let same : x ≡ s = same_Some x s e in
     record {
       record_is = r;
       way = subst (λ (k : ℕ). IsUnderWay (frames_for k family) n r s) here (subst (IsUnderWay (frames_for at family) n r) same h.0);
@@ -192,7 +187,7 @@ next_least n least (suc index) cycle (s ∷ ss) h e = next_least n least index c
 
 pub next_starts : (n index cycle : ℕ) (ss : List Seat) (s : Seat) → IsNextAt n index cycle ss → slice_get ss index ≡ Some s → start_of n s ≡ Some cycle
 next_starts n index cycle [] s e f = absurd e
-next_starts n zero cycle (x ∷ xs) s e f = subst (λ (s : Seat). start_of n s ≡ Some cycle) (some_seat x s f) e.0
+next_starts n zero cycle (x ∷ xs) s e f = subst (λ (s : Seat). start_of n s ≡ Some cycle) (same_Some x s f) e.0
 next_starts n (suc index) cycle (x ∷ xs) s e f = next_starts n index cycle xs s e.1 f
 
 -- the first of the steps of the next board is taken off
@@ -205,7 +200,7 @@ takes at n index number cycle family rs [] old new step few is e found h first f
 takes at n index number cycle family [] (x ∷ xs) old new step few is e found h first from = absurd h
 takes at n zero number cycle family (r ∷ rs) (x ∷ xs) old new step few is e found h first from =
     let here : number ≡ at = omega (arith, is) in
-    let same : old ≡ x = sym (some_seat x old found) in
+    let same : old ≡ x = sym (same_Some x old found) in
     let moved = subst (λ (s : Seat). rest_of n (frames_for at family) s ≡ step ∷ rest_of n (frames_for at family) new) same
     (subst (λ (k : ℕ). rest_of n (frames_for k family) old ≡ step ∷ rest_of n (frames_for k family) new) here first) in
     (moved, refl, subst (λ (k : ℕ). StepsFrom cycle (rest_of n (frames_for k family) new)) here from, all_late (suc at) n cycle family rs xs few h.1 e.1)
@@ -219,10 +214,10 @@ takes at n (suc index) number cycle family (r ∷ rs) (x ∷ xs) old new step fe
 pub takes_none : (at n index number : ℕ) (family : Family) (ss : List Seat) (old new : Seat) → number ≡ at + index → slice_get ss index ≡ Some old
     → rest_of n (frames_for number family) old ≡ rest_of n (frames_for number family) new
     → rests_from at n family ss ≡ rests_from at n family (slice_set ss index new)
-takes_none at n index number family [] old new is found same = absurd (none_seat old found)
+takes_none at n index number family [] old new is found same = absurd (none-some old found)
 takes_none at n zero number family (x ∷ xs) old new is found same =
     let here : number ≡ at = omega (arith, is) in
-    ap (λ (s : Seat). rest_of n (frames_for at family) s ∷ rests_from (suc at) n family xs) (some_seat x old found)
+    ap (λ (s : Seat). rest_of n (frames_for at family) s ∷ rests_from (suc at) n family xs) (same_Some x old found)
     ∙ ap (λ (steps : List StepTold). steps ∷ rests_from (suc at) n family xs)
     (subst (λ (k : ℕ). rest_of n (frames_for k family) old ≡ rest_of n (frames_for k family) new) here same)
 takes_none at n (suc index) number family (x ∷ xs) old new is found same =

@@ -5,6 +5,7 @@ use Rattle.std.specs.Io.KnownBytes.{Appends}
 use Rattle.std.proofs.KnownBytes.{Appends-nil, Appends-trans}
 use Rattle.std.proofs.lemmas.Bool.{lt-ltb}
 use Rattle.std.proofs.lemmas.List.{length-map}
+use Rattle.std.proofs.lemmas.Option.{none-some, same_Some}
 use Rattle.m51_cells.specs.Outside.{AppendsFront}
 use Rattle.m51_cells.specs.declared.event.Event.{Event}
 use Rattle.m51_sim.specs.declared.runs.Step.{Step}
@@ -22,7 +23,7 @@ use Rattle.m51_party.specs.Text.{party_text}
 use Rattle.m51_party.proofs.One.{exactly_one}
 use Rattle.m51_party.proofs.NextBoard.{IsNextAt, next_found, none_found}
 use Rattle.m51_party.proofs.Close.{starting}
-use Rattle.m51_party.proofs.OnTheLine.{next_starts, some_seat}
+use Rattle.m51_party.proofs.OnTheLine.{next_starts}
 use Rattle.m51_party.proofs.Runs.{AreGoing, advances, text_to_come}
 use Rattle.m51_party.proofs.Ends.{events_end, going_start, text_end, text_start, texts_end}
 use Rattle.m51_cells.proofs.Fronts.{front_at_end, front_more}
@@ -139,12 +140,9 @@ left_falls n old new (Stopped e) below was steps event =
     omega (arith, below, was, left_stopped (nat_lt new.steps n) (n - new.steps) new.event e event)
 
 set_falls : (n index : ℕ) (ss : List Seat) (old new : Seat) → slice_get ss index ≡ Some old → left_of n new < left_of n old → steps_left n (slice_set ss index new) < steps_left n ss
-set_falls n index [] old new found less = absurd (none_is old found)
-  where
-    none_is : (s : Seat) → None ≡ Some s → ⊥
-    none_is s e = cc e
+set_falls n index [] old new found less = absurd (none-some old found)
 set_falls n zero (s ∷ ss) old new found less =
-    let same : left_of n s ≡ left_of n old = ap (left_of n) (some_seat s old found) in
+    let same : left_of n s ≡ left_of n old = ap (left_of n) (same_Some s old found) in
     omega (arith, same, less)
 set_falls n (suc index) (s ∷ ss) old new found less = omega (arith, set_falls n index ss old new found less)
 

@@ -1,6 +1,7 @@
 -- A run of the boards on a line: what is written, and what is still to be written.
 use Rattle.std.proofs.Common.{◌≡◌, ℕ, zero, suc, ◌+◌, ◌≤◌, ◌<◌, ◌⊎◌, inl, inr, Bool, true, false, List, [], ◌∷◌, ◌++◌, Some, None, Result, Ok, Err, refl, sym, ap, subst, ◌∙◌, arith, append_assoc, zero-add}
 use Rattle.std.specs.Prelude.{min, slice_get, slice_set, if◌then◌else◌}
+use Rattle.std.proofs.lemmas.Option.{same_Some}
 use Rattle.m51_cells.specs.declared.event.Event.{Event}
 use Rattle.m51_module.specs.declared.parts.LayoutParts.{LayoutParts}
 use Rattle.m51_print.specs.Lines.{last_line, titles_of}
@@ -25,7 +26,7 @@ use Rattle.m51_party.proofs.NextBoard.{StartsFrom, IsNextAt, next_all, next_foun
 use Rattle.m51_party.proofs.Within.{TakesFew, step_within, ticks_count}
 use Rattle.m51_party.proofs.UnderWay.{IsStepped, TakesFirst, TakesNone, rest_of, step_text, stepped}
 use Rattle.m51_party.proofs.Close.{IsStarting, cycle_few, last_later, rest_late, start_in, starting}
-use Rattle.m51_party.proofs.OnTheLine.{AllClose, AllUnderWay, HasBoard, board_at, close_next, close_set, handed_on, next_least, next_starts, rests_from, some_seat, takes, takes_none}
+use Rattle.m51_party.proofs.OnTheLine.{AllClose, AllUnderWay, HasBoard, board_at, close_next, close_set, handed_on, next_least, next_starts, rests_from, takes, takes_none}
 
 -- the boards, without what is kept of them
 abbrev pub boards_of : List Seat → List BoardState
@@ -52,7 +53,7 @@ last_stay at index [] old new rs found same = refl
 last_stay at zero (x ∷ xs) old new [] found same = refl
 last_stay at (suc index) (x ∷ xs) old new [] found same = refl
 last_stay at zero (x ∷ xs) old new (r ∷ rs) found same =
-    let layout : x.board.monitor.layout ≡ new.board.monitor.layout = ap (λ (s : Seat). s.board.monitor.layout) (some_seat x old found) ∙ sym same in
+    let layout : x.board.monitor.layout ≡ new.board.monitor.layout = ap (λ (s : Seat). s.board.monitor.layout) (same_Some x old found) ∙ sym same in
     ap (λ (l : LayoutParts). front_of at ++ last_line (titles_of l.placed) r.event r.steps r.last.cycle ++ last_lines (suc at) (boards_of xs) rs) layout
 last_stay at (suc index) (x ∷ xs) old new (r ∷ rs) found same =
     ap (λ (text : List ℕ). front_of at ++ last_line (titles_of x.board.monitor.layout.placed) r.event r.steps r.last.cycle ++ text) (last_stay (suc at) index xs old new rs found same)

@@ -3,6 +3,7 @@ use Rattle.std.proofs.Common.{◌≡◌, ℕ, suc, ◌+◌, ◌-◌, ◌*◌, �
 use Rattle.std.specs.Prelude.{flat_map, option_to_list, min}
 use Rattle.std.specs.Option.{ForSome, option_map}
 use Rattle.std.proofs.lemmas.Grind.{flat_map-append}
+use Rattle.std.proofs.lemmas.Option.{same_Some}
 use Rattle.m51_cells.specs.declared.event.Entry.{Entry}
 use Rattle.m51_cells.specs.declared.event.Entry.TheVariants.{Port}
 use Rattle.m51_cells.specs.declared.event.Event.{Event}
@@ -158,9 +159,6 @@ told_lines index told t e =
 pub nothing_added : (n : ℕ) → n + 0 ≡ n
 nothing_added n = omega arith
 
-some_event : (a b : Event) → Some a ≡ Some b → a ≡ b
-some_event a b e = cc e
-
 module _ (index n : ℕ) (extra given : List Timed) (r : Record Separate) (told : Told) (old new : Seat) (way : IsUnderWay extra n r old) (few : n ≤ 10000000) (h : IsSeatStep given told old new) where
   abbrev st : State Separate
   st = separate_of old.board
@@ -228,7 +226,7 @@ module _ (index n : ℕ) (extra given : List Timed) (r : Record Separate) (told 
               ∙ ap (λ (k : ℕ). continued way.told k (rest_record n extra new)) (sym steps);
           keeps = keeps_so _ _ _ _ _ _ _ _ cycle (ap (λ (s : State Separate). s.periph) e) refl sent way.keeps;
           unfinished = λ x i. omega (arith, steps, below);
-          stopped = λ x i. machine_at _ _ _ _ same e ∙ is ∙ ap (λ (v : Event). Err v) (some_event event x (sym stopped ∙ i));
+          stopped = λ x i. machine_at _ _ _ _ same e ∙ is ∙ ap (λ (v : Event). Err v) (same_Some event x (sym stopped ∙ i));
           cycle = omega (arith, cycle, steps, way.cycle);
           text = text_stays given told old new h;
         };

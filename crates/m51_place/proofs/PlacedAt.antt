@@ -2,6 +2,7 @@
 use Rattle.std.proofs.Common.{◌≡◌, ℕ, ◌<◌, List, length, map, get_or, Some, sym, ap, subst, ◌∙◌, arith}
 use Rattle.std.specs.Prelude.{slice_get, option_map}
 use Rattle.std.specs.List.{range_with_len}
+use Rattle.std.proofs.lemmas.List.{length-map}
 use Rattle.std.proofs.lemmas.List.Elements.{All-get_or}
 use Rattle.std.proofs.lemmas.List.FromFn.{get_or-map-range_with_len, length-map-range_with_len}
 use Rattle.std.proofs.lemmas.Option.{get_or_from_slice_get, same_Some, slice_get-map, slice_get_within}
@@ -10,7 +11,6 @@ use Rattle.m51_graph.specs.declared.parts.GraphParts.{GraphParts}
 use Rattle.m51_place.specs.declared.numbered.Numbered.{Numbered}
 use Rattle.m51_place.specs.Placement.{parts_of, place_of, placing_with}
 use Rattle.m51_place.specs.Places.{ArePlaces, IsPlacedAs, IsSegmentAt}
-use Rattle.m51_place.proofs.Ranks.{length-map_all}
 use Rattle.m51_place.proofs.Spots.{IsSegmentOf, IsSpot}
 use Rattle.m51_place.proofs.Whole.{found, IsWhole}
 
@@ -50,7 +50,7 @@ module _ (g : GraphParts) (segments : List JoinedSegment) (located : List Number
     below = λ k less.
         let inside : k < length segments = omega (arith, less, length-map-range_with_len (place_of located) 0 (length segments)) in
         let place = found g segments located whole k inside in
-        omega (arith, index_is k inside, slice_get_within located (place_of located k) place.e place.at, length-map_all (λ (x : Numbered). x.placed) located);
+        omega (arith, index_is k inside, slice_get_within located (place_of located k) place.e place.at, length-map located (λ (x : Numbered). x.placed));
     each = λ number j at.
         subst (λ (n : ℕ). IsPlacedAs (parts_of g located) n j) (sym (index_is number (slice_get_within segments number j at))) (segment_at number j at);
   }

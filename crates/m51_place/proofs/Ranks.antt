@@ -1,11 +1,11 @@
 -- The relocatable segments in their order: each once.
-use Rattle.std.proofs.Common.{◌≡◌, ◌≢◌, inl, inr, ℕ, suc, ◌+◌, ◌<◌, ◌≤◌, false, Bool, cond, nat_eq, List, [], ◌∷◌, ◌++◌, length, map, Option, Some, refl, sym, ap, subst, ◌∙◌, arith}
+use Rattle.std.proofs.Common.{◌≡◌, ◌≢◌, inl, inr, ℕ, suc, ◌+◌, ◌<◌, ◌≤◌, false, Bool, cond, nat_eq, List, [], ◌∷◌, ◌++◌, length, Option, Some, refl, sym, ap, subst, ◌∙◌, arith}
 use Rattle.std.specs.Prelude.{slice_get}
 use Rattle.std.specs.List.{All, sum_by}
 use Rattle.std.specs.List.Sorted.{IsPermutation}
 use Rattle.std.proofs.lemmas.Bool.{false≢true}
 use Rattle.std.proofs.lemmas.Bool.Decides.{Decides-eqb}
-use Rattle.std.proofs.lemmas.List.{append-nil}
+use Rattle.std.proofs.lemmas.List.{append-nil, length-map}
 use Rattle.std.proofs.lemmas.List.Elements.{All-nil, All-cons, All-get_or}
 use Rattle.std.proofs.lemmas.List.Sorted.{All-permutation, IsPermutation-append_right, IsPermutation-insert, IsPermutation-middle, IsPermutation-refl, IsPermutation-sym, IsPermutation-trans, sum_by-IsPermutation}
 use Rattle.std.proofs.lemmas.List.Sums.{sum_by-cons}
@@ -82,12 +82,8 @@ order_ranked g controls segments =
     (ranked_are g controls segments 0 segments (from_start segments))
 
 -- a graph has an owner, or none, for each joined segment
-pub length-map_all : {A B : Type 0} (f : A → B) (xs : List A) → length (map f xs) ≡ length xs
-length-map_all f [] = refl
-length-map_all f (x ∷ xs) = omega (arith, length-map_all f xs)
-
 pub as_many_own : (segments : List JoinedSegment) (controls : List (ℕ × Control)) (g : GraphParts) → IsOf segments controls g → length g.own ≡ length segments
-as_many_own segments controls g is = ap (λ (os : List (Option ℕ)). length os) is.own ∙ length-map_all _ segments
+as_many_own segments controls g is = ap (λ (os : List (Option ℕ)). length os) is.own ∙ length-map segments _
 
 pub joined_at : (P : JoinedSegment → Type 0) (segments : List JoinedSegment) (number : ℕ) (j : JoinedSegment) → All P segments → slice_get segments number ≡ Some j → P j
 joined_at P segments number j all is =

@@ -4,11 +4,11 @@ use Rattle.std.specs.Prelude.{slice_get, option_map}
 use Rattle.std.specs.Option.{option_map_or}
 use Rattle.std.specs.List.{Contains, range_with_len}
 use Rattle.std.proofs.lemmas.Bool.Decides.{Decides-eqb}
-use Rattle.std.proofs.lemmas.List.{append-nil}
+use Rattle.std.proofs.lemmas.List.{append-nil, length-map}
 use Rattle.std.proofs.lemmas.List.Elements.{All-get_or, Contains-append_cases}
 use Rattle.std.proofs.lemmas.List.FromFn.{get_or-range_with_len, length-range_with_len}
 use Rattle.std.proofs.lemmas.List.Kept.{AllPairs-filter}
-use Rattle.std.proofs.lemmas.Option.{get_or_from_slice_get, same_Some, slice_get-get_or, slice_get-map, slice_get_within}
+use Rattle.std.proofs.lemmas.Option.{get_or_from_slice_get, none-some, same_Some, slice_get-get_or, slice_get-map, slice_get_within}
 use Rattle.m51_cells.proofs.KindLaws.{code_is}
 use Rattle.m51_cells.specs.declared.kind.Kind.TheVariants.{Code}
 use Rattle.m51_cells.specs.Extent.{Meet}
@@ -40,21 +40,18 @@ use Rattle.m51_place.proofs.After.{conflicts, KeepApart}
 use Rattle.m51_place.proofs.Conflicting.{caller_edge, conflict_tells, own_read, owner_owns}
 use Rattle.m51_place.proofs.Segments.{IsOf}
 use Rattle.m51_place.proofs.Spots.{IsSegmentOf, IsSpot}
-use Rattle.m51_place.proofs.Ranks.{from_start, length-map_all, other_number}
+use Rattle.m51_place.proofs.Ranks.{from_start, other_number}
 use Rattle.m51_place.proofs.UnitPlaces.{code_of_unit, is_root_at, root_absolute, root_found, root_there, unit_of_code, unit_there, units_rise, UnitAt}
 use Rattle.m51_place.proofs.Whole.{found, IsWhole, only, order_of_two}
 
 -- a list and its images
-no_image : {A B : Type 0} (f : A → B) (y : B) → None ≡ Some y → ⊥
-no_image f y h = cc h
-
 image_in : {A B : Type 0} (f : A → B) (xs : List A) (k : ℕ) (x : A) → slice_get xs k ≡ Some x → Contains (map f xs) (f x)
 image_in f xs k x h =
     let at : slice_get (map f xs) k ≡ Some (f x) = slice_get-map f xs k ∙ ap (option_map f) h in
     (k, slice_get_within (map f xs) k (f x) at, get_or_from_slice_get (map f xs) k (f x) (f x) at)
 
 pub map_at : {A B : Type 0} (f : A → B) (xs : List A) (k : ℕ) (y : B) (read : Option A) → slice_get xs k ≡ read → slice_get (map f xs) k ≡ Some y → (x : A) × (slice_get xs k ≡ Some x) × (f x ≡ y)
-map_at f xs k y None is h = absurd (no_image f y (sym (slice_get-map f xs k ∙ ap (option_map f) is) ∙ h))
+map_at f xs k y None is h = absurd (none-some y (sym (slice_get-map f xs k ∙ ap (option_map f) is) ∙ h))
 map_at f xs k y (Some x) is h = (x, is, same_Some (f x) y (sym (slice_get-map f xs k ∙ ap (option_map f) is) ∙ h))
 
 contains_image : {A B : Type 0} (f : A → B) (xs : List A) (x : A) → Contains xs x → Contains (map f xs) (f x)
@@ -348,7 +345,7 @@ module _ (segments : List JoinedSegment) (controls : List (ℕ × Control)) (g :
       ]
 
   units_length : length l.units ≡ length g.units
-  units_length = length-map_all (place_of located) g.units
+  units_length = length-map g.units (place_of located)
 
   unit_once : (u v s : ℕ) → slice_get l.units u ≡ Some s → slice_get l.units v ≡ Some s → u ≡ v
   unit_once u v s h k =
@@ -391,7 +388,7 @@ module _ (segments : List JoinedSegment) (controls : List (ℕ × Control)) (g :
     is_unit = is_a_unit;
     once = unit_once;
     few_units = let few : length g.units ≤ 1000 = kept.units.few_units in omega (arith, units_length, few);
-    few_placed = omega (arith, length-map_all (λ (e : Numbered). e.placed) located, whole.few);
+    few_placed = omega (arith, length-map located (λ (e : Numbered). e.placed), whole.few);
     edges = λ u v h. let both = kept.units.edges.within u v h in (omega (arith, both.0, units_length), omega (arith, both.1, units_length));
     no_cycle = kept.no_cycle;
     owned = λ u s h. let o = owned s u h in (omega (arith, owner_below g kept o.n u o.owns, units_length), (o.e.placed, placed_at s o.e o.place, o.mark));

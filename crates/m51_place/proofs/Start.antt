@@ -8,8 +8,7 @@ use Rattle.std.proofs.lemmas.List.{append-nil}
 use Rattle.std.proofs.lemmas.List.Elements.{All-nil, All-cons, All-append, All-head, All-tail, All-weaker}
 use Rattle.std.proofs.lemmas.List.Quantifiers.{all_pairs_push, position-Some}
 use Rattle.std.proofs.lemmas.List.Sums.{fails_before_first, sum_by-append, sum_by-cons}
-use Rattle.std.proofs.lemmas.Option.{slice_get-get_or}
-use Rattle.std.proofs.lemmas.Option.{none-some}
+use Rattle.std.proofs.lemmas.Option.{none-some, same_Some, slice_get-get_or}
 use Rattle.m51_graph.proofs.Judged.{none_of_both}
 use Rattle.m51_cells.specs.declared.cell.Space.TheVariants.{Ram, Xram, Code as CodeSpace}
 use Rattle.m51_control.specs.declared.control.Control.{Control}
@@ -68,9 +67,6 @@ banks_free modules =
     (bank_if_free (uses modules 4) (codes "BANK2") 16 (omega arith)))
     (bank_if_free (uses modules 8) (codes "BANK3") 24 (omega arith))
 
-same_extent : (d e : Numbered) → Some d ≡ Some e → d ≡ e
-same_extent d e h = cc h
-
 next_free : (found : Option Numbered) (rest : List Numbered) → ((e : Numbered) → found ≡ Some e → IsFree e) → All IsFree rest → All IsFree (cons_option found rest)
 next_free None rest free h = h
 next_free (Some e) rest free h = All-cons IsFree e rest (free e refl) h
@@ -91,7 +87,7 @@ not_refused : (q e : Numbered) → ◌≡◌ {A = Option Refusal} (Some (L9 q.pl
 not_refused q e h = cc h
 
 reserve_free : (control : Control) (e : Numbered) → IsAllowed control → reserve_of control ≡ Some e → IsFree e
-reserve_free (Reserve Ram low high) e allowed is = subst (λ x. IsFree x) (same_extent _ e is) (record {
+reserve_free (Reserve Ram low high) e allowed is = subst (λ x. IsFree x) (same_Some _ e is) (record {
   number = refl;
   fit = record {
     kind = λ e. cc e;
@@ -101,7 +97,7 @@ reserve_free (Reserve Ram low high) e allowed is = subst (λ x. IsFree x) (same_
   };
   free = λ h. h;
 })
-reserve_free (Reserve Xram low high) e allowed is = subst (λ x. IsFree x) (same_extent _ e is) (record {
+reserve_free (Reserve Xram low high) e allowed is = subst (λ x. IsFree x) (same_Some _ e is) (record {
   number = refl;
   fit = record {
     kind = λ e. cc e;

@@ -1,5 +1,6 @@
 -- The members that are left are all members but those that the chosen modules leave nothing to define.
 use Rattle.std.proofs.Common.{◌≡◌, ℕ, zero, suc, ◌<◌, ◌||◌, Bool, true, false, List, [], ◌∷◌, ◌++◌, length, get_or, refl, sym, ap, ◌∙◌, arith, Some, None}
+use Rattle.std.proofs.Math.Bool.{or-true}
 use Rattle.std.specs.Prelude.{option_map}
 use Rattle.std.specs.List.{list_any}
 use Rattle.std.specs.Option.{option_map_or}
@@ -26,10 +27,6 @@ defined_not_needed chosen m h = not_true (is_needed chosen m) (λ needed.
     let x = missing_in chosen m needed in
     absurd (cc (h.each x.name x.has, x.absent)))
 
-or_true : (a : Bool) → (a || true) ≡ true
-or_true true = refl
-or_true false = refl
-
 more_defined : (chosen : List ModuleParts) (m x : ModuleParts) → AreDefined chosen m → AreDefined (chosen ++ x ∷ []) m
 more_defined chosen m x h = record {
   each = λ name has. list_any-append (has_public name) chosen (x ∷ []) ∙ ap (λ b. b || (has_public name x || false)) (h.each name has);
@@ -37,7 +34,7 @@ more_defined chosen m x h = record {
 
 last_defined : (chosen : List ModuleParts) (m : ModuleParts) → AreDefined (chosen ++ m ∷ []) m
 last_defined chosen m = record {
-  each = λ name has. list_any-append (has_public name) chosen (m ∷ []) ∙ ap (λ b. defines chosen name || (b || false)) has ∙ or_true (defines chosen name);
+  each = λ name has. list_any-append (has_public name) chosen (m ∷ []) ∙ ap (λ b. defines chosen name || (b || false)) has ∙ or-true (defines chosen name);
 }
 
 skips_grow : (chosen : List ModuleParts) (x : ModuleParts) (ms left : List ModuleParts) → Skips chosen ms left → Skips (chosen ++ x ∷ []) ms left
@@ -104,7 +101,7 @@ asked_more given members chosen index m below is h = record {
     by name true e own f k = h.each name (record { wanted = e })
     by name false e true f k =
         list_any-append (wants name) given members
-        ∙ ap (λ b. list_any (wants name) given || b) (list_any_at (wants name) members index m below (ap (wants name) (sym is) ∙ f)) ∙ or_true (list_any (wants name) given)
+        ∙ ap (λ b. list_any (wants name) given || b) (list_any_at (wants name) members index m below (ap (wants name) (sym is) ∙ f)) ∙ or-true (list_any (wants name) given)
     by name false e false f k = absurd (cc (sym (ap (λ b. b || (wants name m || false)) e ∙ ap (λ b. b || false) f) ∙ k))
 
 -- the choice, as far as it has come

@@ -4,7 +4,7 @@ use Rattle.std.specs.Prelude.{flat_map, slice_index}
 use Rattle.std.proofs.lemmas.List.{append-nil, get_or_default, take_more}
 use Rattle.std.proofs.lemmas.List.Concat.{flat_map-append}
 use Rattle.std.proofs.Math.ListN.{get_or-append}
-use Rattle.std.proofs.Math.Seq.{get_or-append_seam}
+use Rattle.std.proofs.Math.Seq.{get_or-append_seam, take-length}
 use Rattle.m51_cells.specs.declared.limits.TheConstants.{MOST_MODULE_SEGMENTS}
 use Rattle.m51_cells.proofs.Small.{below_or_last}
 use Rattle.m51_module.specs.declared.parts.ModuleParts.{ModuleParts}
@@ -53,15 +53,11 @@ valid_more modules count m valid below is own k inside d = elim (below_or_last k
   | inr last ↦ subst (λ x. IsValid x) (is ∙ get_or_default modules count m d below ∙ ap (λ n. get_or modules n d) (sym last)) own
 ]
 
-take_whole : {A : Type 0} (xs : List A) → take (length xs) xs ≡ xs
-take_whole [] = refl
-take_whole (x ∷ xs) = ap (λ ys. x ∷ ys) (take_whole xs)
-
 -- all of them
 pub flat_all : {A : Type 0} (items : ModuleParts → List A) (modules : List ModuleParts) (count : ℕ) (all : List A) (starts : List ℕ) → AreFlat items modules count all starts
     → length modules ≤ count → (all ≡ flat_map items modules) × AreStarts items modules starts
 flat_all items modules count all starts h past =
     let whole : count ≡ length modules = omega (arith, h.few, past) in (
-      h.flat ∙ ap (λ n. flat_map items (take n modules)) whole ∙ ap (flat_map items) (take_whole modules),
+      h.flat ∙ ap (λ n. flat_map items (take n modules)) whole ∙ ap (flat_map items) (take-length modules),
       record { len = h.len ∙ whole; each = λ m below. h.each m (omega (arith, below, whole)) },
     )

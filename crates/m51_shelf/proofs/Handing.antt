@@ -1,13 +1,11 @@
 -- What a shelf returns from an open file, piece by piece.
 use Rattle.std.proofs.Common.{◌≡◌, ℕ, ◌+◌, ◌≤◌, length, List, [], ◌∷◌, ◌++◌, Option, Some, None, Result, Ok, Err, sym, ap, ◌∙◌, subst, append_assoc, append-nil}
+use Rattle.std.proofs.lemmas.Option.{same_Some}
 use Rattle.m51_cells.specs.declared.limits.TheConstants.{MOST_FILE_BYTES}
 use Rattle.m51_shelf.specs.declared.reading.FileReadError.{FileReadError}
 use Rattle.m51_shelf.specs.Shelf.{File, Grows, GoesOn}
 use Rattle.m51_shelf.specs.States.{ReadAt}
 use Rattle.m51_shelf.specs.Reading.{GivesOn, HandsOver, IsGiven}
-
-inside : {A : Type 0} (x y : A) → Some x ≡ Some y → x ≡ y
-inside x y h = cc h
 
 -- nothing more, and more after more
 pub goes_none : (old : Option (List File)) → GoesOn old old []
@@ -20,7 +18,7 @@ pub goes_more : (old between new : Option (List File)) (bytes piece : List ℕ) 
 goes_more None between new bytes piece one two = tt
 goes_more (Some old) None new bytes piece one two = λ front name first is. absurd (cc (one front name first is))
 goes_more (Some old) (Some now) new bytes piece one two =
-    λ front name first is. two front name (first ++ bytes) (inside now (front ++ (name, first ++ bytes) ∷ []) (one front name first is))
+    λ front name first is. two front name (first ++ bytes) (same_Some now (front ++ (name, first ++ bytes) ∷ []) (one front name first is))
     ∙ ap (λ (b : List ℕ). Some (front ++ (name, b) ∷ [])) (append_assoc first bytes piece)
 
 pub same_goes : (old new : Option (List File)) → new ≡ old → GoesOn old new []
@@ -31,7 +29,7 @@ pub grows_then : (old between new : Option (List File)) (name bytes : List ℕ) 
     → Grows old new ((name, bytes) ∷ [])
 grows_then None between new name bytes one two = tt
 grows_then (Some old) None new name bytes one two = absurd (cc one)
-grows_then (Some old) (Some now) new name bytes one two = two old name [] (inside now (old ++ (name, []) ∷ []) one)
+grows_then (Some old) (Some now) new name bytes one two = two old name [] (same_Some now (old ++ (name, []) ∷ []) one)
 
 -- bytes that were read before, and a piece after them
 pub goes_given : {T E : Type 0} (first : Option (List File)) (before after : ReadAt) (old new : List ℕ) (result : Result T E)

@@ -3,6 +3,7 @@ use Rattle.std.proofs.Common.{◌≡◌, ℕ, ◌==◌, Bool, true, false, cond,
 use Rattle.std.specs.Prelude.{codes, option_and_then, option_map}
 use Rattle.std.specs.Str.{bytes_eq}
 use Rattle.std.proofs.lemmas.Bool.{eqb-true}
+use Rattle.std.proofs.lemmas.Option.{same_Some}
 use Rattle.std.proofs.lemmas.Slice.Eq.{bytes_eq-Decides}
 use Rattle.m51_cells.specs.declared.kind.Kind.{Kind}
 use Rattle.m51_cells.specs.declared.kind.Reloc.{Reloc}
@@ -24,7 +25,7 @@ use Rattle.m51_stmt.specs.declared.directives.Directive.TheVariants as directive
 use Rattle.m51_stmt.specs.declared.externs.Awaited.{Awaited}
 use Rattle.m51_stmt.specs.declared.externs.Awaited.TheVariants as awaited
 use Rattle.m51_stmt.specs.Statement as body
-use Rattle.m51_stmt.specs.Statement.{BodyTree, OperandTree, StmtTree, Imm, Plain, NotBit}
+use Rattle.m51_stmt.specs.Statement.{BodyTree, Imm, Plain, NotBit}
 use Rattle.m51_stmt.specs.Words.{is_comma}
 use Rattle.m51_stmt.specs.Kinds.{kind_of, reloc_of, extern_kind_of}
 use Rattle.m51_stmt.specs.Lists.{parts, each_of, list_of, name_alone, all_read, expression, value, item}
@@ -32,7 +33,7 @@ use Rattle.m51_stmt.specs.Operands.{sum, indirect, alone, operand_by, operand, o
 use Rattle.m51_stmt.specs.Externs.{next, named, ended, externs_from, externs}
 use Rattle.m51_stmt.specs.Definitions.{definition_of, is_allowed, is_overlayable, segment_of, segment, definition_form}
 use Rattle.m51_stmt.specs.Directives.{directive_of, is_at, select, end_form, directive_form}
-use Rattle.m51_stmt.specs.Lines.{spoken, defined, said, with_label, statement}
+use Rattle.m51_stmt.specs.Lines.{defined, said, with_label, statement}
 use Rattle.m51_stmt.specs.Lines as lines
 use Rattle.m51_stmt.specs.Grammar as grammar
 use Rattle.m51_stmt.specs.Grammar.{IsExpr, IsList, IsOperand, AreOperands, IsName, IsValue, IsItem, is_text_alone, AreExterns, HasType, HasOverlay, IsDefinition, IsDirective, IsSaid, IsStatement}
@@ -185,11 +186,8 @@ segment_by name word type last None r b kinds types over = none_is
 segment_by name word type last (Some k) None b kinds types over = none_is
 segment_by name word type last (Some k) (Some r) b kinds types over = some_if (is_allowed k r b) (λ allowed. some_is (grammar.Segment kinds (types r refl) over allowed))
 
-reloc_same : (a b : Reloc) → Some a ≡ Some b → a ≡ b
-reloc_same a b h = cc h
-
 unit_type : (x : Reloc) → Some reloc.Unit ≡ Some x → HasType [] x
-unit_type x is = subst (HasType []) (reloc_same reloc.Unit x is) grammar.Unit
+unit_type x is = subst (HasType []) (same_Some reloc.Unit x is) grammar.Unit
 
 overlaid : (word : List ℕ) → is_overlayable word ≡ true → HasOverlay (symbols.Word word ∷ []) true
 overlaid word is = let P : List ℕ → Type 0 = λ w. HasOverlay (symbols.Word w ∷ []) true in subst P (sym ((bytes_eq-Decides word (codes "OVERLAYABLE")).0 is)) grammar.Overlay

@@ -3,6 +3,7 @@ use Rattle.std.proofs.Common.{◌≡◌, ℕ, Bool, true, false, cond, Option, S
 use Rattle.std.specs.Prelude.{option_and_then, option_map}
 use Rattle.std.specs.Option.{option_or}
 use Rattle.std.proofs.lemmas.Option.{same_Some}
+use Rattle.m51_cells.proofs.Passing.{same_Ok}
 use Rattle.m51_stmt.specs.Answer.{and_then, or_fault}
 
 -- P holds of what there is, if there is something
@@ -12,9 +13,6 @@ pub record IfSome {A : Type 0} (o : Option A) (P : A → Type 0) : Type 0 where
 -- P holds of what is read, if it is read
 pub record IfRead {A : Type 0} (r : Result A ℕ) (P : A → Type 0) : Type 0 where
   pub holds : (a : A) → r ≡ Ok a → P a
-
-pub ok_same : {A : Type 0} (a b : A) → ◌≡◌ {A = Result A ℕ} (Ok a) (Ok b) → a ≡ b
-ok_same a b h = cc h
 
 pub some_is : {A : Type 0} {a : A} {P : A → Type 0} → P a → IfSome (Some a) P
 some_is {A} {a} {P} h = record { holds = λ b is. subst P (same_Some a b is) h }
@@ -39,7 +37,7 @@ some_then f P None h = none_is
 some_then f P (Some a) h = h a refl
 
 pub ok_is : {A : Type 0} {a : A} {P : A → Type 0} → P a → IfRead (Ok a) P
-ok_is {A} {a} {P} h = record { holds = λ b is. subst P (ok_same a b is) h }
+ok_is {A} {a} {P} h = record { holds = λ b is. subst P (same_Ok {E = ℕ} a b is) h }
 
 pub err_is : {A : Type 0} {k : ℕ} {P : A → Type 0} → IfRead {A = A} (Err k) P
 err_is = record { holds = λ b is. absurd (cc is) }

@@ -150,11 +150,11 @@ directive_good word =
     select_good word)))))))))))
 
 -- the symbols of a part are good where those of the whole are
-each_front : {A : Type 0} (P : A → Type 0) (xs ys : List A) → Each P (xs ++ ys) → Each P xs
+pub each_front : {A : Type 0} (P : A → Type 0) (xs ys : List A) → Each P (xs ++ ys) → Each P xs
 each_front P [] ys h = tt
 each_front P (x ∷ xs) ys h = (h.0, each_front P xs ys h.1)
 
-each_back : {A : Type 0} (P : A → Type 0) (xs ys : List A) → Each P (xs ++ ys) → Each P ys
+pub each_back : {A : Type 0} (P : A → Type 0) (xs ys : List A) → Each P (xs ++ ys) → Each P ys
 each_back P [] ys h = h
 each_back P (x ∷ xs) ys h = each_back P xs ys h.1
 
@@ -286,7 +286,7 @@ line_good line s (grammar.Control {b = b} dollar read') bytes = inl ((control_go
 line_good line s (grammar.Statement {tokens = tokens} no_dollar no_percent cut is) bytes =
     statement_good (symbols_of line tokens) s is (symbols_good line tokens bytes ((tokens_good line 0 0).holds tokens cut))
 
-each_byte : (xs : List ℕ) → AllByRecursion IsByte xs → Each IsByte xs
+pub each_byte : (xs : List ℕ) → AllByRecursion IsByte xs → Each IsByte xs
 each_byte [] h = tt
 each_byte (x ∷ xs) h = (h.0, each_byte xs h.1)
 

@@ -15,7 +15,7 @@ use Rattle.m51_verbs.specs.declared.status.Status.TheVariants as status
 use Rattle.m51_shelf.specs.States.{KeepAt}
 use Rattle.m51_verbs.specs.Outcome.{Answer, status_after, status_by}
 use Rattle.m51_verbs.specs.Targets.{unkept_text}
-use Rattle.m51_verbs.specs.Carried.{status_told, IsKept, IsWritten, IsEnded, IsUnkept, Whole, Cut, Unkept, UnkeptCut}
+use Rattle.m51_verbs.specs.Carried.{status_told, IsWritten, IsEnded, IsUnkept, Unkept, UnkeptCut}
 
 -- a text that was written, and then another
 pub written_after : (status : Status) (front text : List ℕ) (before between after : SinkState) (result : Result Status Failed)
@@ -25,15 +25,6 @@ written_after status front text before between after (Ok told) first later writt
     (written.0, Appends-trans before.text between.text after.text front text first written.1)
 written_after status front text before between after (Err failed) first later written =
     (omega (arith, later, written.0), front_at_end before.text between.text after.text front text first written.1)
-
--- an answer whose file was kept, and whose text is written
-pub kept_ended : (answer : Answer) (before after : KeepAt) (old new : SinkState) (result : Result Status Failed)
-    → IsKept answer before after → IsWritten answer.status answer.text old new result
-    → IsEnded answer before after old new (status_told result)
-kept_ended answer before after old new (Ok told) kept written =
-    Whole (record { status = written.0; kept = kept; text = written.1 })
-kept_ended answer before after old new (Err failed) kept written =
-    Cut refl (record { rose = written.0; kept = kept; text = written.1 })
 
 -- an answer whose file could not be kept
 pub unkept_ended : (answer : Answer) (before after : KeepAt) (old new : SinkState) (result : Result Status Failed)

@@ -2,6 +2,7 @@
 use Rattle.std.proofs.Common.{◌≡◌, ◌⊎◌, ℕ, suc, ◌+◌, ◌<◌, ◌≤◌, List, [], ◌∷◌, ◌++◌, length, map, take, drop, get_or, Option, Some, None, Result, Ok, refl, sym, ap, ◌∙◌, subst, arith, inr, append_assoc, append-nil}
 use Rattle.std.specs.List.{All}
 use Rattle.std.proofs.lemmas.List.Elements.{All-append, All-cons, All-head, All-nil, All-tail}
+use Rattle.std.proofs.lemmas.Option.{same_Some}
 use Rattle.m51_cells.specs.declared.limits.TheConstants.{MOST_FILE_BYTES}
 use Rattle.m51_shelf.specs.declared.reading.FileReadError.{FileReadError}
 use Rattle.m51_shelf.specs.Shelf.{File, Grows}
@@ -9,9 +10,6 @@ use Rattle.m51_shelf.specs.States.{ReadAt}
 use Rattle.m51_shelf.specs.Reading.{IsGiven}
 use Rattle.m51_verbs.specs.Reading.{files_with, AreStarted, ReadsSome}
 use Rattle.m51_verbs.proofs.Readings.{at_index, up_to, named_among}
-
-inside : {A : Type 0} (x y : A) → Some x ≡ Some y → x ≡ y
-inside x y h = cc h
 
 pub grows_none : (old : Option (List File)) → Grows old old []
 grows_none None = tt
@@ -22,7 +20,7 @@ pub grows_more : (old between new : Option (List File)) (first more : List File)
 grows_more None between new first more one two = tt
 grows_more (Some old) None new first more one two = absurd (cc one)
 grows_more (Some old) (Some now) new first more one two =
-    two ∙ ap (λ (x : List File). Some (x ++ more)) (inside now (old ++ first) one) ∙ ap (λ (x : List File). Some x) (append_assoc old first more)
+    two ∙ ap (λ (x : List File). Some (x ++ more)) (same_Some now (old ++ first) one) ∙ ap (λ (x : List File). Some x) (append_assoc old first more)
 
 -- one more file
 files_more : (names contents : List (List ℕ)) (name bytes : List ℕ) → length contents ≡ length names

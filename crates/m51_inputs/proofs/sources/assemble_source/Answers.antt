@@ -1,4 +1,4 @@
-use Rattle.std.proofs.Common.{◌≡◌, ◌∙◌, length, sym, ap, arith}
+use Rattle.std.proofs.Common.{◌≡◌, ◌∙◌, length, ap, arith}
 use Rattle.m51_jobs.specs.Endings.{is_source}
 use Rattle.m51_inputs.specs.Files.{sources_of}
 use Rattle.m51_inputs.specs.Sorting.{files_in}

@@ -248,3 +248,35 @@ pub enum Flow {
     /// To the address on the stack, at the end of an interrupt.
     Reti,
 }
+
+/// What an instruction writes at an address that is one of its operands.
+///
+/// Source: family manual.
+#[derive(Clone, Copy, Debug, PartialEq, Eq)]
+pub enum Written {
+    /// Nothing.
+    Nothing,
+    /// The byte at this direct address.
+    Direct(u8),
+    /// The bit at this bit address.
+    Bit(u8),
+    /// The bit at this bit address, only where it is 1.
+    BitIfSet(u8),
+}
+
+/// What an instruction does with the stack.
+///
+/// Source: family manual.
+#[derive(Clone, Copy, Debug, PartialEq, Eq)]
+pub enum Stack {
+    /// Nothing.
+    Keep,
+    /// Puts a byte on it.
+    Push,
+    /// Takes a byte from it.
+    Pop,
+    /// Puts a return address of two bytes on it.
+    Call,
+    /// Takes a return address of two bytes from it.
+    Return,
+}

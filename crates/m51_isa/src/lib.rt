@@ -3,6 +3,7 @@
 
 mod arithmetic;
 mod branches;
+mod changes;
 mod columns;
 mod decoding;
 mod encoding;
@@ -21,12 +22,13 @@ mod slot;
 mod spelling;
 mod targets;
 
+pub use changes::{is_jump, stack_of, written_of};
 pub use columns::{cycles, kind_of, length};
 pub use decoding::decode;
 pub use encoding::{Code, encode};
 pub use filling::with_numbers;
 pub use generics::{Jump, Verb, generic, jump_row};
-pub use instr::{Flow, Instr};
+pub use instr::{Flow, Instr, Stack, Written};
 pub use laws::{
     codes_decode, fronts_agree, mnemonics_are_of_rows, none_is_reserved, rows_are_distinct,
     rows_are_short, rows_decode, texts_are_rows,

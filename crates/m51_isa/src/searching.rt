@@ -12,15 +12,17 @@ use crate::look::Look;
 use crate::moves::moves;
 
 /// The row of a mnemonic, in upper case, with operands that look so, if there is one: its instruction with the
-/// registers of the line, and 0 in each field.
+/// registers of the line, and 0 in each field. A family of mnemonics is looked at only where none before it has the row.
 ///
 /// Source: family manual.
 pub fn search(mnemonic: &[u8], a: &Look, b: &Look, c: &Look) -> Option<Instr>
     ensures { result ≡ search mnemonic.now a.now b.now c.now }
 {
-    let of_branches = branches(mnemonic, a, b, c).or(jumps(mnemonic, a, b, c));
-    let of_moves = moves(mnemonic, a, b, c).or(of_branches);
-    arithmetic(mnemonic, a, b, c).or(logic(mnemonic, a, b, c).or(of_moves))
+    arithmetic(mnemonic, a, b, c)
+        .or_else(|| logic(mnemonic, a, b, c))
+        .or_else(|| moves(mnemonic, a, b, c))
+        .or_else(|| branches(mnemonic, a, b, c))
+        .or_else(|| jumps(mnemonic, a, b, c))
 }
 
 /// Whether a mnemonic, in upper case, may have operands that look so: there is such a row, or it is `JMP` or `CALL`

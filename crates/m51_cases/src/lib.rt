@@ -1,13 +1,11 @@
-//! Tests of what no verb reaches: devices by the tables of the manual, the monitor, edits of libraries, boards and files
-//! of the system. It is no part of the product.
+//! Tests of what no verb reaches: devices by the tables of the manual, the monitor and files of the system. It is no part
+//! of the product.
 #![tactic(auto)]
 
 #[cfg(test)]
 mod calls;
 #[cfg(test)]
 mod devices;
-#[cfg(test)]
-mod library_edits;
 #[cfg(test)]
 mod monitor_layout;
 #[cfg(test)]

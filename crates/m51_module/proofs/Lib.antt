@@ -12,9 +12,6 @@ pub mod NotedNames
 pub mod Owning
 pub mod Raised
 pub mod Reach
-pub mod SampleLayout
-pub mod SampleModule
-pub mod SamplePublic
 pub mod Units
 pub mod EdgeTests
 pub mod FieldLengths

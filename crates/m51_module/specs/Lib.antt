@@ -11,7 +11,6 @@ pub mod Plan
 pub mod Program
 pub mod Rising
 pub mod Roots
-pub mod Sample
 pub mod Sound
 pub mod Validity
 pub mod Walks

@@ -19,7 +19,6 @@ mod placed;
 mod public_names;
 mod raising;
 mod rows;
-pub mod sample;
 mod segment;
 mod source;
 mod stack_bound;

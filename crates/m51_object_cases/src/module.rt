@@ -1,6 +1,7 @@
 //! What no clause says: that the calls give their answers where memory is there.
+use crate::sample;
 use m51_cells::{Kind, NoMemory};
-use m51_module::{Image, external_numbered, sample, segment_numbered};
+use m51_module::{Image, external_numbered, segment_numbered};
 use std::alloc::Global;
 
 // Whether the tables of the sample give each of these answers.

@@ -5,7 +5,7 @@ use Rattle.m51_module.specs.declared.parts.ModuleParts.{ModuleParts}
 use Rattle.m51_module.specs.declared.segment.Segment.{Segment}
 use Rattle.m51_module.specs.declared.symbol.External.{External}
 use Rattle.m51_module.specs.declared.symbol.Public.{Public}
-use Rattle.m51_module.specs.Sample.{field, code_segment, data_segment, byte_public, byte_external, mov_piece, sample_module}
+use Rattle.m51_object_cases.specs.Sample.{field, code_segment, data_segment, byte_public, byte_external, mov_piece, sample_module}
 use Rattle.m51_module.specs.Validity.{IsValid, IsSegmentValid, IsPublicValid, IsPieceValid, IsFixupValid, IsHeld, FieldBefore, BeforeIn, Differ, LiesBefore}
 use Rattle.m51_cells.specs.Name.{IsWritten}
 use Rattle.m51_cells.proofs.Small.{all_one}

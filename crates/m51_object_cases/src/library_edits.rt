@@ -1,5 +1,5 @@
 //! A list of edits of a library, of which one is refused. The verbs stop at the first that is.
-use m51_module::sample::{module_with, name};
+use crate::sample::{module_with, name};
 use m51_module::{Edit, LibError, Library};
 use std::alloc::Global;
 

@@ -15,7 +15,7 @@ use Rattle.m51_module.specs.Cells.{extent_at}
 use Rattle.m51_module.specs.Walks.{HasEdge, IsWalk, last_of, Reaches}
 use Rattle.m51_module.specs.Conflict.{Same, Before, After, FirstUnderNone, SecondUnderNone, UnderTwo, FirstPlain, SecondPlain, Owners}
 use Rattle.m51_module.specs.Plan.{IsPlaced, IsOverlaid, IsCodeSegment, IsSegment, IsRootAt, owners_of, Owns, UnitLiesUnder, UnitsRelated, ExtentsConflict}
-use Rattle.m51_module.specs.Sample.{code, overlaid, calls, sample_layout}
+use Rattle.m51_object_cases.specs.Sample.{code, overlaid, calls, sample_layout}
 use Rattle.m51_module.specs.Sound.{IsSound, IsFit, HasOwners}
 use Rattle.m51_module.proofs.CellLemmas.{code_covers, data_covers}
 use Rattle.m51_module.proofs.Owning.{pair_of_owner, none_in_empty}

@@ -1,14 +1,14 @@
-//! A sound layout and valid modules, which show that there are such. The crates above test with them.
+//! A sound layout and valid modules, which show that there are such. The tests of this crate begin with them.
 ghost use Rattle.std.specs.Prelude.{◌≡◌, [], IfOk, Some, true, map};
 ghost use Rattle.std.specs.Char.{to_ascii_uppercase};
 ghost use Rattle.m51_cells.specs.Name.{is_name, title_at, IsWritten};
-ghost use Rattle.m51_module.specs.Sample.{code, overlaid, field, sample_layout, sample_module, public_module};
+ghost use Rattle.m51_object_cases.specs.Sample.{code, overlaid, field, sample_layout, sample_module, public_module};
 
-use crate::{
+use m51_cells::{Base, Bytes, Kind, ListOf, Name, NoMemory, Reloc};
+use m51_module::{
     External, Fixup, Form, Layout, LayoutParts, Mark, Module, ModuleParts, Piece, Placed, Public,
     Segment,
 };
-use m51_cells::{Base, Bytes, Kind, ListOf, Name, NoMemory, Reloc};
 use std::alloc::Global;
 
 // A segment of program memory of one byte.
@@ -70,7 +70,7 @@ fn layout_parts(alloc: Global) -> Result<LayoutParts, NoMemory>
 /// memory.
 ///
 /// Source: own choice ("Samples").
-pub fn layout(alloc: Global) -> Result<Layout, NoMemory>
+pub(crate) fn layout(alloc: Global) -> Result<Layout, NoMemory>
     ensures { IfOk result (λ layout. layout ≡ sample_layout (title_at 0)) }
 {
     let parts = layout_parts(alloc)?;
@@ -80,7 +80,7 @@ pub fn layout(alloc: Global) -> Result<Layout, NoMemory>
 /// The name that the text writes, in upper case. The text must be a name.
 ///
 /// Source: own choice ("Samples").
-pub fn name(text: &[u8]) -> Name
+pub(crate) fn name(text: &[u8]) -> Name
     requires { is_name text.now ≡ true }
     ensures { result ≡ map to_ascii_uppercase text.now }
 {
@@ -158,7 +158,7 @@ fn module_parts(alloc: Global) -> Result<ModuleParts, NoMemory>
 /// own. The only error is out of memory.
 ///
 /// Source: own choice ("Samples").
-pub fn module(alloc: Global) -> Result<Module, NoMemory>
+pub(crate) fn module(alloc: Global) -> Result<Module, NoMemory>
     ensures { IfOk result (λ made. made ≡ sample_module) }
 {
     let parts = module_parts(alloc)?;
@@ -169,7 +169,7 @@ pub fn module(alloc: Global) -> Result<Module, NoMemory>
 /// as a text can write. The only error is out of memory.
 ///
 /// Source: own choice ("Samples").
-pub fn module_with(alloc: Global, name: Name, public: Name) -> Result<Module, NoMemory>
+pub(crate) fn module_with(alloc: Global, name: Name, public: Name) -> Result<Module, NoMemory>
     requires name { IsWritten name }
     requires public { IsWritten public }
     ensures { IfOk result (λ made. made ≡ public_module name public) }

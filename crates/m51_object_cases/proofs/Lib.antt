@@ -1,0 +1,3 @@
+mod SampleLayout
+mod SampleModule
+mod SamplePublic

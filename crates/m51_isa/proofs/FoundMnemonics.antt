@@ -60,7 +60,7 @@ some_row o (Some verb) form h = refl
 some_row (Some i) None form h = refl
 some_row None None form h = absurd (cc h)
 
--- in each form a line that may stand has a row
+-- a line that has a row has one in each form of a jump
 pub row_in_each_form : (word : List ℕ) (form : Jump) (a b c : Look) → has_row word a b c ≡ true → is_some (row_for word form a b c) ≡ true
 unfolding has_row
 row_in_each_form word form a b c h = some_row (search word a b c) (generic word a b c) form h

@@ -1,5 +1,5 @@
--- What an instruction changes: what it writes at an address that it names, and what it does with the stack; and where
--- control never goes on after it.
+-- What an instruction changes: what it writes at an address that it names, what it does with the stack, and whether
+-- control never continues with the next instruction.
 use Rattle.std.specs.Prelude.{Bool, true, false}
 use Rattle.m51_isa.specs.declared.instr.Instr.{Instr}
 use Rattle.m51_isa.specs.declared.instr.Instr.TheVariants as row
@@ -43,7 +43,7 @@ stack_of row.Ret = Return
 stack_of row.Reti = Return
 stack_of _ = Keep
 
--- a jump without a condition: control never goes on to the next instruction
+-- a jump without a condition: control never continues with the next instruction
 abbrev pub is_jump : Instr → Bool
 is_jump (row.SjmpRel rel) = true
 is_jump (row.AjmpAddr11 address) = true

@@ -20,7 +20,7 @@ abbrev pub generic : List ℕ → Look → Look → Look → Option Verb
 generic word Plain Nothing Nothing = verb_of word
 generic word _ _ _ = None
 
--- the row that a generic jump of a form stands for; there is no short call, and that of a block stands for it
+-- the row of a generic jump of a form; there is no short call, and that of a block is taken for it
 abbrev pub jump_row : Verb → Jump → Instr
 jump_row Jmp Short = SjmpRel 0
 jump_row Jmp Block = AjmpAddr11 0

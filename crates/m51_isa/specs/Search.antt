@@ -28,6 +28,6 @@ abbrev pub row_or : Jump → Option Verb → Option Instr → Option Instr
 row_or form (Some verb) row = Some (jump_row verb form)
 row_or form None row = row
 
--- the row of a line, in which a generic jump stands for that of the form
+-- the row of a line; of a generic jump it is that of the form
 abbrev pub row_for : List ℕ → Jump → Look → Look → Look → Option Instr
 row_for word form a b c = row_or form (generic word a b c) (search word a b c)

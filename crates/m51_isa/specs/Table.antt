@@ -37,7 +37,7 @@ pub record TableRow : Type 0 where
 abbrev pub table_row : List ℕ → ℕ → Flow → TableRow
 table_row bytes cycles flow = record { bytes = bytes; cycles = cycles; flow = flow }
 
--- the row of an instruction; a word has its high byte first, and the top three bits of addr11 stand in the opcode
+-- the row of an instruction; a word has its high byte first, and the top three bits of addr11 are in the opcode
 abbrev pub row_of : Instr → TableRow
 row_of Nop = table_row (0x00 ∷ []) 1 Next
 row_of (JbcBitRel bit rel) = table_row (0x10 ∷ bit ∷ rel ∷ []) 2 Branch

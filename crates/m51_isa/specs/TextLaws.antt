@@ -74,7 +74,7 @@ pub record HasText (i j : Instr) (a b c : ℕ) : Type 0 where
   pub length : length_of j ≡ length_of i
 
 -- Each row is found by its own text, and gives itself with the numbers of the text; so two rows that are written
--- alike are one. What is found is written so, and so is what a line stands for. No row is written as a generic jump.
+-- alike are one. What is found is written so, and so is the row of a line. No row is written as a generic jump.
 pub record TextsAreRows : Type 0 where
   pub found : (i : Instr) → HasNumbers (text_of i) → read_text (text_of i) ≡ Some i
   pub written : (word : List ℕ) (a b c : Look) → IfSome (search word a b c) (IsWritten word a b c)

@@ -50,7 +50,7 @@ pub fn stack_of(instr: &Instr) -> Stack
     }
 }
 
-/// Whether an instruction is a jump without a condition, after which control never goes on to the next instruction.
+/// Whether an instruction is a jump without a condition, after which control never continues with the next instruction.
 ///
 /// Source: family manual.
 pub fn is_jump(instr: &Instr) -> bool

@@ -227,7 +227,7 @@ fn by_low_digit(bytes: [u8; 3]) -> Option<Instr>
     }
 }
 
-/// The instruction that the bytes begin with, or none exactly where the first of them is the reserved A5H.
+/// The instruction that the bytes begin with, or none exactly if the first of them is the reserved A5H.
 ///
 /// Source: family manual.
 pub fn decode(bytes: [u8; 3]) -> Option<Instr>

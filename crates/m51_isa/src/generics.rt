@@ -19,7 +19,7 @@ pub enum Jump {
     Long,
 }
 
-/// A mnemonic for whichever form serves.
+/// A generic mnemonic: the assembler chooses the form of the jump or call.
 ///
 /// Source: ASM51 guide.
 #[derive(Clone, Copy, Debug, PartialEq, Eq)]

@@ -12,7 +12,7 @@ use crate::look::Look;
 use crate::moves::moves;
 
 /// The row of a mnemonic, in upper case, with operands that look so, if there is one: its instruction with the
-/// registers of the line, and 0 in each field. A family of mnemonics is looked at only where none before it has the row.
+/// registers of the line, and 0 in each field. A family of mnemonics is looked at only if none before it has the row.
 ///
 /// Source: family manual.
 pub fn search(mnemonic: &[u8], a: &Look, b: &Look, c: &Look) -> Option<Instr>

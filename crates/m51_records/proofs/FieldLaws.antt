@@ -4,6 +4,7 @@ use Rattle.std.specs.Prelude.{nat_le}
 use Rattle.std.specs.Cmp.Lexicographic.{bytes_decides}
 use Rattle.std.proofs.lemmas.Bool.{leb-true, le-leb}
 use Rattle.std.proofs.lemmas.List.{take_at, drop_at, take-append-drop, length-take}
+use Rattle.std.proofs.lemmas.Option.{same_Some}
 use Rattle.std.proofs.Math.Nat.{mod-add-div}
 use Rattle.m51_cells.specs.declared.kind.Kind.{Kind}
 use Rattle.m51_cells.specs.declared.kind.Kind.TheVariants.{Code, Xdata, Direct, Idata, Bits, Number}
@@ -17,7 +18,7 @@ use Rattle.m51_cells.specs.Kinds.{same_kind}
 use Rattle.m51_cells.proofs.KindLaws.{kind_again}
 use Rattle.m51_records.specs.Codes.{kind_number, kind_of, reloc_number, reloc_of, form_number, form_of}
 use Rattle.m51_frame.specs.Fields.{place, pair, pair_at, text_field, text_at, same, if_same, upper_name}
-use Rattle.m51_records.proofs.Tools.{ok_is, some_is}
+use Rattle.m51_records.proofs.Tools.{ok_is}
 
 -- each is a byte
 abbrev pub IsBytes : List ℕ → Type 0
@@ -84,7 +85,7 @@ if_same_is : (text name : List ℕ) (o : Option (List ℕ)) → if_same text o �
 if_same_is text name None e = absurd cc
 if_same_is text name (Some n) e = cases (same n text) refl e where
   cases : (b : Bool) → same n text ≡ b → cond b (Some n) None ≡ Some name → (Some n ≡ Some name) × (name ≡ text)
-  cases true h f = (f, sym (some_is n name f) ∙ same_is n text h)
+  cases true h f = (f, sym (same_Some n name f) ∙ same_is n text h)
   cases false h f = absurd cc
 
 -- a name in upper case is the text itself
@@ -96,12 +97,12 @@ upper_read name h = ap (if_same name) h ∙ rw (same_of name name refl) refl
 
 -- numbers of kinds, types and forms
 pub kind_takes : (n : ℕ) (k : Kind) → kind_of n ≡ Some k → n ≡ kind_number k
-kind_takes zero k e = ap kind_number (some_is Code k e)
-kind_takes (suc zero) k e = ap kind_number (some_is Xdata k e)
-kind_takes (suc (suc zero)) k e = ap kind_number (some_is Direct k e)
-kind_takes (suc (suc (suc zero))) k e = ap kind_number (some_is Idata k e)
-kind_takes (suc (suc (suc (suc zero)))) k e = ap kind_number (some_is Bits k e)
-kind_takes (suc (suc (suc (suc (suc zero))))) k e = ap kind_number (some_is Number k e)
+kind_takes zero k e = ap kind_number (same_Some Code k e)
+kind_takes (suc zero) k e = ap kind_number (same_Some Xdata k e)
+kind_takes (suc (suc zero)) k e = ap kind_number (same_Some Direct k e)
+kind_takes (suc (suc (suc zero))) k e = ap kind_number (same_Some Idata k e)
+kind_takes (suc (suc (suc (suc zero)))) k e = ap kind_number (same_Some Bits k e)
+kind_takes (suc (suc (suc (suc (suc zero))))) k e = ap kind_number (same_Some Number k e)
 kind_takes (suc (suc (suc (suc (suc (suc n)))))) k e = absurd cc
 
 pub kind_read : (k : Kind) → kind_of (kind_number k) ≡ Some k
@@ -113,12 +114,12 @@ kind_read Bits = refl
 kind_read Number = refl
 
 pub reloc_takes : (n : ℕ) (r : Reloc) → reloc_of n ≡ Some r → n ≡ reloc_number r
-reloc_takes zero r e = ap reloc_number (some_is Abs r e)
-reloc_takes (suc zero) r e = ap reloc_number (some_is UnitType r e)
-reloc_takes (suc (suc zero)) r e = ap reloc_number (some_is Bitaddressable r e)
-reloc_takes (suc (suc (suc zero))) r e = ap reloc_number (some_is Inpage r e)
-reloc_takes (suc (suc (suc (suc zero)))) r e = ap reloc_number (some_is InblockType r e)
-reloc_takes (suc (suc (suc (suc (suc zero))))) r e = ap reloc_number (some_is Page r e)
+reloc_takes zero r e = ap reloc_number (same_Some Abs r e)
+reloc_takes (suc zero) r e = ap reloc_number (same_Some UnitType r e)
+reloc_takes (suc (suc zero)) r e = ap reloc_number (same_Some Bitaddressable r e)
+reloc_takes (suc (suc (suc zero))) r e = ap reloc_number (same_Some Inpage r e)
+reloc_takes (suc (suc (suc (suc zero)))) r e = ap reloc_number (same_Some InblockType r e)
+reloc_takes (suc (suc (suc (suc (suc zero))))) r e = ap reloc_number (same_Some Page r e)
 reloc_takes (suc (suc (suc (suc (suc (suc n)))))) r e = absurd cc
 
 pub reloc_read : (r : Reloc) → reloc_of (reloc_number r) ≡ Some r
@@ -130,14 +131,14 @@ reloc_read InblockType = refl
 reloc_read Page = refl
 
 pub form_takes : (n : ℕ) (f : Form) → form_of n ≡ Some f → n ≡ form_number f
-form_takes zero f e = ap form_number (some_is Low f e)
-form_takes (suc zero) f e = ap form_number (some_is Byte f e)
-form_takes (suc (suc zero)) f e = ap form_number (some_is Relative f e)
-form_takes (suc (suc (suc zero))) f e = ap form_number (some_is High f e)
-form_takes (suc (suc (suc (suc zero)))) f e = ap form_number (some_is Word f e)
-form_takes (suc (suc (suc (suc (suc zero))))) f e = ap form_number (some_is Inblock f e)
-form_takes (suc (suc (suc (suc (suc (suc zero)))))) f e = ap form_number (some_is Bit f e)
-form_takes (suc (suc (suc (suc (suc (suc (suc zero))))))) f e = ap form_number (some_is Conv f e)
+form_takes zero f e = ap form_number (same_Some Low f e)
+form_takes (suc zero) f e = ap form_number (same_Some Byte f e)
+form_takes (suc (suc zero)) f e = ap form_number (same_Some Relative f e)
+form_takes (suc (suc (suc zero))) f e = ap form_number (same_Some High f e)
+form_takes (suc (suc (suc (suc zero)))) f e = ap form_number (same_Some Word f e)
+form_takes (suc (suc (suc (suc (suc zero))))) f e = ap form_number (same_Some Inblock f e)
+form_takes (suc (suc (suc (suc (suc (suc zero)))))) f e = ap form_number (same_Some Bit f e)
+form_takes (suc (suc (suc (suc (suc (suc (suc zero))))))) f e = ap form_number (same_Some Conv f e)
 form_takes (suc (suc (suc (suc (suc (suc (suc (suc n)))))))) f e = absurd cc
 
 pub form_read : (f : Form) → form_of (form_number f) ≡ Some f

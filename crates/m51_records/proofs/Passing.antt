@@ -5,6 +5,7 @@ use Rattle.std.proofs.lemmas.Bool.{eqb-true, eq-eqb, leb-true, le-leb, le-ltb, l
 use Rattle.std.proofs.Math.Bool.{and-false}
 use Rattle.std.proofs.lemmas.List.{take_more}
 use Rattle.std.proofs.lemmas.List.Elements.{All-head, All-tail}
+use Rattle.std.proofs.lemmas.Option.{same_Some}
 use Rattle.m51_module.specs.declared.content.Fixup.{Fixup}
 use Rattle.m51_module.specs.declared.content.Form.{Form}
 use Rattle.m51_module.specs.declared.content.Piece.{Piece}
@@ -13,7 +14,7 @@ use Rattle.m51_records.specs.Contents.{latest}
 use Rattle.m51_records.specs.Fixups.{field_segment_follows, field_follows, holds, is_held, is_inside}
 use Rattle.m51_records.specs.WorkPieces.{ends_by, EndBy, ArePassed}
 use Rattle.m51_records.proofs.Latest.{latest_push}
-use Rattle.m51_records.proofs.Tools.{some_is, all_push}
+use Rattle.m51_records.proofs.Tools.{all_push}
 
 -- what it means that a piece ends by an offset of a segment
 record IsBy (segment offset : ℕ) (p : Piece) : Type 0 where
@@ -112,7 +113,7 @@ none_passed pieces = record { few = omega arith; none = λ _. refl; some = λ f 
 
 -- a further fixup
 at_last : (pieces : List Piece) (passed : ℕ) (f : Fixup) → passed ≤ length pieces → EndBy f.segment f.offset (take passed pieces) → ArePassed pieces passed (Some f)
-at_last pieces passed f few h = record { few = few; none = λ e. absurd cc; some = λ g e. subst (λ (g : Fixup). EndBy g.segment g.offset (take passed pieces)) (some_is f g e) h }
+at_last pieces passed f few h = record { few = few; none = λ e. absurd cc; some = λ g e. subst (λ (g : Fixup). EndBy g.segment g.offset (take passed pieces)) (same_Some f g e) h }
 
 pub passed_on : (pieces : List Piece) (passed : ℕ) (before : List Fixup) (f : Fixup) → passed ≤ length pieces → EndBy f.segment f.offset (take passed pieces) → ArePassed pieces passed (latest (before ++ f ∷ []))
 passed_on pieces passed before f few h = subst (ArePassed pieces passed) (sym (latest_push before f)) (at_last pieces passed f few h)

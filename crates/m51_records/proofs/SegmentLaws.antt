@@ -2,6 +2,7 @@
 use Rattle.std.proofs.Common.{◌≡◌, ℕ, zero, suc, ◌<◌, Bool, true, false, eqb, List, [], ◌∷◌, ◌++◌, length, Option, Some, Ok, refl, sym, ap, subst, ◌∙◌}
 use Rattle.std.specs.Prelude.{not, ◌||◌, nat_lt}
 use Rattle.std.proofs.lemmas.List.{append-nil}
+use Rattle.std.proofs.lemmas.Option.{same_Some}
 use Rattle.m51_cells.specs.declared.kind.Kind.{Kind}
 use Rattle.m51_cells.specs.declared.kind.Kind.TheVariants.{Number}
 use Rattle.m51_cells.specs.declared.kind.Reloc.{Reloc}
@@ -11,7 +12,7 @@ use Rattle.m51_module.specs.declared.segment.Segment.{Segment}
 use Rattle.m51_records.specs.Codes.{kind_number, kind_of, reloc_number, reloc_of}
 use Rattle.m51_frame.specs.Fields.{◌>>=◌, checked, or_broken, pair, pair_at, text_field, text_at, ended}
 use Rattle.m51_records.specs.Segments.{flags_of, marks_of, are_marks, segment_contents, segment_kind_at, reloc_at, marks_at, base_at, is_size, size_at, no_text, segment_name, may_have, segment_name_at, segment_in}
-use Rattle.m51_records.proofs.Tools.{bind_ok, on_ok, ok_is, some_is, checked_ok, broken_ok, ended_ok}
+use Rattle.m51_records.proofs.Tools.{bind_ok, on_ok, ok_is, checked_ok, broken_ok, ended_ok}
 use Rattle.m51_records.proofs.FieldLaws.{IsBytes, pair_read, pair_takes, text_read, text_takes, upper_takes, kind_takes, kind_read, reloc_takes, reloc_read}
 
 -- what the tests of the reader say of a segment of a module of that version, after those before it
@@ -54,10 +55,10 @@ unfolding reloc_at
 reloc_again kind end r rest h = rw (reloc_read r, h) refl
 
 marks_take : (n : ℕ) (m : Bool × Bool) → marks_of n ≡ Some m → n ≡ flags_of m.0 m.1
-marks_take zero m e = ap (λ (m : Bool × Bool). flags_of m.0 m.1) (some_is (false, false) m e)
-marks_take (suc zero) m e = ap (λ (m : Bool × Bool). flags_of m.0 m.1) (some_is (true, false) m e)
-marks_take (suc (suc zero)) m e = ap (λ (m : Bool × Bool). flags_of m.0 m.1) (some_is (false, true) m e)
-marks_take (suc (suc (suc zero))) m e = ap (λ (m : Bool × Bool). flags_of m.0 m.1) (some_is (true, true) m e)
+marks_take zero m e = ap (λ (m : Bool × Bool). flags_of m.0 m.1) (same_Some (false, false) m e)
+marks_take (suc zero) m e = ap (λ (m : Bool × Bool). flags_of m.0 m.1) (same_Some (true, false) m e)
+marks_take (suc (suc zero)) m e = ap (λ (m : Bool × Bool). flags_of m.0 m.1) (same_Some (false, true) m e)
+marks_take (suc (suc (suc zero))) m e = ap (λ (m : Bool × Bool). flags_of m.0 m.1) (same_Some (true, true) m e)
 marks_take (suc (suc (suc (suc n)))) m e = absurd cc
 
 marks_read : (o a : Bool) → marks_of (flags_of o a) ≡ Some (o, a)
@@ -132,7 +133,7 @@ name_tested table test end name h k =
     ap (λ r. r >>= λ text. or_broken (table text.0) end (text_field name) >>= λ n. checked (test n) end (text_field name) n >>= λ new. ended end text.1 new) read ∙ rw (h, k) refl
 
 no_text_takes : (text name : List ℕ) → no_text text ≡ Some name → text ≡ name
-no_text_takes [] name e = some_is [] name e
+no_text_takes [] name e = same_Some [] name e
 no_text_takes (b ∷ text) name e = absurd cc
 
 segment_name_takes : (reloc : Reloc) (text name : List ℕ) → segment_name reloc text ≡ Some name → text ≡ name

@@ -22,12 +22,6 @@ done x = Ok x
 pub ok_is : {A : Type 0} (x y : A) → done x ≡ done y → x ≡ y
 ok_is x y e = cc
 
-abbrev one : {A : Type 0} → A → Option A
-one x = Some x
-
-pub some_is : {A : Type 0} (x y : A) → one x ≡ one y → x ≡ y
-some_is x y e = cc
-
 pub checked_ok : {A : Type 0} (b : Bool) (end : ℕ) (field : List ℕ) (x y : A) → checked b end field x ≡ Ok y → (b ≡ true) × (x ≡ y)
 checked_ok true end field x y e = (refl, ok_is x y e)
 checked_ok false end field x y e = absurd cc

@@ -1,6 +1,7 @@
 pub mod Readings
 pub mod Bytes
 pub mod Flat
+pub mod EveryAction
 pub mod Parity
 pub mod Outcomes
 pub mod Flows

@@ -3,18 +3,15 @@ use Rattle.std.specs.Prelude.{◌≡◌, ℕ, ◌%◌, Bool, true, false, ◌&&�
 use Rattle.m51_isa.specs.declared.instr.Flow.{Flow}
 use Rattle.m51_isa.specs.declared.instr.Flow.TheVariants.{Reti as FlowReti}
 use Rattle.m51_isa.specs.declared.instr.Instr.{Instr}
+use Rattle.m51_isa.specs.declared.instr.Written.{Written}
+use Rattle.m51_isa.specs.declared.instr.Written.TheVariants.{Nothing, Direct, Bit, BitIfSet}
+use Rattle.m51_isa.specs.Changes.{written_of}
 use Rattle.m51_isa.specs.Table.{flow_of}
 use Rattle.m51_flat.specs.declared.state.Cpu.{Cpu}
 use Rattle.m51_flat.specs.declared.state.Pins.{Pins}
 use Rattle.m51_flat.specs.declared.state.Effect.{Effect}
-use Rattle.m51_flat.specs.declared.actions.Place.{Place}
-use Rattle.m51_flat.specs.declared.actions.Place.TheVariants.{Direct}
-use Rattle.m51_flat.specs.declared.actions.Action.{Action}
-use Rattle.m51_flat.specs.declared.actions.Action.TheVariants.{Assign, Combine, Change, Exchange, ExchangeDigit, Pop}
-use Rattle.m51_flat.specs.declared.actions.Action.TheVariants.{StoreBit, FlipBit, TestAndClear, CountDown}
 use Rattle.m51_flat.specs.Sfr.{flag, ie, ip}
 use Rattle.m51_flat.specs.Operands.{byte_of_bit}
-use Rattle.m51_flat.specs.Actions.{action_of}
 use Rattle.m51_flat.specs.Meaning.{plan_of}
 use Rattle.m51_flat.specs.Laws.{Always}
 
@@ -22,27 +19,16 @@ use Rattle.m51_flat.specs.Laws.{Always}
 abbrev pub holds_off : ℕ → Bool
 holds_off a = a == ie || a == ip
 
-abbrev pub place_holds_off : Place → Bool
-place_holds_off (Direct a) = holds_off a
-place_holds_off _ = false
-
--- the operand that is written is such a register, or a bit of one; JBC writes its bit only where it is 1
-abbrev pub writes_by : Cpu → Action → Bool
-writes_by cpu (Assign place from) = place_holds_off place
-writes_by cpu (Combine op place from) = place_holds_off place
-writes_by cpu (Change count place) = place_holds_off place
-writes_by cpu (Exchange place) = place_holds_off place
-writes_by cpu (ExchangeDigit place) = place_holds_off place
-writes_by cpu (Pop place) = place_holds_off place
-writes_by cpu (CountDown place rel) = place_holds_off place
-writes_by cpu (StoreBit from bit) = holds_off (byte_of_bit bit)
-writes_by cpu (FlipBit bit) = holds_off (byte_of_bit bit)
-writes_by cpu (TestAndClear bit rel) = holds_off (byte_of_bit bit) && flag cpu (byte_of_bit bit) (bit % 8)
-writes_by cpu _ = false
+-- what is written at the address of an operand is such a register, or a bit of one
+abbrev pub is_written : (ℕ → Bool) → Cpu → Written → Bool
+is_written such cpu Nothing = false
+is_written such cpu (Direct a) = such a
+is_written such cpu (Bit bit) = such (byte_of_bit bit)
+is_written such cpu (BitIfSet bit) = such (byte_of_bit bit) && flag cpu (byte_of_bit bit) (bit % 8)
 
 -- an instruction writes IE, IP or a bit of them
 abbrev pub writes_ie_or_ip : Cpu → Instr → Bool
-writes_ie_or_ip cpu instr = writes_by cpu (action_of instr)
+writes_ie_or_ip cpu instr = is_written holds_off cpu (written_of instr)
 
 -- both levels are as before, and interrupts are held off exactly if IE or IP was written
 pub record KeepsLevels (writes : Bool) (old : Cpu) (e : Effect) : Type 0 where

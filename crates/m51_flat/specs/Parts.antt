@@ -1,5 +1,5 @@
 -- Parts of an effect: flags, DPTR and the program counter.
-use Rattle.std.specs.Prelude.{ℕ, ◌+◌, ◌*◌, ◌/◌, ◌%◌, Bool, false, nat_lt, if◌then◌else◌}
+use Rattle.std.specs.Prelude.{ℕ, ◌+◌, ◌*◌, ◌/◌, ◌%◌, Bool, false, if◌then◌else◌}
 use Rattle.m51_alu.specs.declared.sum.Sum.{Sum}
 use Rattle.m51_isa.specs.Targets.{relative}
 use Rattle.m51_flat.specs.declared.state.Cpu.{Cpu}

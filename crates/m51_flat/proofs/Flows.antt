@@ -23,7 +23,7 @@ use Rattle.m51_flat.specs.Meaning.{plan, plan_of, started}
 use Rattle.m51_flat.specs.Laws.{Always, FlowIsKept, Follows, GoesOn, IsCall, next_address}
 use Rattle.m51_flat.proofs.EveryAction.{IsKept, walk}
 
--- control goes on, or by a branch jumps
+-- control continues with the next instruction, or jumps by a branch
 abbrev Goes : Flow → ℕ → Effect → Type 0
 Goes Branch next e = GoesOn next e ⊎ (e.transfer ≡ Jump)
 Goes _ next e = GoesOn next e

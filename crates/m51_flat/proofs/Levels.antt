@@ -102,7 +102,7 @@ module _ (old : Cpu) where
   plan_levels image ext e (Return from) h = returned_levels e from h
   plan_levels image ext e action h = walk holds_off Keeps Keeps e.cpu.pc (λ _. Unit {0}) (levels_kept e.cpu.pc) image ext e action refl tt h
 
--- what is written depends on the registers alone
+-- what is written depends only on the registers
 same_writes : (cpu : Cpu) (pc : ℕ) (held : Bool) (w : Written) → is_written holds_off (record cpu { pc = pc; held = held }) w ≡ is_written holds_off cpu w
 unfolding flag latch
 same_writes cpu pc held w = refl

@@ -1,17 +1,10 @@
 -- The outcome of a step over a store: its effect, or why it has none.
 use Rattle.std.specs.Prelude.{Result, Ok, Err}
-use Rattle.m51_cells.specs.declared.cell.Cell.{Cell}
 use Rattle.m51_flat.specs.declared.state.Effect.{Effect}
 use Rattle.m51_flat.specs.declared.state.NoEffect.{NoEffect}
 use Rattle.m51_flat.specs.declared.state.NoEffect.TheVariants as lacks
-
--- its effect, or a cell that it would read or write and that is outside the store, or one that it would read and that
--- was never written, or that it would set the power-down bit of PCON
-pub data Outcome : Type 0 where
-  Done : Effect → Outcome
-  Outside : Cell → Outcome
-  Unset : Cell → Outcome
-  PowerDown : Outcome
+pub use Rattle.m51_flat.specs.declared.state.Outcome.{Outcome}
+pub use Rattle.m51_flat.specs.declared.state.Outcome.TheVariants.{Done, Outside, Unset, PowerDown}
 
 -- the outcome of a function, from its answer and the effect that it leaves in a variable of its caller
 abbrev pub outcome_by : {A : Type 0} → Result A NoEffect → Effect → Outcome

@@ -14,7 +14,7 @@ ghost use Rattle.m51_flat.specs.States.{shut_of};
 
 use crate::action_table::action_for;
 use crate::performing::perform;
-use crate::state::{Cpu, Effect, Missing, NoEffect, Pins, Put, Transfer};
+use crate::state::{Cpu, Effect, Missing, NoEffect, Outcome, Pins, Put, Transfer};
 use crate::store::CellStore;
 use m51_cells::Cell;
 use m51_isa::{Instr, cycles, length};
@@ -160,16 +160,54 @@ fn run<M: CellStore>(
     }
 }
 
-/// The outcome of an instruction over a store, where `image` has 65,536 bytes. It changes only the effect, which has no
-/// meaning after an error; the caller puts `first` and then `second`.
+/// The outcome of an instruction over a store, where `image` has 65,536 bytes. It changes nothing: the caller puts `first`
+/// and then `second`.
 ///
 /// - `Outside` and `Unset`: the first read that the store does not answer, in the order of the operands.
 /// - `Outside`, else: the lowest cell of the first put, then of the second, that may not be written.
 /// - `PowerDown`, else: PCON bit 1 would be set.
 ///
 /// Source: family manual; own choice ("Effects").
+pub fn exec<M: CellStore>(cpu: &Cpu, store: &M, instr: &Instr, image: &[u8], ext: &Pins) -> Outcome
+    requires { length image.now ≡ 65536 }
+    ensures outcome { result
+        ≡ outcome_of cpu.now (M.cells store.now) (M.barred store.now) instr.now image.now ext.now }
+
+    // Over any map that agrees with the store: its reads up to the first that fails, or else its effect.
+    ensures over_map { (m : CellMap) → Agrees (M.cells store.now) m → result
+        ≡ outcome_over m cpu.now (M.cells store.now) (M.barred store.now) instr.now image.now ext.now }
+
+    // A cell that it names exists, and is outside or barred, or was never written.
+    ensures missing { IsCause (M.cells store.now) (M.barred store.now) result }
+
+    // Over a store that holds a map, and of which no cell is barred: the effect over the map, or power-down.
+    ensures whole { (m : CellMap) → IsWhole (M.cells store.now) (M.barred store.now) m
+        → result ≡ unless_down (result_over m (plan_of cpu.now instr.now image.now ext.now)) }
+
+    // PSW bit 0 stays the parity of ACC.
+    ensures parity { HasParity cpu.now → IfDone result (λ e. HasParity e.cpu) }
+
+    // Control continues by the flow of the instruction: PC of the next, a call's two bytes, SP after a call or a
+    // return.
+    ensures control { IfDone result (λ e.
+        Follows (flow_of instr.now) (next_address cpu.now instr.now) (latch cpu.now sp) e) }
+
+    // RETI ends the higher level in progress, and all others keep both. Interrupts are held off exactly after RETI and
+    // after a write of IE, IP or a bit of them.
+    ensures levels { IfDone result (λ e.
+        LevelsFollow (flow_of instr.now) (writes_ie_or_ip cpu.now instr.now) cpu.now e) }
+{
+    let mut effect = Effect::none(cpu);
+    let answer = exec_into(cpu, store, instr, image, ext, &mut effect);
+    Outcome::of(answer, &effect)
+}
+
+/// The outcome of an instruction over a store, as `exec` answers it, with its effect in a variable of the caller. It
+/// changes only the effect, which has no meaning after an error.
+///
+/// Source: own choice ("Effects").
 #[inline(always)]
-pub fn exec<M: CellStore>(
+pub fn exec_into<M: CellStore>(
     cpu: &Cpu,
     store: &M,
     instr: &Instr,

@@ -1,5 +1,7 @@
 //! The processor's state, what an instruction changes, and its outcome.
 ghost use Rattle.std.specs.Prelude.{◌≡◌};
+ghost use Rattle.m51_flat.specs.Meaning.{still};
+ghost use Rattle.m51_flat.specs.Outcome.{outcome_by};
 ghost use Rattle.m51_flat.specs.Vectors.{vector_of};
 
 use m51_cells::Cell;
@@ -154,6 +156,57 @@ pub struct Effect {
     pub sbuf: Option<u8>,
     /// Machine cycles, 1 to 4.
     pub cycles: u8,
+}
+
+impl Effect {
+    /// That of a step of no machine cycle that changes nothing, and after which interrupts are not held off: what a call
+    /// begins with that fills an effect.
+    ///
+    /// Source: own choice ("Effects").
+    pub fn none(cpu: &Cpu) -> Effect
+        ensures { result ≡ still cpu.now 0 }
+    {
+        Effect {
+            cpu: Cpu { held: false, ..*cpu },
+            first: Put::Nothing,
+            second: Put::Nothing,
+            transfer: Transfer::Next,
+            port: None,
+            sbuf: None,
+            cycles: 0,
+        }
+    }
+}
+
+/// The outcome of a step over a store: its effect, or why it has none.
+///
+/// Source: own choice ("Effects").
+#[derive(Clone, Copy, Debug, PartialEq, Eq)]
+pub enum Outcome {
+    /// This effect.
+    Done(Effect),
+    /// It would read this cell, which is outside the store, or write it, which it may not.
+    Outside(Cell),
+    /// It would read this cell, which was never written.
+    Unset(Cell),
+    /// It would set the power-down bit of PCON.
+    PowerDown,
+}
+
+impl Outcome {
+    /// That of a call which leaves its effect in a variable of its caller.
+    ///
+    /// Source: own choice ("Effects").
+    pub fn of(answer: Result<(), NoEffect>, effect: &Effect) -> Outcome
+        ensures { result ≡ outcome_by answer effect.now }
+    {
+        match answer {
+            Ok(()) => Outcome::Done(*effect),
+            Err(NoEffect::Outside(cell)) => Outcome::Outside(cell),
+            Err(NoEffect::Unset(cell)) => Outcome::Unset(cell),
+            Err(NoEffect::PowerDown) => Outcome::PowerDown,
+        }
+    }
 }
 
 /// Why an instruction has no effect.

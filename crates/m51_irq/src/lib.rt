@@ -11,4 +11,4 @@ pub use laws::{
     a_return_ends_the_top_level, levels_are_nested, no_interrupt_over_the_high_level,
     none_is_taken_at_once, the_first_that_may_be_taken_is_chosen,
 };
-pub use vectoring::{acknowledge, vector};
+pub use vectoring::{acknowledge, vector, vector_into};

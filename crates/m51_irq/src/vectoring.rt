@@ -9,7 +9,7 @@ ghost use Rattle.m51_irq.specs.Vectoring.{vectored, vectoring};
 
 use crate::sources::level_of;
 use m51_flat::{
-    CellStore, Cpu, Effect, Level, NoEffect, Source, Transfer, begin, conclude, stack_pc,
+    CellStore, Cpu, Effect, Level, NoEffect, Outcome, Source, Transfer, begin, conclude, stack_pc,
 };
 use m51_sfr::addresses::{PCON, TCON};
 use m51_sfr::bits::{IDL, IE0, IE1, IT0, IT1, TF0, TF1};
@@ -83,14 +83,38 @@ fn vector_effect(effect: &mut Effect, cpu: &Cpu, source: Source)
     effect.transfer = Transfer::Vector(source);
 }
 
-/// What taking an interrupt does over a store. It changes only the effect: the caller puts `first` and then `second`.
-/// After an error the effect has no meaning.
+/// The outcome of taking an interrupt over a store. It changes nothing: the caller puts `first` and then `second`.
 ///
 /// - `Outside`: the lowest cell of the first put, then of the second, that may not be written.
-/// - No error, else: the interrupt is acknowledged, and its vector called, in two cycles.
+/// - `Done`, else: the interrupt is acknowledged, and its vector called, in two cycles.
 ///
 /// Source: family manual; own choice ("Effects").
-pub fn vector<M: CellStore>(
+pub fn vector<M: CellStore>(cpu: &Cpu, store: &M, source: Source) -> Outcome
+    ensures outcome { result ≡ vectored cpu.now (M.barred store.now) source }
+
+    // A cell that it names exists and is barred.
+    ensures missing { IsCause (M.cells store.now) (M.barred store.now) result }
+
+    // Over a store of which no cell is barred: the effect.
+    ensures whole { ((c : Cell) → M.barred store.now c ≡ false)
+        → result ≡ Done (vectoring cpu.now source) }
+
+    // PSW bit 0 stays the parity of ACC.
+    ensures parity { HasParity cpu.now → IfDone result (λ e. HasParity e.cpu) }
+
+    // PC is the vector; its old value is stored above the stack, low byte first, and SP is raised by two.
+    ensures control { IfDone result (IsVectoring cpu.now source) }
+{
+    let mut effect = Effect::none(cpu);
+    let answer = vector_into(cpu, store, source, &mut effect);
+    Outcome::of(answer, &effect)
+}
+
+/// The outcome of taking an interrupt, as `vector` answers it, with its effect in a variable of the caller. It changes
+/// only the effect, which has no meaning after an error.
+///
+/// Source: own choice ("Effects").
+pub fn vector_into<M: CellStore>(
     cpu: &Cpu,
     store: &M,
     source: Source,

@@ -16,8 +16,8 @@ use crate::attempt::Attempt;
 use crate::chip::{Chip, idle, place};
 use crate::runs::{Entries, RunEnd, Steps, run};
 use m51_cells::{Event, NoMemory};
-use m51_flat::{CellStore, Cpu, Effect, FlatRam, NoEffect, Put, Source, exec};
-use m51_irq::vector;
+use m51_flat::{CellStore, Cpu, Effect, FlatRam, NoEffect, Put, Source, exec_into};
+use m51_irq::vector_into;
 use m51_isa::Instr;
 use m51_module::{Image, Placed};
 use m51_script::Script;
@@ -90,7 +90,7 @@ fn execute(chip: &Chip, memory: &FlatRam, instr: &Instr, effect: &mut Effect) ->
         ((inputs_of chip.now.script).pins chip.now.cycle) instr.now }
     ensures text { IfErr result (HasText 0) }
 {
-    match exec(
+    match exec_into(
         chip.cpu(),
         memory,
         instr,
@@ -109,7 +109,7 @@ fn execute(chip: &Chip, memory: &FlatRam, instr: &Instr, effect: &mut Effect) ->
 fn take(effect: &mut Effect, cpu: &Cpu, memory: &FlatRam, source: Source)
     ensures { effect.new ≡ vectoring cpu.now source }
 {
-    match vector(cpu, memory, source, effect) {
+    match vector_into(cpu, memory, source, effect) {
         Ok(()) => {}
         // Each cell may be written.
         Err(NoEffect::Outside(_) | NoEffect::Unset(_) | NoEffect::PowerDown) => unreachable!(),

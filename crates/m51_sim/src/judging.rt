@@ -27,8 +27,8 @@ ghost use Rattle.m51_monitor.specs.declared.step.Move.TheVariants.{Stay};
 use crate::attempt::Attempt;
 use crate::chip::{Chip, idle};
 use m51_cells::{Cell, Event, Why};
-use m51_flat::{Cpu, Effect, NoEffect, Source, exec};
-use m51_irq::vector;
+use m51_flat::{Cpu, Effect, NoEffect, Source, exec_into};
+use m51_irq::vector_into;
 use m51_isa::{Instr, length};
 use m51_module::Layout;
 use m51_monitor::{Monitor, Move};
@@ -128,7 +128,7 @@ fn instr_outcome(
     ensures ready { IsReady monitor.now chip.now.cpu (outcome_by result effect.new) }
 {
     stand(monitor);
-    exec(
+    exec_into(
         chip.cpu(),
         monitor.store(),
         instr,
@@ -177,7 +177,7 @@ fn vector_outcome(
     ensures ready { IsReady monitor.now cpu.now (outcome_by result effect.new) }
 {
     stand(monitor);
-    vector(cpu, monitor.store(), source, effect)
+    vector_into(cpu, monitor.store(), source, effect)
 }
 
 // The vectoring of an interrupt.

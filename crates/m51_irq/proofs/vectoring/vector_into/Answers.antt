@@ -1,7 +1,7 @@
 use Rattle.std.proofs.Common.{rules}
 use Rattle.m51_flat.specs.Outcome.{outcome_by}
 use Rattle.m51_irq.proofs.Taken.{registers_before, vector_control, vector_parity, vector_whole}
-use Rattle.m51_irq.proofs.vectoring.vector.Goals as goal
+use Rattle.m51_irq.proofs.vectoring.vector_into.Goals as goal
 
 pub returns-clause-whole : goal.returns-clause-whole
 returns-clause-whole g c =

@@ -3,7 +3,7 @@ use Rattle.m51_flat.specs.Causes.{IsCause}
 use Rattle.m51_flat.specs.Outcome.{outcome_by}
 use Rattle.m51_flat.proofs.Outcomes.{keeps_control, keeps_levels, keeps_parity, over_map}
 use Rattle.m51_flat.proofs.Whole.{whole_outcome}
-use Rattle.m51_flat.proofs.executing.exec.Goals as goal
+use Rattle.m51_flat.proofs.executing.exec_into.Goals as goal
 
 pub returns-clause-over_map : goal.returns-clause-over_map
 returns-clause-over_map g c =

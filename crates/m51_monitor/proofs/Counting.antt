@@ -21,43 +21,16 @@ use Rattle.m51_monitor.specs.Related.{AreRelatedAll}
 use Rattle.m51_monitor.specs.Rising.{one_more, interrupts}
 use Rattle.m51_flat.specs.Vectors.{vector_of}
 use Rattle.m51_monitor.proofs.Entering.{times_same}
-use Rattle.m51_monitor.proofs.Lists.{contains_tail, contains_cases, first_append, among_tells, times_none}
+use Rattle.m51_monitor.proofs.Lists.{Differ, contains_tail, contains_cases, differ_times, first_append, among_tells, most_one, no_plus}
 use Rattle.m51_monitor.proofs.Standing.{all_related}
-
--- no number twice
-abbrev Differ : List ℕ → Type 0
-Differ [] = Unit {0}
-Differ (u ∷ us) = (Contains us u → ⊥) × Differ us
 
 where_plus : (b : Bool) (n k : ℕ) → one_more_where b n + k ≡ one_more_where b (n + k)
 where_plus true n k = omega arith
 where_plus false n k = refl
 
-no_plus : (b : Bool) (n : ℕ) → one_more_where b n ≡ one_more_where b 0 + n
-no_plus true n = omega arith
-no_plus false n = omega arith
-
 times_append : (us vs : List ℕ) (u : ℕ) → times (us ++ vs) u ≡ times us u + times vs u
 times_append [] vs u = omega arith
 times_append (x ∷ us) vs u = ap (one_more_where (nat_eq x u)) (times_append us vs u) ∙ sym (where_plus (nat_eq x u) (times us u) (times vs u))
-
--- of different numbers each stands there once
-once : (us : List ℕ) (u : ℕ) → Differ us → Contains us u → times us u ≡ 1
-once [] u h k = absurd (none_in_empty u k)
-once (v ∷ us) u h k = ⊎_elim
-    (λ (t : (nat_eq v u ≡ true) × (v ≡ u)). rw t.0 (ap (λ n. n + 1) (times_none us u (λ q. h.0 (subst (Contains us) (sym t.1) q)))))
-    (λ (t : (nat_eq v u ≡ false) × (v ≢ u)). rw t.0 (once us u h.1 (⊎_elim (λ (e : u ≡ v). absurd (t.1 (sym e))) (λ (q : Contains us u). q) (contains_cases u v us k))))
-    (eqb_tells v u)
-
-differ_times : (us : List ℕ) (u : ℕ) → Differ us → times us u ≡ one_more_where (is_among us u) 0
-differ_times us u h = ⊎_elim
-    (λ (t : (is_among us u ≡ true) × Contains us u). once us u h t.1 ∙ rw t.0 refl)
-    (λ (t : (is_among us u ≡ false) × (Contains us u → ⊥)). times_none us u t.1 ∙ rw t.0 refl)
-    (among_tells us u)
-
-most_one : (b : Bool) → one_more_where b 0 ≤ 1
-most_one true = omega arith
-most_one false = omega arith
 
 -- The walk that runs, and what is below it: at most a thousand units, and each at most once, for each of the other roots.
 record Walked (l : LayoutParts) (c others : ℕ) (us : List ℕ) : Type 0 where

@@ -44,7 +44,7 @@ beside e c same out = ⊎_elim
     (λ (h : (c.at < e.first) ⊎ (e.first + e.len ≤ c.at)). h)
     (between_or_beside e.first e.len c.at)
 
-pub on_ram : (e : Extent) (value : Bool) (ram xram new : List Bool) → e.space ≡ Ram → AreSet e.first e.len value ram new
+pub on_ram : (e : Extent) (value : Bool) (ram xram new : List Bool) → e.space ≡ Ram → AreSet e.first (e.first + e.len) value ram new
     → IsMarked e value (record { ram = ram; xram = xram }) (record { ram = new; xram = xram })
 on_ram e value ram xram new space set = record {
   inside = λ c h covers. subst (λ (s : Space). flag_in (record { ram = new; xram = xram }) s c.at ≡ value) (sym (covers.space ∙ space)) (set.inside c.at covers.from covers.below);
@@ -57,7 +57,7 @@ on_ram e value ram xram new space set = record {
     by_space Xram at h = refl
     by_space Code at h = refl
 
-pub on_xram : (e : Extent) (value : Bool) (ram xram new : List Bool) → e.space ≡ Xram → AreSet e.first e.len value xram new
+pub on_xram : (e : Extent) (value : Bool) (ram xram new : List Bool) → e.space ≡ Xram → AreSet e.first (e.first + e.len) value xram new
     → IsMarked e value (record { ram = ram; xram = xram }) (record { ram = ram; xram = new })
 on_xram e value ram xram new space set = record {
   inside = λ c h covers. subst (λ (s : Space). flag_in (record { ram = ram; xram = new }) s c.at ≡ value) (sym (covers.space ∙ space)) (set.inside c.at covers.from covers.below);

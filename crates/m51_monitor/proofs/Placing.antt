@@ -1,5 +1,5 @@
 -- Segments of a sound layout turn live or outside.
-use Rattle.std.proofs.Common.{◌≡◌, ◌⊎◌, inl, inr, ℕ, Bool, zero, suc, ◌+◌, ◌<◌, ◌≤◌, true, false, Some, List, [], ◌∷◌, length, refl, sym, ap, subst, ◌∙◌, ⊎_elim, arith}
+use Rattle.std.proofs.Common.{◌≡◌, ◌≢◌, ◌⊎◌, inl, inr, ℕ, Bool, zero, suc, ◌+◌, ◌<◌, ◌≤◌, false, Some, List, [], ◌∷◌, length, refl, sym, ap, subst, ◌∙◌, ⊎_elim, arith}
 use Rattle.std.specs.Prelude.{slice_index, slice_index_or}
 use Rattle.std.specs.List.{Contains}
 use Rattle.std.proofs.lemmas.Option.{slice_get-get_or, slice_get_within}
@@ -10,11 +10,11 @@ use Rattle.m51_cells.specs.Extent.{Covers}
 use Rattle.m51_module.specs.declared.parts.LayoutParts.{LayoutParts}
 use Rattle.m51_module.specs.declared.placed.Placed.{Placed}
 use Rattle.m51_module.specs.Cells.{extent_at}
-use Rattle.m51_module.specs.Plan.{IsPlaced, owners_of, AreLocals}
+use Rattle.m51_module.specs.Plan.{IsPlaced, AreLocals}
 use Rattle.m51_module.specs.Sound.{IsSound, IsFit}
 use Rattle.m51_flat.specs.States.{CellState}
 use Rattle.m51_monitor.specs.Shared.{Shared, cell_state, IsTurned}
-use Rattle.m51_monitor.specs.Turning.{Turned, Under, Beside, AreTurned, none_is_active, IsLocalOf, IsLocalAmong}
+use Rattle.m51_monitor.specs.Turning.{Turned, Under, Beside, AreTurned, IsLocalOf, IsLocalAmong}
 use Rattle.m51_monitor.proofs.Reading.{covers_or_not}
 
 pub placed_at : (l : LayoutParts) (t : ℕ) (p : Placed) → t < length l.placed → slice_index_or l.placed t p ≡ p → IsPlaced l t p
@@ -62,41 +62,41 @@ get_or_same (x ∷ xs) (suc k) d h = get_or_same xs k d (omega (arith, h))
 pub last_or_before : (t k : ℕ) → t < k + 1 → (t ≡ k) ⊎ (t < k)
 last_or_before t k h = ⊎_elim (λ (q : t < k). inr q) (λ (q : k ≤ t). inl (omega (arith, q, h))) (cases_lt t k)
 
-module _ (l : LayoutParts) (numbers locals : List ℕ) (place : ℕ) (to : CellState) (below : place < length locals) where
-  before : (t : ℕ) → IsLocalAmong l numbers locals place t → IsLocalAmong l numbers locals (place + 1) t
-  before t k = record { place = k.place; below = omega (arith, k.below); inside = k.inside; is = k.is; quiet = k.quiet }
+module _ (l : LayoutParts) (holders locals : List ℕ) (place : ℕ) (to : CellState) (below : place < length locals) where
+  before : (t : ℕ) → IsLocalAmong holders locals place t → IsLocalAmong holders locals (place + 1) t
+  before t k = record { place = k.place; below = omega (arith, k.below); inside = k.inside; is = k.is; free = k.free }
 
-  here_or_before : (t : ℕ) → IsLocalAmong l numbers locals (place + 1) t → (t ≡ slice_index locals place) ⊎ IsLocalAmong l numbers locals place t
+  here_or_before : (t : ℕ) → IsLocalAmong holders locals (place + 1) t → (t ≡ slice_index locals place) ⊎ IsLocalAmong holders locals place t
   here_or_before t k = ⊎_elim
       (λ (e : k.place ≡ place). inl (sym k.is ∙ ap (slice_index locals) e))
-      (λ (h : k.place < place). inr (record { place = k.place; below = h; inside = k.inside; is = k.is; quiet = k.quiet }))
+      (λ (h : k.place < place). inr (record { place = k.place; below = h; inside = k.inside; is = k.is; free = k.free }))
       (last_or_before k.place place k.below)
 
   -- the segment at this place has turned
-  pub turned : (p : Placed) (old mid new : Shared) → IsPlaced l (slice_index locals place) p → none_is_active numbers (owners_of l.owners (slice_index locals place)) ≡ true → IsTurned (extent_at p) to mid new
-      → AreTurned l (IsLocalAmong l numbers locals place) to old mid → AreTurned l (IsLocalAmong l numbers locals (place + 1)) to old new
-  turned p old mid new at quiet turn h =
-      next_turned l (IsLocalAmong l numbers locals place) (IsLocalAmong l numbers locals (place + 1)) to (slice_index locals place) p at
-      (record { place = place; below = omega arith; inside = below; is = refl; quiet = quiet })
+  pub turned : (p : Placed) (old mid new : Shared) → IsPlaced l (slice_index locals place) p → slice_index holders (slice_index locals place) ≡ 0 → IsTurned (extent_at p) to mid new
+      → AreTurned l (IsLocalAmong holders locals place) to old mid → AreTurned l (IsLocalAmong holders locals (place + 1)) to old new
+  turned p old mid new at free turn h =
+      next_turned l (IsLocalAmong holders locals place) (IsLocalAmong holders locals (place + 1)) to (slice_index locals place) p at
+      (record { place = place; below = omega arith; inside = below; is = refl; free = free })
       before here_or_before old mid new turn h
 
-  -- it stays, as an owner is active
-  pub stays : (old mid : Shared) → none_is_active numbers (owners_of l.owners (slice_index locals place)) ≡ false → AreTurned l (IsLocalAmong l numbers locals place) to old mid → AreTurned l (IsLocalAmong l numbers locals (place + 1)) to old mid
-  stays old mid loud h = turned_as l (IsLocalAmong l numbers locals place) (IsLocalAmong l numbers locals (place + 1)) to old mid
+  -- it stays, as something holds it
+  pub stays : (old mid : Shared) → slice_index holders (slice_index locals place) ≢ 0 → AreTurned l (IsLocalAmong holders locals place) to old mid → AreTurned l (IsLocalAmong holders locals (place + 1)) to old mid
+  stays old mid held h = turned_as l (IsLocalAmong holders locals place) (IsLocalAmong holders locals (place + 1)) to old mid
       before
       (λ t k. ⊎_elim
-      (λ (e : t ≡ slice_index locals place). cc (subst (λ t. none_is_active numbers (owners_of l.owners t) ≡ true) e k.quiet, loud))
-      (λ (m : IsLocalAmong l numbers locals place t). m)
+      (λ (e : t ≡ slice_index locals place). absurd (held (subst (λ t. slice_index holders t ≡ 0) e k.free)))
+      (λ (m : IsLocalAmong holders locals place t). m)
       (here_or_before t k))
       h
 
-pub none : (l : LayoutParts) (numbers locals : List ℕ) (to : CellState) (m : Shared) → AreTurned l (IsLocalAmong l numbers locals 0) to m m
-none l numbers locals to m = none_among l (IsLocalAmong l numbers locals 0) to m (λ t k. omega (arith, k.below))
+pub none : (l : LayoutParts) (holders locals : List ℕ) (to : CellState) (m : Shared) → AreTurned l (IsLocalAmong holders locals 0) to m m
+none l holders locals to m = none_among l (IsLocalAmong holders locals 0) to m (λ t k. omega (arith, k.below))
 
-pub turned_all : (l : LayoutParts) (numbers locals : List ℕ) (unit : ℕ) (to : CellState) (old new : Shared) → AreLocals l unit locals → AreTurned l (IsLocalAmong l numbers locals (length locals)) to old new → AreTurned l (IsLocalOf l numbers unit) to old new
-turned_all l numbers locals unit to old new are h = turned_as l (IsLocalAmong l numbers locals (length locals)) (IsLocalOf l numbers unit) to old new
-    (λ t k. record { owns = (are.owned t).0 (subst (Contains locals) k.is (Contains-get_or locals k.place 0 k.inside)); quiet = k.quiet })
-    (λ t k. let c = (are.owned t).1 k.owns in record { place = c.0; below = c.1; inside = c.1; is = get_or_same locals c.0 t c.1 ∙ c.2; quiet = k.quiet })
+pub turned_all : (l : LayoutParts) (holders locals : List ℕ) (unit : ℕ) (to : CellState) (old new : Shared) → AreLocals l unit locals → AreTurned l (IsLocalAmong holders locals (length locals)) to old new → AreTurned l (IsLocalOf l holders unit) to old new
+turned_all l holders locals unit to old new are h = turned_as l (IsLocalAmong holders locals (length locals)) (IsLocalOf l holders unit) to old new
+    (λ t k. record { owns = (are.owned t).0 (subst (Contains locals) k.is (Contains-get_or locals k.place 0 k.inside)); free = k.free })
+    (λ t k. let c = (are.owned t).1 k.owns in record { place = c.0; below = c.1; inside = c.1; is = get_or_same locals c.0 t c.1 ∙ c.2; free = k.free })
     h
 
 -- what a unit owns is placed

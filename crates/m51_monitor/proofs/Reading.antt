@@ -125,6 +125,10 @@ pub byte_value : (m : Shared) (a : ℕ) → AreHeld m a 8 → byte_seen (shared_
 unfolding byte_seen
 byte_value m a all = bits_same (shared_cells m) (flat_cells m.memory) 8 (8 * a) all
 
+-- all of them were written, as the mask says
+pub byte_written : (m : Shared) (a : ℕ) → IsShared m → ((n : ℕ) → 8 * a ≤ n → n < 8 * a + 8 → flag_of m.written (ram_cell n) ≡ true) → byte_seen (shared_cells m) a ≡ byte_seen (flat_cells m.memory) a
+byte_written m a is all = byte_value m a (λ j h. written m (8 * a + j) is (all (8 * a + j) (omega arith) (omega (arith, h))))
+
 -- the first bit that has no value
 pub byte_blocked : (m : Shared) (a k : ℕ) → a < 256 → k < 8 → AreHeld m a k → Blocks ((shared_cells m).ram (8 * a + k)) → byte_seen (shared_cells m) a ≡ bit_seen (shared_cells m) (8 * a + k)
 unfolding byte_seen

@@ -1,11 +1,12 @@
--- What the monitor keeps beside the return addresses: the units that are active, how many records name each, and the
--- memory of their segments.
+-- What the monitor keeps beside the return addresses: the units that are active, how many records name each, how many
+-- of them own each segment, and the memory of their segments.
 use Rattle.std.specs.Prelude.{◌≡◌, ℕ, ◌<◌, Bool, ◌&&◌, nat_eq, List, [], ◌∷◌, length, slice_index}
 use Rattle.std.specs.List.{Contains}
 use Rattle.m51_cells.specs.declared.cell.Cell.{Cell}
 use Rattle.m51_module.specs.declared.parts.LayoutParts.{LayoutParts}
+use Rattle.m51_module.specs.Plan.{owners_of}
 use Rattle.m51_monitor.specs.declared.activity.TheConstants.{MOST_NAMED}
-use Rattle.m51_monitor.specs.Records.{one_more_where}
+use Rattle.m51_monitor.specs.Records.{is_among, one_more_where}
 use Rattle.m51_monitor.specs.Related.{AreRelatedAll}
 use Rattle.m51_monitor.specs.Shared.{Shared}
 use Rattle.m51_monitor.specs.Stores.{Stores, StandsFor, has_cell, live_by, unset_dead}
@@ -27,8 +28,19 @@ pub record AreTimes (l : LayoutParts) (units numbers : List ℕ) : Type 0 where
   pub number : (u : ℕ) → u < length l.units → slice_index numbers u ≡ times units u
   pub below : (u : ℕ) → Contains units u → u < length l.units
 
-pub record IsActivity (l : LayoutParts) (units numbers : List ℕ) (store : Shared) : Type 0 where
+-- how many of these units, one for each time that it stands there, own the segment
+abbrev pub holding : LayoutParts → List ℕ → ℕ → ℕ
+holding l [] t = 0
+holding l (u ∷ us) t = one_more_where (is_among (owners_of l.owners t) u) (holding l us t)
+
+-- a number for each placed extent, which says how many of the units own it
+pub record AreHolders (l : LayoutParts) (units holders : List ℕ) : Type 0 where
+  pub len : length holders ≡ length l.placed
+  pub number : (t : ℕ) → t < length l.placed → slice_index holders t ≡ holding l units t
+
+pub record IsActivity (l : LayoutParts) (units numbers holders : List ℕ) (store : Shared) : Type 0 where
   pub times_are : AreTimes l units numbers
+  pub holders_are : AreHolders l units holders
   pub related : AreRelatedAll l units
   pub stands : (s : Stores) × StandsFor l (live_by l units) store s
 

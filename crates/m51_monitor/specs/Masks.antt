@@ -1,11 +1,23 @@
 -- Masks: a flag for each cell of data memory.
-use Rattle.std.specs.Prelude.{◌≡◌, ℕ, Bool, false, List, length, slice_index_or}
+use Rattle.std.specs.Prelude.{◌≡◌, ℕ, Bool, false, List, [], ◌∷◌, nat_eq, length, slice_index_or}
+use Rattle.std.specs.Int.{bit_at}
 use Rattle.m51_cells.specs.declared.cell.Cell.{Cell}
 use Rattle.m51_cells.specs.declared.cell.Space.{Space}
 use Rattle.m51_cells.specs.declared.cell.Space.TheVariants.{Ram, Xram, Code}
 use Rattle.m51_cells.specs.declared.extent.Extent.{Extent}
 use Rattle.m51_cells.specs.Cells.{IsDataCell}
 use Rattle.m51_cells.specs.Extent.{Covers}
+
+-- a flag of a byte
+abbrev pub flag_at : ℕ → ℕ → Bool
+flag_at byte place = nat_eq (bit_at byte place) 1
+
+-- the flags of bytes, eight to a byte, the lowest bit's first
+abbrev pub flags_in : List ℕ → List Bool
+flags_in [] = []
+flags_in (b ∷ bs) =
+    flag_at b 0 ∷ flag_at b 1 ∷ flag_at b 2 ∷ flag_at b 3 ∷ flag_at b 4 ∷ flag_at b 5 ∷ flag_at b 6 ∷ flag_at b 7
+    ∷ flags_in bs
 
 -- the flags of the cells of internal RAM, and of those of external memory
 pub record Mask : Type 0 where

@@ -1,12 +1,11 @@
 -- What the cells hold after some segments turned live, or died.
-use Rattle.std.specs.Prelude.{◌≡◌, ◌⊎◌, ℕ, ◌<◌, Bool, true, false, not, nat_lt, List, length, slice_index}
-use Rattle.std.specs.List.{list_any}
+use Rattle.std.specs.Prelude.{◌≡◌, ◌⊎◌, ℕ, ◌<◌, true, false, List, length, slice_index}
 use Rattle.m51_cells.specs.declared.cell.Cell.{Cell}
 use Rattle.m51_cells.specs.Extent.{Covers}
 use Rattle.m51_module.specs.declared.parts.LayoutParts.{LayoutParts}
 use Rattle.m51_module.specs.declared.placed.Placed.{Placed}
 use Rattle.m51_module.specs.Cells.{extent_at}
-use Rattle.m51_module.specs.Plan.{IsPlaced, IsOverlaid, Owns, owners_of}
+use Rattle.m51_module.specs.Plan.{IsPlaced, IsOverlaid, Owns}
 use Rattle.m51_flat.specs.States.{CellState}
 use Rattle.m51_cells.specs.Cells.{IsDataCell}
 use Rattle.m51_monitor.specs.Shared.{Shared, cell_state}
@@ -21,22 +20,18 @@ pub data Turned (l : LayoutParts) (Is : ℕ → Type 0) (to : CellState) (c : Ce
 pub record AreTurned (l : LayoutParts) (Is : ℕ → Type 0) (to : CellState) (old new : Shared) : Type 0 where
   pub cell : (c : Cell) → IsDataCell c → Turned l Is to c (cell_state old c) (cell_state new c)
 
--- by these numbers of records no owner is active
-abbrev pub none_is_active : List ℕ → List ℕ → Bool
-none_is_active numbers owners = not (list_any (λ u. nat_lt 0 (slice_index numbers u)) owners)
-
--- a segment that the unit owns, and no other active one
-pub record IsLocalOf (l : LayoutParts) (numbers : List ℕ) (unit t : ℕ) : Type 0 where
+-- a segment that the unit owns, and that nothing holds by these numbers of holders
+pub record IsLocalOf (l : LayoutParts) (holders : List ℕ) (unit t : ℕ) : Type 0 where
   pub owns : Owns l unit t
-  pub quiet : none_is_active numbers (owners_of l.owners t) ≡ true
+  pub free : slice_index holders t ≡ 0
 
 -- the same among the first of these segments
-pub record IsLocalAmong (l : LayoutParts) (numbers locals : List ℕ) (count t : ℕ) : Type 0 where
+pub record IsLocalAmong (holders locals : List ℕ) (count t : ℕ) : Type 0 where
   pub place : ℕ
   pub below : place < count
   pub inside : place < length locals
   pub is : slice_index locals place ≡ t
-  pub quiet : none_is_active numbers (owners_of l.owners t) ≡ true
+  pub free : slice_index holders t ≡ 0
 
 -- an overlaid segment among the first so many
 pub record IsOverlaidAmong (l : LayoutParts) (count t : ℕ) : Type 0 where

@@ -1,17 +1,19 @@
 //! The units that are active, and the memory of their segments.
 ghost use Rattle.std.specs.Prelude.{◌≡◌, ◌≢◌, ◌+◌, ◌<◌, ◌≤◌, ◌∷◌, ◌↔◌, ℕ, IsTrue, true, false, List, [], IfOk, None};
-ghost use Rattle.std.specs.Prelude.{Some, IfSome, IfNone, length, slice_index, slice_get, reverse, drop, ◌-◌, nat_lt};
-ghost use Rattle.std.specs.List.{Contains, list_any};
+ghost use Rattle.std.specs.Prelude.{Some, IfSome, IfNone, length, slice_index, slice_get, reverse, drop, ◌-◌};
+ghost use Rattle.std.specs.List.{Contains};
 ghost use Rattle.m51_cells.specs.declared.cell.Cell.{Cell};
-ghost use Rattle.m51_module.specs.Plan.{IsPlaced, Owns, owners_of};
+ghost use Rattle.m51_module.specs.Plan.{IsPlaced};
 ghost use Rattle.m51_module.specs.Sound.{IsSound, IsFit};
 ghost use Rattle.m51_flat.specs.States.{Absent, shut_of};
-ghost use Rattle.m51_monitor.specs.Activity.{Activity, AreTimes, MayEnter, KeepsStores, answers_in};
+ghost use Rattle.m51_monitor.specs.Activity.{Activity, AreHolders, AreTimes, MayEnter, KeepsStores, answers_in};
+ghost use Rattle.m51_monitor.specs.Activity.{times};
+ghost use Rattle.m51_monitor.specs.declared.activity.TheConstants.{MOST_NAMED};
 ghost use Rattle.m51_monitor.specs.Records.{first_or};
 ghost use Rattle.m51_monitor.specs.Resolved.{outside_of};
 ghost use Rattle.m51_monitor.specs.Shared.{Shared, shared_barred, shared_cells, turned_to};
 ghost use Rattle.m51_monitor.specs.Stores.{Stores, StandsFor, filled_stores, has_cell, live_by, put_into};
-ghost use Rattle.m51_monitor.specs.Turning.{AreTurned, IsOverlaidAmong, IsLocalAmong, IsLocalOf, none_is_active};
+ghost use Rattle.m51_monitor.specs.Turning.{AreTurned, IsOverlaidAmong, IsLocalAmong, IsLocalOf};
 
 use crate::covering::{is_data, is_over, is_overlaid};
 use crate::shared::SharedRam;
@@ -27,13 +29,16 @@ use std::marker::Model;
 /// Source: own choice ("Activations").
 pub const MOST_NAMED: usize = 3_000;
 
-/// The units that the records name, how many records name each unit, and the memory.
+/// The units that the records name, how many records name each unit, how many of the named units own each segment, and
+/// the memory.
 #[derive(Drop)]
 pub(crate) struct Activity {
     layout: Layout,
     store: SharedRam,
     units: Vec<u16>,
     numbers: Vec<u8>,
+    // With these an entry or a return costs the segments of its unit, and not their owners.
+    holders: Vec<u16>,
 }
 
 impl Model for Activity {
@@ -45,8 +50,8 @@ impl Model for Activity {
 
     ghost view = { λ a. record { layout = a.layout; units = reverse a.units.items; store = a.store } };
 
-    ghost invariant = { λ a. active.IsActivity a.layout (reverse a.units.items) a.numbers.items a.store
-        × (MOST_NAMED ≤ vec_capacity a.units) };
+    ghost invariant = { λ a. active.IsActivity a.layout (reverse a.units.items) a.numbers.items a.holders.items
+        a.store × (MOST_NAMED ≤ vec_capacity a.units) };
 }
 
 // A placed extent, which is as a sound layout has it.
@@ -59,77 +64,88 @@ fn placed_at(layout: &Layout, segment: usize) -> &Placed
     &layout.placed()[segment]
 }
 
-// By these numbers of records the unit is active.
-fn is_named(numbers: &[u8], unit: u16) -> bool
-    ensures { result ≡ nat_lt 0 (slice_index numbers.now unit) }
-{
-    match numbers.get(usize::from(unit)) {
-        Some(number) => *number > 0,
-        None => false,
-    }
-}
-
-// By these numbers of records some owner is active.
-fn any_named(numbers: &[u8], owners: &[u16]) -> bool
-    ensures { result ≡ list_any (λ u. nat_lt 0 (slice_index numbers.now u)) owners.now }
-{
-    owners.iter().any(|owner| is_named(numbers, *owner))
-}
-
-// By these numbers of records no owner is active.
-fn none_is_active(numbers: &[u8], owners: &[u16]) -> bool
-    ensures { result ≡ none_is_active numbers.now owners.now }
-{
-    !any_named(numbers, owners)
-}
-
-// Turns the segment of this place in the list live and unset, or outside, where no owner is active.
+// Turns the segment of this place in the list live and unset, or outside, where nothing holds it.
 #[tactic(auto, using(crate::proofs::Placing::turned, crate::proofs::Placing::stays, crate::proofs::Placing::item_is))]
 fn turn_local(
     store: &mut SharedRam,
     layout: &Layout,
-    numbers: &[u8],
+    holders: &[u16],
     locals: &[u16],
     place: usize,
     live: bool,
 )
     requires place { place < length locals.now }
     requires locals { (t : ℕ) → Contains locals.now t → t < length layout.now.placed }
+    requires holders { length holders.now ≡ length layout.now.placed }
     ensures { (old : Shared)
-        → AreTurned layout.now (IsLocalAmong layout.now numbers.now locals.now place) (turned_to live) old store.old
-        → AreTurned layout.now (IsLocalAmong layout.now numbers.now locals.now (place + 1))
-        (turned_to live) old store.new }
+        → AreTurned layout.now (IsLocalAmong holders.now locals.now place) (turned_to live) old store.old
+        → AreTurned layout.now (IsLocalAmong holders.now locals.now (place + 1)) (turned_to live) old store.new }
 {
     let segment = locals[place];
-    if none_is_active(numbers, layout.owners(segment)) {
+    if holders[usize::from(segment)] == 0 {
         store.turn(placed_at(layout, usize::from(segment)).cells(), live);
     }
 }
 
-// Turns the segments that the unit owns live and unset, or outside, but for those of which an owner is active.
+// Turns the segments that the unit owns live and unset, or outside, but for those that something holds.
 #[tactic(auto, using(crate::proofs::Placing::none, crate::proofs::Placing::turned_all, crate::proofs::Placing::below))]
-fn turn_owned(store: &mut SharedRam, layout: &Layout, numbers: &[u8], unit: u16, live: bool)
-    requires { unit < length layout.now.units }
-    ensures { AreTurned layout.now (IsLocalOf layout.now numbers.now unit) (turned_to live) store.old store.new }
+fn turn_locals(store: &mut SharedRam, layout: &Layout, holders: &[u16], unit: u16, live: bool)
+    requires unit { unit < length layout.now.units }
+    requires holders { length holders.now ≡ length layout.now.placed }
+    ensures turned { AreTurned layout.now (IsLocalOf layout.now holders.now unit) (turned_to live) store.old store.new }
+    ensures sound { IsSound layout.now }
 {
     let _sound = layout.placed();
     let locals = layout.locals(unit);
     for place in 0..locals.len() {
-        turn_local(store, layout, numbers, locals, place, live);
+        turn_local(store, layout, holders, locals, place, live);
     }
 }
 
-// The same, where no record names the unit; else nothing turns, as an owner of each of its segments is active.
-#[tactic(auto, using(crate::proofs::Placing::none_among, crate::proofs::Entering::none_local))]
-fn turn_locals(store: &mut SharedRam, layout: &Layout, numbers: &[u8], unit: u16, live: bool)
-    requires { unit < length layout.now.units }
-    ensures turned { AreTurned layout.now (IsLocalOf layout.now numbers.now unit) (turned_to live) store.old store.new }
-    ensures sound { IsSound layout.now }
+// Counts one holder more of each of these segments.
+fn count_more(holders: &mut [u16], locals: &[u16])
+    requires inside { (t : ℕ) → Contains locals.now t → t < length holders.old }
+    requires room { (t : ℕ) → t < length holders.old → slice_index holders.old t + times locals.now t < 65536 }
+    ensures len { length holders.new ≡ length holders.old }
+    ensures number { (t : ℕ) → slice_index holders.new t ≡ slice_index holders.old t + times locals.now t }
+{
+    for place in 0..locals.len() {
+        holders[usize::from(locals[place])] += 1;
+    }
+}
+
+// Counts one holder less of each of these segments.
+fn count_less(holders: &mut [u16], locals: &[u16])
+    requires inside { (t : ℕ) → Contains locals.now t → t < length holders.old }
+    requires some { (t : ℕ) → t < length holders.old → times locals.now t ≤ slice_index holders.old t }
+    ensures len { length holders.new ≡ length holders.old }
+    ensures number { (t : ℕ) → slice_index holders.new t + times locals.now t ≡ slice_index holders.old t }
+{
+    for place in 0..locals.len() {
+        holders[usize::from(locals[place])] -= 1;
+    }
+}
+
+// Counts the unit among the holders of its segments.
+fn hold(holders: &mut Vec<u16>, layout: &Layout, unit: u16)
+    requires unit { unit < length layout.now.units }
+    requires some { (units : List ℕ) × AreHolders layout.now units holders.old.items × (length units < MOST_NAMED) }
+    ensures { (units : List ℕ) → AreHolders layout.now units holders.old.items
+        → AreHolders layout.now (unit ∷ units) holders.new.items }
 {
     let _sound = layout.placed();
-    if !is_named(numbers, unit) {
-        turn_owned(store, layout, numbers, unit, live);
-    }
+    count_more(holders, layout.locals(unit));
+}
+
+// Counts the unit no longer among the holders of its segments.
+fn release(holders: &mut Vec<u16>, layout: &Layout, unit: u16)
+    requires unit { unit < length layout.now.units }
+    requires some { (units : List ℕ) × AreHolders layout.now (unit ∷ units) holders.old.items }
+    ensures { (units : List ℕ) → AreHolders layout.now (unit ∷ units) holders.old.items
+        → AreHolders layout.now units holders.new.items }
+{
+    let _sound = layout.placed();
+    count_less(holders, layout.locals(unit));
 }
 
 // Turns the first so many segments outside where they are overlaid.
@@ -155,32 +171,29 @@ fn turn_overlaid(store: &mut SharedRam, layout: &Layout)
     }
 }
 
-// The owners of a placed extent.
-fn owners_at(layout: &Layout, segment: usize) -> &[u16]
-    requires { segment < length layout.now.placed }
-    ensures { result.now ≡ owners_of layout.now.owners segment }
-{
-    let _sound = layout.placed();
-    layout.owners(segment as u16)
-}
-
-// So many zeros.
-fn zeros(alloc: Global, count: usize) -> Result<Vec<u8>, NoMemory>
+// A list for this number of units, none of which a record names.
+fn unnamed(alloc: Global, count: usize) -> Result<Vec<u8>, NoMemory>
     ensures len { IfOk result (λ numbers. length numbers.items ≡ count) }
     ensures each { IfOk result (λ numbers. (n : ℕ) → n < count → slice_index numbers.items n ≡ 0) }
 {
     Ok(vec![in alloc; 0; count]?)
 }
 
-// Whether the segment is live.
-fn is_live(layout: &Layout, numbers: &[u8], segment: usize) -> bool
-    requires { segment < length layout.now.placed }
-    ensures { (units : List ℕ) → AreTimes layout.now units numbers.now → result ≡ live_by layout.now units segment }
+// A list for this number of segments, none of which has a holder.
+fn unheld(alloc: Global, count: usize) -> Result<Vec<u16>, NoMemory>
+    ensures len { IfOk result (λ holders. length holders.items ≡ count) }
+    ensures each { IfOk result (λ holders. (n : ℕ) → n < count → slice_index holders.items n ≡ 0) }
 {
-    let _sound = layout.placed();
-    let overlaid = is_overlaid(placed_at(layout, segment).mark);
-    let active = any_named(numbers, owners_at(layout, segment));
-    !overlaid || active
+    Ok(vec![in alloc; 0; count]?)
+}
+
+// Whether the segment is live.
+fn is_live(layout: &Layout, holders: &[u16], segment: usize) -> bool
+    requires segment { segment < length layout.now.placed }
+    requires holders { length holders.now ≡ length layout.now.placed }
+    ensures { (units : List ℕ) → AreHolders layout.now units holders.now → result ≡ live_by layout.now units segment }
+{
+    !is_overlaid(placed_at(layout, segment).mark) || holders[segment] > 0
 }
 
 // Whether the segment covers the cell of data memory.
@@ -192,12 +205,13 @@ fn has_cell(layout: &Layout, segment: usize, cell: Cell) -> bool
 }
 
 // Whether the segment is live and over the cell.
-fn answers(layout: &Layout, numbers: &[u8], segment: usize, cell: Cell) -> bool
-    requires { segment < length layout.now.placed }
-    ensures { (units : List ℕ) → AreTimes layout.now units numbers.now → result
+fn answers(layout: &Layout, holders: &[u16], segment: usize, cell: Cell) -> bool
+    requires segment { segment < length layout.now.placed }
+    requires holders { length holders.now ≡ length layout.now.placed }
+    ensures { (units : List ℕ) → AreHolders layout.now units holders.now → result
         ≡ answers_in layout.now units cell segment }
 {
-    is_live(layout, numbers, segment) && has_cell(layout, segment, cell)
+    is_live(layout, holders, segment) && has_cell(layout, segment, cell)
 }
 
 impl Activity {
@@ -210,13 +224,15 @@ impl Activity {
     {
         let mut store = SharedRam::filled(alloc, fill)?;
         let units = Vec::with_capacity(alloc, MOST_NAMED)?;
-        let numbers = zeros(alloc, layout.units().len())?;
+        let numbers = unnamed(alloc, layout.units().len())?;
+        let holders = unheld(alloc, layout.placed().len())?;
         turn_overlaid(&mut store, &layout);
         Ok(Activity {
             layout,
             store,
             units,
             numbers,
+            holders,
         })
     }
 
@@ -234,7 +250,7 @@ impl Activity {
             → answers_in self.now.layout self.now.units cell t ≡ false) }
     {
         for segment in 0..self.layout.placed().len() {
-            if answers(&self.layout, &self.numbers, segment, cell) {
+            if answers(&self.layout, &self.holders, segment, cell) {
                 return Some(segment as u16);
             }
         }
@@ -313,7 +329,8 @@ impl Activity {
         ensures units { self.new.units ≡ unit ∷ self.old.units }
         ensures keeps { KeepsStores self.old self.new }
     {
-        turn_locals(&mut self.store, &self.layout, &self.numbers, unit, true);
+        turn_locals(&mut self.store, &self.layout, &self.holders, unit, true);
+        hold(&mut self.holders, &self.layout, unit);
         self.numbers[usize::from(unit)] += 1;
         match self.units.push(unit) {
             Ok(()) => {}
@@ -331,7 +348,8 @@ impl Activity {
     {
         if let Some(unit) = self.units.pop() {
             self.numbers[usize::from(unit)] -= 1;
-            turn_locals(&mut self.store, &self.layout, &self.numbers, unit, false);
+            release(&mut self.holders, &self.layout, unit);
+            turn_locals(&mut self.store, &self.layout, &self.holders, unit, false);
         }
     }
 

@@ -1,11 +1,12 @@
 //! Masks of the cells of data memory.
-ghost use Rattle.std.specs.Prelude.{◌≡◌, ◌+◌, ◌≤◌, ◌<◌, ℕ, Bool, true, false, length, IfOk, slice_index_or};
+ghost use Rattle.std.specs.Prelude.{◌≡◌, ◌+◌, ◌*◌, ◌≤◌, ◌<◌, ℕ, true, IfOk};
 ghost use Rattle.m51_cells.specs.declared.cell.Cell.{Cell};
 ghost use Rattle.m51_module.specs.Sound.{IsInside};
 ghost use Rattle.m51_cells.specs.Cells.{IsDataCell, cells_in};
+ghost use Rattle.m51_flat.specs.States.{ram_cell};
 ghost use Rattle.m51_monitor.specs.Masks.{IsMarked, IsMask, flag_of};
-ghost use Rattle.m51_monitor.specs.Rows.{AreSet};
 
+use crate::bits::Bits;
 use m51_cells::{Cell, Extent, NoMemory, Space};
 use std::alloc::Global;
 use std::marker::Model;
@@ -13,8 +14,8 @@ use std::marker::Model;
 /// A flag for each cell of data memory.
 #[derive(Drop)]
 pub(crate) struct Mask {
-    ram: Vec<bool>,
-    xram: Vec<bool>,
+    ram: Bits,
+    xram: Bits,
 }
 
 impl Model for Mask {
@@ -22,27 +23,9 @@ impl Model for Mask {
 
     ghost Value = { masks.Mask };
 
-    ghost view = { λ m. record { ram = m.ram.items; xram = m.xram.items } };
+    ghost view = { λ m. record { ram = m.ram; xram = m.xram } };
 
-    ghost invariant = { λ m. masks.IsMask (record { ram = m.ram.items; xram = m.xram.items }) };
-}
-
-// Sets flags in a row.
-fn set_row(flags: &mut [bool], first: usize, count: usize, value: bool)
-    requires { first + count ≤ length flags.old }
-    ensures { AreSet first count value flags.old flags.new }
-{
-    for place in first..first + count {
-        flags[place] = value;
-    }
-}
-
-// So many flags, all of them set so.
-fn flags(alloc: Global, value: bool, count: usize) -> Result<Vec<bool>, NoMemory>
-    ensures len { IfOk result (λ flags. length flags.items ≡ count) }
-    ensures each { IfOk result (λ flags. (n : ℕ) → n < count → slice_index_or flags.items n false ≡ value) }
-{
-    Ok(vec![in alloc; value; count]?)
+    ghost invariant = { λ m. masks.IsMask (record { ram = m.ram; xram = m.xram }) };
 }
 
 impl Mask {
@@ -51,8 +34,8 @@ impl Mask {
     pub(crate) fn filled(alloc: Global, value: bool) -> Result<Mask, NoMemory>
         ensures { IfOk result (λ mask. (c : Cell) → IsDataCell c → flag_of mask c ≡ value) }
     {
-        let ram = flags(alloc, value, 2048)?;
-        let xram = flags(alloc, value, 65536)?;
+        let ram = Bits::filled(alloc, value, 256)?;
+        let xram = Bits::filled(alloc, value, 8192)?;
         Ok(Mask { ram, xram })
     }
 
@@ -62,10 +45,18 @@ impl Mask {
         ensures { result ≡ flag_of self.now cell }
     {
         match cell.space {
-            Space::Ram => self.ram[cell.at as usize],
-            Space::Xram => self.xram[cell.at as usize],
+            Space::Ram => self.ram.get(cell.at as usize),
+            Space::Xram => self.xram.get(cell.at as usize),
             Space::Code => false,
         }
+    }
+
+    /// Whether the flags of all bits of a byte of internal RAM are set.
+    pub(crate) fn is_byte_set(&self, address: u8) -> bool
+        ensures { result ≡ true → (n : ℕ) → 8 * address ≤ n → n < 8 * address + 8
+            → flag_of self.now (ram_cell n) ≡ true }
+    {
+        self.ram.are_set(usize::from(address))
     }
 
     // Sets the flags of the cells of an extent that ends inside its memory.
@@ -75,11 +66,11 @@ impl Mask {
         ensures marked { IsMarked cells value self.old self.new }
         ensures mask { IsMask self.new }
     {
-        let first = cells.first as usize;
-        let count = cells.len as usize;
+        let from = cells.first as usize;
+        let to = from + cells.len as usize;
         match cells.space {
-            Space::Ram => set_row(&mut self.ram, first, count, value),
-            Space::Xram => set_row(&mut self.xram, first, count, value),
+            Space::Ram => self.ram.set_row(from, to, value),
+            Space::Xram => self.xram.set_row(from, to, value),
             Space::Code => {}
         }
     }

@@ -5,7 +5,7 @@ ghost use Rattle.m51_module.specs.Sound.{IsInside};
 ghost use Rattle.m51_cells.specs.Extent.{extent};
 ghost use Rattle.m51_flat.specs.declared.state.Put.TheVariants.{Xbyte};
 ghost use Rattle.m51_flat.specs.Flat.{filled_cells, flat_cells};
-ghost use Rattle.m51_flat.specs.States.{bit_seen, first_barred, ram_cell, shut_of};
+ghost use Rattle.m51_flat.specs.States.{bit_seen, byte_seen, first_barred, ram_cell, shut_of};
 ghost use Rattle.m51_monitor.specs.Resolved.{outside_of};
 ghost use Rattle.m51_monitor.specs.Shared.{shared_cells, shared_barred, cells_put, IsTurned, turned_to, Blocks};
 ghost use Rattle.m51_monitor.specs.SharedLaws.{shared_are_cells};
@@ -122,6 +122,32 @@ impl SharedRam {
         }
     }
 
+    // A byte of internal RAM, where each of its bits is looked at.
+    #[tactic(auto, using(crate::proofs::Reading::byte_value, crate::proofs::Reading::byte_blocked))]
+    fn byte_of_bits(&self, address: u8) -> Seen
+        ensures { result ≡ byte_seen (shared_cells self.now) address }
+    {
+        let first = 8 * usize::from(address);
+        for bit in 0..8 {
+            if let Some(seen) = self.blocked(first + bit) {
+                return seen;
+            }
+        }
+        self.memory.byte(address)
+    }
+
+    // The lowest bit of a byte of internal RAM that is not live.
+    #[tactic(auto, using(crate::proofs::Reading::barred_none))]
+    #[inline(always)]
+    fn dead_in_byte(&self, address: u8) -> Option<Cell>
+        ensures { result ≡ first_barred (shared_barred self.now) 8 (8 * address) }
+    {
+        if self.live.is_byte_set(address) {
+            return None;
+        }
+        self.first_dead(8 * usize::from(address), 8)
+    }
+
     // The lowest of so many cells of internal RAM that is not live.
     #[tactic(auto, using(crate::proofs::Reading::barred_at, crate::proofs::Reading::barred_none))]
     #[inline(always)]
@@ -161,15 +187,12 @@ impl CellStore for SharedRam {
 
     ghost are_cells = { shared_are_cells };
 
-    #[tactic(auto, using(crate::proofs::Reading::byte_value, crate::proofs::Reading::byte_blocked))]
+    #[tactic(auto, using(crate::proofs::Reading::byte_written))]
     fn byte(&self, address: u8) -> Seen {
-        let first = 8 * usize::from(address);
-        for bit in 0..8 {
-            if let Some(seen) = self.blocked(first + bit) {
-                return seen;
-            }
+        if self.written.is_byte_set(address) {
+            return self.memory.byte(address);
         }
-        self.memory.byte(address)
+        self.byte_of_bits(address)
     }
 
     #[tactic(auto, using(crate::proofs::Reading::bit_value))]
@@ -200,7 +223,7 @@ impl CellStore for SharedRam {
     fn shut(&self, put: &Put) -> Option<Cell> {
         match *put {
             Put::Nothing => None,
-            Put::Byte { address, .. } => self.first_dead(8 * usize::from(address), 8),
+            Put::Byte { address, .. } => self.dead_in_byte(address),
             Put::Bit { address, .. } => self.first_dead(256 + usize::from(address), 1),
             Put::Xbyte { address, .. } => self.dead_xbyte(address),
         }

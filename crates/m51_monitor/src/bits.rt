@@ -1,0 +1,139 @@
+//! Flags, eight to a byte.
+ghost use Rattle.std.specs.Prelude.{◌≡◌, ◌≢◌, ◌+◌, ◌*◌, ◌≤◌, ◌<◌, ℕ, true, false, length, IfOk, slice_index};
+ghost use Rattle.std.specs.Prelude.{slice_index_or};
+ghost use Rattle.std.specs.Int.{bit_at};
+ghost use Rattle.m51_monitor.specs.Masks.{flag_at};
+ghost use Rattle.m51_monitor.specs.Rows.{AreSet};
+
+use m51_cells::NoMemory;
+use std::alloc::Global;
+use std::marker::Model;
+
+/// A row of flags, eight to a byte, the lowest bit's first.
+#[derive(Drop)]
+pub(crate) struct Bits {
+    bytes: Vec<u8>,
+}
+
+impl Model for Bits {
+    ghost use Rattle.std.specs.Prelude.{List, Bool};
+    ghost use Rattle.m51_monitor.specs.Masks as masks;
+
+    ghost Value = { List Bool };
+
+    ghost view = { λ b. masks.flags_in b.bytes.items };
+}
+
+// A byte whose flags are all set so.
+#[tactic(auto, using(crate::proofs::FlagBytes::full, crate::proofs::FlagBytes::empty))]
+fn whole_byte(value: bool) -> u8
+    ensures { (k : ℕ) → k < 8 → flag_at result k ≡ value }
+{
+    if value { 0xFF } else { 0 }
+}
+
+// A byte with this flag set so.
+fn with_flag(byte: u8, place: u8, value: bool) -> u8
+    requires { place < 8 }
+    ensures here { flag_at result place ≡ value }
+    ensures others { (k : ℕ) → k < 8 → k ≢ place → bit_at result k ≡ bit_at byte k }
+{
+    if value {
+        byte | 1 << place
+    } else {
+        byte & !(1 << place)
+    }
+}
+
+// A list of this number of equal bytes.
+fn bytes(alloc: Global, byte: u8, count: usize) -> Result<Vec<u8>, NoMemory>
+    ensures len { IfOk result (λ bytes. length bytes.items ≡ count) }
+    ensures each { IfOk result (λ bytes. (n : ℕ) → n < count → slice_index bytes.items n ≡ byte) }
+{
+    Ok(vec![in alloc; byte; count]?)
+}
+
+impl Bits {
+    /// The flags of this number of bytes, all of them set so.
+    pub(crate) fn filled(alloc: Global, value: bool, count: usize) -> Result<Bits, NoMemory>
+        ensures len { IfOk result (λ bits. length bits ≡ 8 * count) }
+        ensures each { IfOk result (λ bits. (n : ℕ) → n < 8 * count → slice_index_or bits n false ≡ value) }
+    {
+        let bytes = bytes(alloc, whole_byte(value), count)?;
+        Ok(Bits { bytes })
+    }
+
+    /// The flag at this place.
+    pub(crate) fn get(&self, place: usize) -> bool
+        requires { place < length self.now }
+        ensures { result ≡ slice_index_or self.now place false }
+    {
+        self.bytes[place / 8] >> (place % 8) & 1 == 1
+    }
+
+    /// Whether all flags of this byte are set.
+    pub(crate) fn are_set(&self, byte: usize) -> bool
+        requires { 8 * byte < length self.now }
+        ensures { result ≡ true → (n : ℕ) → 8 * byte ≤ n → n < 8 * byte + 8 → slice_index_or self.now n false ≡ true }
+    {
+        self.bytes[byte] == 0xFF
+    }
+
+    // Sets the flags of a whole byte.
+    fn set_byte(&mut self, byte: usize, value: bool)
+        requires { 8 * byte < length self.old }
+        ensures { AreSet (8 * byte) (8 * (byte + 1)) value self.old self.new }
+    {
+        self.bytes[byte] = whole_byte(value);
+    }
+
+    // Sets one flag.
+    fn set(&mut self, place: usize, value: bool)
+        requires { place < length self.old }
+        ensures { AreSet place (place + 1) value self.old self.new }
+    {
+        let byte = self.bytes[place / 8];
+        self.bytes[place / 8] = with_flag(byte, (place % 8) as u8, value);
+    }
+
+    // Sets flags one by one.
+    #[tactic(auto, using(crate::proofs::FlagBytes::none_set, crate::proofs::FlagBytes::then_set))]
+    fn set_each(&mut self, from: usize, to: usize, value: bool)
+        requires order { from ≤ to }
+        requires inside { to ≤ length self.old }
+        ensures { AreSet from to value self.old self.new }
+    {
+        for place in from..to {
+            self.set(place, value);
+        }
+    }
+
+    // Sets the flags of whole bytes.
+    #[tactic(auto, using(crate::proofs::FlagBytes::none_set, crate::proofs::FlagBytes::then_set))]
+    fn set_bytes(&mut self, from: usize, to: usize, value: bool)
+        requires order { from ≤ to }
+        requires inside { 8 * to ≤ length self.old }
+        ensures { AreSet (8 * from) (8 * to) value self.old self.new }
+    {
+        for byte in from..to {
+            self.set_byte(byte, value);
+        }
+    }
+
+    /// Sets the flags from a place to another.
+    pub(crate) fn set_row(&mut self, from: usize, to: usize, value: bool)
+        requires order { from ≤ to }
+        requires inside { to ≤ length self.old }
+        ensures { AreSet from to value self.old self.new }
+    {
+        let first = from.div_ceil(8);
+        let last = to / 8;
+        if first >= last {
+            self.set_each(from, to, value);
+            return;
+        }
+        self.set_each(from, 8 * first, value);
+        self.set_bytes(first, last, value);
+        self.set_each(8 * last, to, value);
+    }
+}

@@ -1,156 +1,145 @@
--- Calls from start to start, noted point by point, and the rows of them.
-use Rattle.std.proofs.Common.{◌≡◌, ◌<◌, ◌+◌, ℕ, zero, suc, Bool, true, false, List, [], ◌∷◌, ◌++◌, length, get_or, set, take, refl, sym, ap, subst, ◌∙◌, arith, ◌⊎◌, inl, inr, Option, Some, None, length-append}
-use Rattle.std.specs.List.{Contains, list_any}
-use Rattle.std.proofs.lemmas.Grind.{common_steps}
+-- The calls of points, and the rows of them.
+use Rattle.std.proofs.Common.{◌≡◌, ◌<◌, ◌+◌, ℕ, List, [], ◌∷◌, ◌++◌, length, get_or, set, take, refl, sym, ap, subst, ◌∙◌, arith, ◌⊎◌, inl, inr, Option, Some, None}
+use Rattle.std.specs.List.{Contains, cons_option}
 use Rattle.std.proofs.lemmas.List.{get_or-set_same, get_or-set_other, length-set}
-use Rattle.std.proofs.lemmas.List.Elements.{Contains-push, Contains-push_cases, Contains-append_left}
-use Rattle.std.proofs.lemmas.Map.Views.{Contains-from_any}
+use Rattle.std.proofs.lemmas.List.{take_more}
+use Rattle.std.proofs.lemmas.List.Elements.{filter_map-append, Contains-push, Contains-push_cases, Contains-append_left}
 use Rattle.std.proofs.lemmas.Option.{same_Some}
-use Rattle.indexmap.specs.IndexSet.{insert_key}
-use Rattle.m51_cells.proofs.Small.{none_in_empty}
+use Rattle.m51_cells.proofs.Small.{contains_after, first_or_after, none_in_empty}
 use Rattle.m51_module.specs.declared.parts.LayoutParts.{LayoutParts}
 use Rattle.m51_module.specs.declared.start.Start.{Start}
 use Rattle.m51_module.specs.declared.start.Start.TheVariants.{Reset, At}
+use Rattle.m51_module.specs.Kept.{AreEmptyRows}
 use Rattle.m51_module.proofs.Units.{same_or_not}
 use Rattle.m51_stackbound.specs.declared.calls.Call.{Call}
 use Rattle.m51_stackbound.specs.declared.point.Point.{Point}
-use Rattle.m51_stackbound.specs.contracts.calls.CallPartialEq.TheImpl.{eq-value as call_eq}
-use Rattle.m51_stackbound.specs.Callers.{AddsCall, AreCallRows, AreCallsOf, AreNoRows, AreRowsOf, call_from, IsCallOf, row_of}
-use Rattle.m51_stackbound.specs.Points.{call_of}
+use Rattle.m51_stackbound.specs.Callers.{AreCallRows, AreRowsOf, call_from, calls_of, IsCalled, row_of, with_call}
+use Rattle.m51_stackbound.specs.Climb.{AreCalls}
+use Rattle.m51_stackbound.specs.Depths.{CallsAt}
+use Rattle.m51_stackbound.specs.Points.{call_of, IsPoint}
+use Rattle.m51_stackbound.specs.Rules.{rank}
 use Rattle.m51_stackbound.specs.Search.{ArePoints}
-use Rattle.m51_stackbound.proofs.Leasts.{front_cases, front_kept, front_next}
 
-same_call : (x y : Call) → call_eq.it x y ≡ true → x ≡ y
-same_call x y h = grind (arith, common_steps, h)
+same_At : (a b : ℕ) → At a ≡ At b → a ≡ b
+same_At a b e = let ranks : rank (At a) ≡ rank (At b) = ap rank e in omega (arith, ranks)
 
-pub adds_key : (old : List Call) (c : Call) → AddsCall old (Some c) (insert_key call_eq.it old c)
-adds_key old c = by (list_any (call_eq.it c) old) refl
-  where
-    by : (b : Bool) → list_any (call_eq.it c) old ≡ b → AddsCall old (Some c) (insert_key call_eq.it old c)
-    by true e = rw e (record {
-      kept = λ d h. h;
-      added = λ d is. subst (λ (x : Call). Contains old x) (same_Some c d is) (Contains-from_any same_call c old e);
-      from = λ d h. inl h;
-    })
-    by false e = rw e (record {
-      kept = λ d h. Contains-append_left old (c ∷ []) d h;
-      added = λ d is. subst (λ (x : Call). Contains (old ++ c ∷ []) x) (same_Some c d is) (Contains-push old c);
-      from = λ d h. elim (Contains-push_cases old c d h) as (λ _. Contains old d ⊎ (Some c ≡ Some d)) [
-        | inl before ↦ inl before
-        | inr here ↦ inr (ap Some here)
-      ];
-    })
+-- of a list that begins with a value if there is one
+cons_cases : {X : Type 0} (o : Option X) (xs : List X) (x : X) → Contains (cons_option o xs) x → (o ≡ Some x) ⊎ Contains xs x
+cons_cases None xs x k = inr k
+cons_cases (Some y) xs x k = elim (first_or_after y xs x k) as (λ _. (Some y ≡ Some x) ⊎ Contains xs x) [
+  | inl here ↦ inl (ap Some here)
+  | inr after ↦ inr after
+]
 
-pub adds_none : (old : List Call) → AddsCall old None old
-adds_none old = record { kept = λ c h. h; added = λ c is. absurd (cc is); from = λ c h. inl h }
+cons_later : {X : Type 0} (o : Option X) (xs : List X) (x : X) → Contains xs x → Contains (cons_option o xs) x
+cons_later None xs x k = k
+cons_later (Some y) xs x k = contains_after y xs x k
 
--- the parts of a call that a point gives
-pub gives_start : (start : Start) (called : Option ℕ) (c : Call) → call_from start called ≡ Some c → start ≡ At c.from
-gives_start Reset called c h = absurd (cc h)
-gives_start (At from) None c h = absurd (cc h)
-gives_start (At from) (Some to) c h = ap (λ (d : Call). At d.from) (same_Some (record { from = from; to = to }) c h)
-
-pub gives_called : (start : Start) (called : Option ℕ) (c : Call) → call_from start called ≡ Some c → called ≡ Some c.to
-gives_called Reset called c h = absurd (cc h)
-gives_called (At from) None c h = absurd (cc h)
-gives_called (At from) (Some to) c h = ap (λ (d : Call). Some d.to) (same_Some (record { from = from; to = to }) c h)
+cons_here : {X : Type 0} (o : Option X) (xs : List X) (x : X) → o ≡ Some x → Contains (cons_option o xs) x
+cons_here o xs x is = subst (λ p. Contains (cons_option p xs) x) (sym is) (0, omega arith, refl)
 
 module _ (l : LayoutParts) (image : List ℕ) where
-  pub calls_none : AreCallsOf l image [] []
-  calls_none = record { only = λ c h. absurd (none_in_empty c h); all = λ c h. absurd (none_in_empty h.point h.listed) }
+  call_at : (p : Point) (o : Option ℕ) (c : Call) → IsPoint l image p → call_of l image p ≡ o → call_from p o ≡ Some c → CallsAt l image c.from c.height c.to
+  call_at p None c is calls e = absurd (cc e)
+  call_at p (Some to) c is calls e = subst (λ (d : Call). CallsAt l image d.from d.height d.to) (same_Some (record { from = p.start; height = p.height; to = to }) c e)
+      (record { point = p; is_point = is; start_is = refl; height_is = refl; calls = calls })
 
-  -- one more point
-  pub calls_more : (points : List Point) (i : ℕ) (d : Point) (old new : List Call) → i < length points → AreCallsOf l image (take i points) old
-      → AddsCall old (call_from (get_or points i d).start (call_of l image (get_or points i d))) new → AreCallsOf l image (take (i + 1) points) new
-  calls_more points i d old new below h a = record {
-    only = λ c k. elim (a.from c k) as (λ _. IsCallOf l image (take (i + 1) points) c) [
-      | inl before ↦ let g = h.only c before in record { point = g.point; listed = front_kept points i d g.point below g.listed; gives = g.gives }
-      | inr here ↦ record { point = get_or points i d; listed = front_next points i d below; gives = here }
-    ];
-    all = λ c k. elim (front_cases points i d k.point below k.listed) as (λ _. Contains new c) [
-      | inl before ↦ a.kept c (h.all c (record { point = k.point; listed = before; gives = k.gives }))
-      | inr here ↦ a.added c (subst (λ (p : Point). call_from p.start (call_of l image p) ≡ Some c) (sym here) k.gives)
-    ];
-  }
+  -- the calls of points of the program are calls of the program
+  pub calls_only : (points : List Point) → ((p : Point) → Contains points p → IsPoint l image p) → AreCalls l image (calls_of l image points)
+  calls_only [] only c k = absurd (none_in_empty c k)
+  calls_only (q ∷ ps) only c k = by (cons_cases (call_from q (call_of l image q)) (calls_of l image ps) c k) (calls_only ps (λ p m. only p (contains_after q ps p m)) c)
+    where
+      by : (call_from q (call_of l image q) ≡ Some c) ⊎ Contains (calls_of l image ps) c → (Contains (calls_of l image ps) c → CallsAt l image c.from c.height c.to) → CallsAt l image c.from c.height c.to
+      by (inl here) on = call_at q (call_of l image q) c (only q (0, omega arith, refl)) refl here
+      by (inr after) on = on after
+
+  -- and all calls of these points are listed
+  pub calls_all : (points : List Point) (p : Point) (to : ℕ) → Contains points p → call_of l image p ≡ Some to → Contains (calls_of l image points) (record { from = p.start; height = p.height; to = to })
+  calls_all [] p to k calls = absurd (none_in_empty p k)
+  calls_all (q ∷ ps) p to k calls = by (first_or_after q ps p k) (λ m. calls_all ps p to m calls)
+    where
+      c : Call
+      c = record { from = p.start; height = p.height; to = to }
+
+      by : (q ≡ p) ⊎ Contains ps p → (Contains ps p → Contains (calls_of l image ps) c) → Contains (calls_of l image (q ∷ ps)) c
+      by (inl here) on = cons_here (call_from q (call_of l image q)) (calls_of l image ps) c (ap (λ (r : Point). call_from r (call_of l image r)) here ∙ ap (call_from p) calls)
+      by (inr after) on = cons_later (call_from q (call_of l image q)) (calls_of l image ps) c (on after)
+
+  -- the calls of one more point
+  pub calls_more : (points : List Point) (i : ℕ) (d : Point) → i < length points
+      → calls_of l image (take (i + 1) points) ≡ calls_of l image (take i points) ++ cons_option (call_from (get_or points i d) (call_of l image (get_or points i d))) []
+  calls_more points i d below = ap (calls_of l image) (take_more points i d below) ∙ filter_map-append (λ p. call_from p (call_of l image p)) (take i points) (get_or points i d ∷ [])
 
   -- the rows of the calls of all points
-  pub rows_are : (points : List Point) (calls : List Call) (rows : List (List ℕ)) → ArePoints l image points → AreCallsOf l image points calls → AreRowsOf calls rows → AreCallRows l image rows
-  rows_are points calls rows are h r = record {
-    len = r.len;
+  pub rows_are : (points : List Point) (calls : List Call) (rows : List (List ℕ)) → ArePoints l image points → calls ≡ calls_of l image points → AreRowsOf calls rows → AreCallRows l image rows
+  rows_are points calls rows are is r = record {
     only = λ from to k.
-        let c : Call = record { from = from; to = to } in
-        let g = h.only c (r.only from to k) in (
-          g.point.height,
-          record {
-            point = g.point;
-            is_point = are.only g.point g.listed;
-            start_is = gives_start g.point.start (call_of l image g.point) c g.gives;
-            height_is = refl;
-            calls = gives_called g.point.start (call_of l image g.point) c g.gives;
-          },
-        );
+        let d = r.only from to k in
+        let c = calls_only points are.only d.call (subst (λ (cs : List Call). Contains cs d.call) is d.listed) in
+        (d.call.height, subst (λ n. CallsAt l image (At from) d.call.height n) d.to_is (subst (λ s. CallsAt l image s d.call.height d.call.to) d.from_is c));
     all = λ from to k.
         let g = k.1 in
-        let c : Call = record { from = from; to = to } in
-        r.all c (h.all c (record {
-          point = g.point;
-          listed = are.all g.point g.is_point;
-          gives = subst (λ s. call_from s (call_of l image g.point) ≡ Some c) (sym g.start_is) (subst (λ o. call_from (At from) o ≡ Some c) (sym g.calls) refl);
-        }));
+        r.all from to (record {
+          call = record { from = g.point.start; height = g.point.height; to = to };
+          listed = subst (λ (cs : List Call). Contains cs (record { from = g.point.start; height = g.point.height; to = to })) (sym is) (calls_all points g.point to (are.all g.point g.is_point) g.calls);
+          from_is = g.start_is;
+          to_is = refl;
+        });
   }
 
--- rows
-empty_more : (rows : List (List ℕ)) → ((s : ℕ) → row_of rows s ≡ []) → (s : ℕ) → row_of (rows ++ [] ∷ []) s ≡ []
-empty_more [] h zero = refl
-empty_more [] h (suc s) = refl
-empty_more (r ∷ rs) h zero = h zero
-empty_more (r ∷ rs) h (suc s) = empty_more rs (λ s. h (suc s)) s
-
-pub no_rows_more : (count : ℕ) (rows : List (List ℕ)) → AreNoRows count rows → AreNoRows (count + 1) (rows ++ [] ∷ [])
-no_rows_more count rows h = record { len = omega (arith, h.len, length-append rows ([] ∷ [])); each = empty_more rows h.each }
-
-pub rows_none : (count : ℕ) (rows : List (List ℕ)) → count ≡ 65536 → AreNoRows count rows → AreRowsOf [] rows
+pub rows_none : (count : ℕ) (rows : List (List ℕ)) → count ≡ 65536 → AreEmptyRows count rows → AreRowsOf [] rows
 rows_none count rows is h = record {
   len = h.len ∙ is;
   only = λ from to k. absurd (none_in_empty to (subst (λ (row : List ℕ). Contains row to) (h.each from) k));
-  all = λ c k. absurd (none_in_empty c k);
+  all = λ from to k. absurd (none_in_empty k.call k.listed);
 }
+
+one_more : (calls : List Call) (c : Call) (from to : ℕ) → IsCalled calls from to → IsCalled (calls ++ c ∷ []) from to
+one_more calls c from to k = record { call = k.call; listed = Contains-append_left calls (c ∷ []) k.call k.listed; from_is = k.from_is; to_is = k.to_is }
 
 -- one more call
-pub rows_more : (calls : List Call) (c : Call) (rows : List (List ℕ)) → c.from < 65536 → AreRowsOf calls rows
-    → AreRowsOf (calls ++ c ∷ []) (set rows c.from (row_of rows c.from ++ c.to ∷ []))
-rows_more calls c rows few h = record {
-  len = length-set rows c.from row ∙ h.len;
-  only = λ from to k. elim (same_or_not from c.from) as (λ _. Contains (calls ++ c ∷ []) (record { from = from; to = to })) [
-    | inl e ↦ newest from to e (subst (λ (r : List ℕ). Contains r to) (ap (row_of new) e ∙ same) k)
-    | inr ne ↦ before from to (subst (λ (r : List ℕ). Contains r to) (get_or-set_other rows c.from from row [] ne) k)
-  ];
-  all = λ d k. elim (same_or_not d.from c.from) as (λ _. Contains (row_of new d.from) d.to) [
-    | inl e ↦ subst (λ (r : List ℕ). Contains r d.to) (sym (ap (row_of new) e ∙ same)) (elim (Contains-push_cases calls c d k) as (λ _. Contains row d.to) [
-      | inl early ↦ Contains-append_left (row_of rows c.from) (c.to ∷ []) d.to (subst (λ n. Contains (row_of rows n) d.to) e (h.all d early))
-      | inr here ↦ subst (λ (x : Call). Contains row x.to) here (Contains-push (row_of rows c.from) c.to)
-    ])
-    | inr ne ↦ subst (λ (r : List ℕ). Contains r d.to) (sym (get_or-set_other rows c.from d.from row [] ne)) (elim (Contains-push_cases calls c d k) as (λ _. Contains (row_of rows d.from) d.to) [
-      | inl early ↦ h.all d early
-      | inr here ↦ absurd (ne (ap (λ (x : Call). x.from) (sym here)))
-    ])
-  ];
-}
+pub rows_more : (calls : List Call) (c : Call) (rows : List (List ℕ)) → ((from : ℕ) → c.from ≡ At from → from < 65536) → AreRowsOf calls rows → AreRowsOf (calls ++ c ∷ []) (with_call rows c.from c.to)
+rows_more calls c rows few h = by c.from refl
   where
-    row : List ℕ
-    row = row_of rows c.from ++ c.to ∷ []
+    by : (s : Start) → c.from ≡ s → AreRowsOf (calls ++ c ∷ []) (with_call rows s c.to)
+    by Reset e = record {
+      len = h.len;
+      only = λ from to k. one_more calls c from to (h.only from to k);
+      all = λ from to k. elim (Contains-push_cases calls c k.call k.listed) as (λ _. Contains (row_of rows from) to) [
+        | inl early ↦ h.all from to (record { call = k.call; listed = early; from_is = k.from_is; to_is = k.to_is })
+        | inr here ↦ absurd (cc (sym e ∙ ap (λ (x : Call). x.from) here ∙ k.from_is))
+      ];
+    }
+    by (At a) e = record {
+      len = length-set rows a row ∙ h.len;
+      only = λ from to k. elim (same_or_not from a) as (λ _. IsCalled (calls ++ c ∷ []) from to) [
+        | inl same ↦ newest from to same (subst (λ (r : List ℕ). Contains r to) (ap (row_of new) same ∙ set_row) k)
+        | inr ne ↦ one_more calls c from to (h.only from to (subst (λ (r : List ℕ). Contains r to) (get_or-set_other rows a from row [] ne) k))
+      ];
+      all = λ from to k. elim (same_or_not from a) as (λ _. Contains (row_of new from) to) [
+        | inl same ↦ subst (λ (r : List ℕ). Contains r to) (sym (ap (row_of new) same ∙ set_row)) (elim (Contains-push_cases calls c k.call k.listed) as (λ _. Contains row to) [
+          | inl early ↦ Contains-append_left (row_of rows a) (c.to ∷ []) to
+              (subst (λ n. Contains (row_of rows n) to) same (h.all from to (record { call = k.call; listed = early; from_is = k.from_is; to_is = k.to_is })))
+          | inr here ↦ subst (λ n. Contains row n) (ap (λ (x : Call). x.to) here ∙ k.to_is) (Contains-push (row_of rows a) c.to)
+        ])
+        | inr ne ↦ subst (λ (r : List ℕ). Contains r to) (sym (get_or-set_other rows a from row [] ne)) (elim (Contains-push_cases calls c k.call k.listed) as (λ _. Contains (row_of rows from) to) [
+          | inl early ↦ h.all from to (record { call = k.call; listed = early; from_is = k.from_is; to_is = k.to_is })
+          | inr here ↦ absurd (ne (same_At from a (sym k.from_is ∙ ap (λ (x : Call). x.from) (sym here) ∙ e)))
+        ])
+      ];
+    }
+      where
+        row : List ℕ
+        row = row_of rows a ++ c.to ∷ []
 
-    new : List (List ℕ)
-    new = set rows c.from row
+        new : List (List ℕ)
+        new = set rows a row
 
-    same : row_of new c.from ≡ row
-    same = get_or-set_same rows c.from row [] (omega (arith, few, h.len))
+        set_row : row_of new a ≡ row
+        set_row = get_or-set_same rows a row [] (omega (arith, few a e, h.len))
 
-    before : (from to : ℕ) → Contains (row_of rows from) to → Contains (calls ++ c ∷ []) (record { from = from; to = to })
-    before from to k = Contains-append_left calls (c ∷ []) (record { from = from; to = to }) (h.only from to k)
-
-    newest : (from to : ℕ) → from ≡ c.from → Contains row to → Contains (calls ++ c ∷ []) (record { from = from; to = to })
-    newest from to e k = elim (Contains-push_cases (row_of rows c.from) c.to to k) as (λ _. Contains (calls ++ c ∷ []) (record { from = from; to = to })) [
-      | inl early ↦ before from to (subst (λ n. Contains (row_of rows n) to) (sym e) early)
-      | inr here ↦ subst (λ (x : Call). Contains (calls ++ c ∷ []) x) (ap (λ n. record { from = n; to = c.to }) (sym e) ∙ ap (λ n. record { from = from; to = n }) here) (Contains-push calls c)
-    ]
+        newest : (from to : ℕ) → from ≡ a → Contains row to → IsCalled (calls ++ c ∷ []) from to
+        newest from to same k = elim (Contains-push_cases (row_of rows a) c.to to k) as (λ _. IsCalled (calls ++ c ∷ []) from to) [
+          | inl early ↦ one_more calls c from to (h.only from to (subst (λ n. Contains (row_of rows n) to) (sym same) early))
+          | inr here ↦ record { call = c; listed = Contains-push calls c; from_is = e ∙ ap At (sym same); to_is = here }
+        ]

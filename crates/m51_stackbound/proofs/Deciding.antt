@@ -63,7 +63,7 @@ module _ (l : LayoutParts) (image : List ℕ) where
     | inr t ↦ t
   ]
 
-  -- so SP may come to more than 255
+  -- so SP may get a value above 255
   pub depth_above : (points : List Point) (depths : List ℕ) (s : AreSettled l image points depths) → list_any (λ depth. nat_lt 255 depth) depths ≡ true → IsTooDeep l image
   depth_above points depths s some = by (Any-from_list_any _ depths some) where
     by : Any (λ depth. nat_lt 255 depth ≡ true) depths → IsTooDeep l image

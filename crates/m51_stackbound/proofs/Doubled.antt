@@ -25,13 +25,13 @@ notes_place old place added h = by (list_any (place_eq.it place) old) refl
     by true e = rw e (inl (ap not (h ∙ ap not e), refl, Contains-from_any same_place place old e))
     by false e = rw e (inr (ap not (h ∙ ap not e), refl, λ k. absurd (cc (e, list_any-from_Contains laws-law place old k))))
 
--- a point among the first so many has the place
+-- one of the first points, of this number, has the place
 pub record HasPlace (points : List Point) (count : ℕ) (place : Place) : Type 0 where
   pub point : Point
   pub before : Contains (take count points) point
   pub is : place_of point ≡ place
 
--- the places of the first so many points, and the first that two of them have
+-- the places of the first points, of this number, and the first place that two of them have
 pub record IsDoubling (points : List Point) (count : ℕ) (places : List Place) (least : Option Place) : Type 0 where
   pub only : (place : Place) → Contains places place → HasPlace points count place
   pub all : (place : Place) → HasPlace points count place → Contains places place
@@ -66,7 +66,7 @@ module _ (points : List Point) (i : ℕ) (d : Point) (below : i < length points)
     | inr is ↦ inr (ap place_of is ∙ h.is)
   ]
 
-  -- what two of the longer front have, two of the shorter one have, or the newest point and one before it
+  -- what two of the longer prefix have, two of the shorter one have, or the newest point and one before it
   two_cases : (place : Place) → HasTwo points (i + 1) place → HasTwo points i place ⊎ ((here ≡ place) × HasPlace points i place)
   two_cases place h = elim (cases_lt h.second i) as (λ _. HasTwo points i place ⊎ ((here ≡ place) × HasPlace points i place)) [
     | inl early ↦ inl (record { second = h.second; below = early; inside = h.inside; one = h.one; before = h.before; place_one = h.place_one; place_two = h.place_two })

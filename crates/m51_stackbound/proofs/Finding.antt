@@ -1,4 +1,4 @@
--- Units found by a test are those that the layout tells of.
+-- Units found by a test are those of the layout.
 use Rattle.std.proofs.Common.{◌≡◌, ◌≤◌, ◌<◌, ◌+◌, ℕ, Bool, true, false, ◌&&◌, not, Option, Some, None, length, get_or, refl, sym, ap, subst, ◌∙◌, arith}
 use Rattle.std.specs.Prelude.{IfSome, List, nat_eq, nat_lt, position, slice_get}
 use Rattle.std.specs.List.{Contains, position_or_len}

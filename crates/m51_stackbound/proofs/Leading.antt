@@ -1,4 +1,4 @@
--- The path that the table tells takes the depth of its start, and comes first of those that do.
+-- The path in the table takes the depth of its start, and comes first of those that do.
 use Rattle.std.proofs.Common.{◌≡◌, ◌≢◌, ◌<◌, ◌≤◌, ◌+◌, ℕ, List, [], ◌∷◌, ◌++◌, refl, sym, ap, subst, ◌∙◌, arith, ◌⊎◌, inl, inr, Some, None}
 use Rattle.std.specs.List.{Contains}
 use Rattle.std.proofs.lemmas.Bool.{cases_lt}
@@ -39,7 +39,7 @@ module _ (nexts : List Next) (first : Start) where
   pub passed_none : (path : List Start) → path ≡ first ∷ [] → IsPassed nexts first first path
   passed_none path is = record { done = []; path_is = is; leads = λ more h. h }
 
-  -- the path goes on
+  -- the path continues
   pub passed_more : (last : Start) (path new : List Start) (to : ℕ) → IsPassed nexts first last path → called_next (next_in nexts last) ≡ Some to → new ≡ path ++ At to ∷ [] → IsPassed nexts first (At to) new
   passed_more last path new to h is new_is = record {
     done = h.done ++ At to ∷ [];

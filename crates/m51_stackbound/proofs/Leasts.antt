@@ -68,7 +68,7 @@ least_more Is New (Some old) place h back on new = by (no_later old place) refl
       ],
     ))
 
--- an element of a longer front is one of the shorter front, or the next
+-- an element of a longer prefix is one of the shorter prefix, or the next
 pub front_cases : {X : Type 0} (xs : List X) (i : ℕ) (d x : X) → i < length xs → Contains (take (i + 1) xs) x → Contains (take i xs) x ⊎ (get_or xs i d ≡ x)
 front_cases xs i d x below h = Contains-push_cases (take i xs) (get_or xs i d) x (subst (λ ys. Contains ys x) (take_more xs i d below) h)
 

@@ -22,7 +22,7 @@ first_of_points l image rule points r are h = least_same (IsBroken l image rule 
     (λ place b. record { point = b.point; is_point = are.all b.point b.is_point; breaks = b.breaks; place_is = b.place_is })
     (λ place b. record { point = b.point; is_point = are.only b.point b.is_point; breaks = b.breaks; place_is = b.place_is })
 
--- two of the listed points have the place exactly where two points of the program have it with different heights
+-- two of the listed points have the place exactly if two points of the program have it with different heights
 module _ (l : LayoutParts) (image : List ℕ) (points : List Point) (are : ArePoints l image points) where
   apart_heights : (p q : Point) (place : Place) → p ≢ q → place_of p ≡ place → place_of q ≡ place → p.height ≢ q.height
   apart_heights p q place other h k e = other (same p q (ap (λ (r : Place). r.start) (h ∙ sym k)) (ap (λ (r : Place). r.address) (h ∙ sym k)) e)

@@ -1,27 +1,29 @@
--- Depths that are raised until no point comes to more.
-use Rattle.std.proofs.Common.{◌≡◌, ◌<◌, ◌≤◌, ◌+◌, ℕ, Bool, cond, true, false, ◌||◌, List, [], ◌∷◌, length, get_or, set, take, sum, replicate, refl, sym, ap, subst, ◌∙◌, arith, ◌⊎◌, inl, inr, Option, Some, None}
-use Rattle.std.specs.Prelude.{filter, if◌then◌else◌, is_some}
+-- Depths that are raised until no call gives more.
+use Rattle.std.proofs.Common.{◌≡◌, ◌<◌, ◌≤◌, ◌+◌, ℕ, Bool, true, false, ◌||◌, List, [], ◌∷◌, length, get_or, set, take, sum, replicate, refl, sym, ap, subst, ◌∙◌, arith, ◌⊎◌, inl, inr, Option, Some, None}
+use Rattle.std.specs.Prelude.{if◌then◌else◌}
 use Rattle.std.specs.List.{Contains}
 use Rattle.std.proofs.lemmas.Bool.{cases_lt}
 use Rattle.std.proofs.lemmas.Grind.{common_steps}
 use Rattle.std.proofs.lemmas.List.{length-replicate, get_or-set_same, get_or-set_other, length-set}
 use Rattle.std.proofs.lemmas.List.Sums.{sum_by-set}
 use Rattle.m51_cells.proofs.ListsAndOptions.{sum_most}
-use Rattle.m51_cells.proofs.Small.{contains_after, first_or_after}
 use Rattle.m51_isa.specs.declared.instr.Instr.{Instr}
 use Rattle.m51_isa.specs.declared.instr.Instr.TheVariants.{AcallAddr11, LcallAddr16}
 use Rattle.m51_module.specs.declared.parts.LayoutParts.{LayoutParts}
 use Rattle.m51_module.proofs.Units.{same_or_not}
+use Rattle.m51_stackbound.specs.declared.calls.Call.{Call as StartCall}
 use Rattle.m51_stackbound.specs.declared.point.Point.{Point}
 use Rattle.m51_module.specs.declared.start.Start.{Start}
 use Rattle.m51_module.specs.declared.start.Start.TheVariants.{Reset, At}
 use Rattle.m51_stackbound.specs.Bounds.{IsCyclic}
-use Rattle.m51_stackbound.specs.Climb.{cap, depth_in, depth_by, IsTaken, AreTaken, IsBlank, Raises, IsRaised, AreSettled, SaysDepth}
+use Rattle.m51_stackbound.specs.Callers.{calls_of}
+use Rattle.m51_stackbound.specs.Climb.{cap, depth_in, depth_by, IsTaken, AreTaken, IsBlank, IsClimbing, Raises, IsRaised, AreSettled, SaysDepth}
 use Rattle.m51_stackbound.specs.Depths.{Calls, CallsAt, CallsThrough, Direct, Through, HasHeight, Takes, Own, Call}
 use Rattle.m51_stackbound.specs.Instructions.{is_call, next_of, target_of}
 use Rattle.m51_stackbound.specs.Points.{after_call, call_by, call_of, called, ends_at, entry_at, follow_by, instruction, pops_below, pushes_above, sets_stack, IsPoint, After}
 use Rattle.m51_stackbound.specs.Rules.{rank}
 use Rattle.m51_stackbound.specs.Search.{ArePoints}
+use Rattle.m51_stackbound.proofs.CallRows.{calls_all}
 use Rattle.m51_stackbound.proofs.Leasts.{front_cases}
 
 pub blank : (count : ℕ) (depths : List ℕ) → count ≡ 65537 → depths ≡ replicate count 0 → IsBlank depths
@@ -29,31 +31,6 @@ blank count depths is e = record {
   len = rw e (length-replicate {A = ℕ} count 0 ∙ is);
   each = λ i below. rw e (grind (arith, common_steps));
 }
-
--- what passes stays
-filter_keeps : (test : Point → Bool) (ps : List Point) (p : Point) → Contains ps p → test p ≡ true → Contains (filter test ps) p
-filter_keeps test [] p k passes = k
-filter_keeps test (q ∷ ps) p k passes = elim (first_or_after q ps p k) as (λ _. Contains (filter test (q ∷ ps)) p) [
-  | inl here ↦
-      let first : test q ≡ true = ap test here ∙ passes in
-      subst (λ b. Contains (cond b (q ∷ filter test ps) (filter test ps)) p) (sym first) (0, omega arith, here)
-  | inr behind ↦ elim (test q) as (λ b. Contains (cond b (q ∷ filter test ps) (filter test ps)) p) [
-    | true ↦ contains_after q (filter test ps) p (filter_keeps test ps p behind passes)
-    | false ↦ filter_keeps test ps p behind passes
-  ]
-]
-
--- and nothing comes in
-pub filter_from : (test : Point → Bool) (ps : List Point) (p : Point) → Contains (filter test ps) p → Contains ps p
-filter_from test [] p k = k
-filter_from test (q ∷ ps) p k = from (test q) k (filter_from test ps p)
-  where
-    from : (b : Bool) → Contains (cond b (q ∷ filter test ps) (filter test ps)) p → (Contains (filter test ps) p → Contains ps p) → Contains (q ∷ ps) p
-    from true k on = elim (first_or_after q (filter test ps) p k) as (λ _. Contains (q ∷ ps) p) [
-      | inl here ↦ (0, omega arith, here)
-      | inr behind ↦ contains_after q ps p (on behind)
-    ]
-    from false k on = contains_after q ps p (on k)
 
 -- a call does not end its point
 pub call_goes : (p : Point) (instr : Instr) → is_call instr ≡ true → ends_at p instr ≡ false
@@ -90,18 +67,14 @@ at_most depth n few h = grind (arith, few, h)
 at_zero : (n depth : ℕ) → cap n ≤ depth → depth ≡ 0 → n ≡ 0
 at_zero n depth h none = grind (arith, h, none)
 
-at_least : (depths : List ℕ) (p : Point) (o : Option ℕ) (depth : ℕ) → depth_by depths p o ≤ depth → cap p.height ≤ depth
-unfolding depth_by
-at_least depths p None depth h = h
-at_least depths p (Some to) depth h = grind (arith, h)
+at_call : (depths : List ℕ) (c : StartCall) (bytes depth : ℕ) → cap bytes ≤ depth_in depths (At c.to) → depth_by depths c ≤ depth → cap (c.height + 2 + bytes) ≤ depth
+at_call depths c bytes depth below h = grind (arith, below, h)
 
-at_call : (depths : List ℕ) (p : Point) (to bytes depth : ℕ) → cap bytes ≤ depth_in depths (At to) → depth_by depths p (Some to) ≤ depth → cap (p.height + 2 + bytes) ≤ depth
-unfolding depth_by
-at_call depths p to bytes depth below h = grind (arith, below, h)
+call_less : (depths : List ℕ) (c : StartCall) (depth : ℕ) → depth ≤ 255 → depth_by depths c ≤ depth → depth_in depths (At c.to) < depth
+call_less depths c depth few h = grind (arith, few, h)
 
-call_less : (depths : List ℕ) (p : Point) (to depth : ℕ) → depth ≤ 255 → depth_by depths p (Some to) ≤ depth → depth_in depths (At to) < depth
-unfolding depth_by
-call_less depths p to depth few h = grind (arith, few, h)
+by_few : (depths : List ℕ) (c : StartCall) → depth_by depths c ≤ 256
+by_few depths c = grind arith
 
 module _ (l : LayoutParts) (image : List ℕ) where
   pub taken_first : (depths : List ℕ) → IsBlank depths → AreTaken l image depths
@@ -126,32 +99,33 @@ module _ (l : LayoutParts) (image : List ℕ) where
     height_is = refl;
   }
 
-  own : (p : Point) → IsPoint l image p → IsTaken l image p.start (cap p.height)
-  own p is = record { path = []; bytes = p.height; takes = Own p.start p.height (record { point = p; is_point = is; start_is = refl; height_is = refl }); depth_is = refl }
+  height_taken : (p : Point) → IsPoint l image p → p.height ≤ 255 → IsTaken l image p.start p.height
+  height_taken p is few = record {
+    path = [];
+    bytes = p.height;
+    takes = Own p.start p.height (record { point = p; is_point = is; start_is = refl; height_is = refl });
+    depth_is = sym (cap_low p.height (omega (arith, few)));
+  }
 
   cap_twice : (a b : ℕ) → cap (a + cap b) ≡ cap (a + b)
   cap_twice a b = grind arith
 
-  -- what a point comes to is taken
-  pub point_taken : (depths : List ℕ) (p : Point) (o : Option ℕ) → IsPoint l image p → call_of l image p ≡ o → AreTaken l image depths → IsTaken l image p.start (depth_by depths p o)
-  unfolding depth_by
-  point_taken depths p None is h are = own p is
-  point_taken depths p (Some to) is h are =
-      let call : CallsAt l image p.start p.height to = record { point = p; is_point = is; start_is = refl; height_is = refl; calls = h } in
-      elim (are.taken (At to)) as (λ _. IsTaken l image p.start (cap (p.height + 2 + depth_in depths (At to)))) [
-        | inl none ↦ record {
-          path = At to ∷ [];
-          bytes = p.height + 2 + 0;
-          takes = Call p.start p.height to [] 0 call (Own (At to) 0 (entered p to is h));
-          depth_is = ap (λ n. cap (p.height + 2 + n)) none;
-        }
-        | inr t ↦ record {
-          path = At to ∷ t.path;
-          bytes = p.height + 2 + t.bytes;
-          takes = Call p.start p.height to t.path t.bytes call t.takes;
-          depth_is = ap (λ n. cap (p.height + 2 + n)) t.depth_is ∙ cap_twice (p.height + 2) t.bytes;
-        }
-      ]
+  -- what a start takes by a call
+  call_taken : (depths : List ℕ) (c : StartCall) → CallsAt l image c.from c.height c.to → AreTaken l image depths → IsTaken l image c.from (depth_by depths c)
+  call_taken depths c call are = elim (are.taken (At c.to)) as (λ _. IsTaken l image c.from (cap (c.height + 2 + depth_in depths (At c.to)))) [
+    | inl none ↦ record {
+      path = At c.to ∷ [];
+      bytes = c.height + 2 + 0;
+      takes = Call c.from c.height c.to [] 0 call (Own (At c.to) 0 (entered call.point c.to call.is_point call.calls));
+      depth_is = ap (λ n. cap (c.height + 2 + n)) none;
+    }
+    | inr t ↦ record {
+      path = At c.to ∷ t.path;
+      bytes = c.height + 2 + t.bytes;
+      takes = Call c.from c.height c.to t.path t.bytes call t.takes;
+      depth_is = ap (λ n. cap (c.height + 2 + n)) t.depth_is ∙ cap_twice (c.height + 2) t.bytes;
+    }
+  ]
 
   -- one depth is raised
   raised : (old new : List ℕ) (start : Start) (depth : ℕ) (rose : Bool) → rank start < length old → depth ≤ 256 → AreTaken l image old → IsTaken l image start depth → Raises start depth old new rose → AreTaken l image new
@@ -173,110 +147,114 @@ module _ (l : LayoutParts) (image : List ℕ) where
       let more : sum (set old (rank start) depth) + get_or old (rank start) 0 ≡ sum old + depth = sum_by-set (λ (x : ℕ). x) old (rank start) depth 0 below in
       subst (λ ds. sum old < sum ds) (sym h.1) (omega (arith, more, h.0))
 
-  -- no depth is less then
-  record HaveGrown (old new : List ℕ) (start : Start) (depth : ℕ) : Type 0 where
+  -- no depth is less then, and that of the start is as much as this
+  record HasRisen (old new : List ℕ) (start : Start) (depth : ℕ) (rose : Bool) : Type 0 where
+    pub are : AreTaken l image new
     pub each : (s : Start) → depth_in old s ≤ depth_in new s
     pub own : depth ≤ depth_in new start
+    pub more : rose ≡ true → sum old < sum new
 
-  raises_grow : (old new : List ℕ) (start : Start) (depth : ℕ) → rank start < length old → Raises start depth old new true → HaveGrown old new start depth
-  raises_grow old new start depth below h = subst (λ ds. HaveGrown old ds start depth) (sym h.1) (record {
-    each = λ s. elim (same_or_not (rank s) (rank start)) as (λ _. depth_in old s ≤ get_or (set old (rank start) depth) (rank s) 0) [
-      | inl e ↦
-          let now : get_or (set old (rank start) depth) (rank s) 0 ≡ depth = ap (λ k. get_or (set old (rank start) depth) k 0) e ∙ get_or-set_same old (rank start) depth 0 below in
-          let was : depth_in old s ≡ depth_in old start = ap (λ k. get_or old k 0) e in
-          omega (arith, now, was, h.0)
-      | inr other ↦ let now = get_or-set_other old (rank start) (rank s) depth 0 other in omega (arith, now)
-    ];
-    own = let now = get_or-set_same old (rank start) depth 0 below in omega (arith, now);
+  has_risen : (old new : List ℕ) (start : Start) (depth : ℕ) (rose : Bool) → rank start < length old → depth ≤ 256 → AreTaken l image old → IsTaken l image start depth → Raises start depth old new rose
+      → HasRisen old new start depth rose
+  has_risen old new start depth false below few are taken h = subst (λ ds. HasRisen old ds start depth false) (sym h.1) (record {
+    are = are;
+    each = λ s. omega arith;
+    own = h.0;
+    more = λ e. absurd (cc e);
   })
+  has_risen old new start depth true below few are taken h =
+      let now : depth_in new start ≡ depth = ap (λ (ds : List ℕ). depth_in ds start) h.1 ∙ get_or-set_same old (rank start) depth 0 below in
+      record {
+        are = raised old new start depth true below few are taken h;
+        each = λ s. elim (same_or_not (rank s) (rank start)) as (λ _. depth_in old s ≤ depth_in new s) [
+          | inl e ↦
+              let after : depth_in new s ≡ depth_in new start = ap (λ k. get_or new k 0) e in
+              let was : depth_in old s ≡ depth_in old start = ap (λ k. get_or old k 0) e in
+              omega (arith, now, was, after, h.0)
+          | inr other ↦
+              let after : depth_in new s ≡ depth_in old s = ap (λ (ds : List ℕ). depth_in ds s) h.1 ∙ get_or-set_other old (rank start) (rank s) depth 0 other in
+              omega (arith, after)
+        ];
+        own = omega (arith, now);
+        more = λ e. raised_sum old new start depth below h;
+      }
 
-  -- none of no points
-  pub raised_none : (depths : List ℕ) → AreTaken l image depths → IsRaised l image [] depths depths false
-  raised_none depths are = record { are = are; grown = λ start. omega arith; own = λ p k. absurd (omega (arith, k.1)); same = λ h. refl; high = λ h p k. absurd (omega (arith, k.1)); not_less = omega arith; more = λ h. absurd (cc h) }
+  pub climbing_none : (depths : List ℕ) → AreTaken l image depths → IsClimbing l image [] depths
+  climbing_none depths are = record { are = are; own = λ p k. absurd (omega (arith, k.1)) }
 
   -- the next point
-  pub raised_next : (points : List Point) (i : ℕ) (d : Point) (old now new : List ℕ) (rose up : Bool) → i < length points → rank (get_or points i d).start < length now
-      → IsPoint l image (get_or points i d) → IsRaised l image (take i points) old now rose
-      → Raises (get_or points i d).start (depth_by now (get_or points i d) (call_of l image (get_or points i d))) now new up
-      → depth_by now (get_or points i d) (call_of l image (get_or points i d)) ≤ 256
-      → IsRaised l image (take (i + 1) points) old new (up || rose)
-  raised_next points i d old now new rose true below inside is h up few =
+  pub climbing_next : (points : List Point) (i : ℕ) (d : Point) (now new : List ℕ) (up : Bool) → i < length points → rank (get_or points i d).start < length now
+      → IsPoint l image (get_or points i d) → (get_or points i d).height ≤ 255 → IsClimbing l image (take i points) now
+      → Raises (get_or points i d).start (get_or points i d).height now new up → IsClimbing l image (take (i + 1) points) new
+  climbing_next points i d now new up below inside is few h raises =
       let p = get_or points i d in
-      let taken = point_taken now p (call_of l image p) is refl h.are in
-      let sums = raised_sum now new p.start (depth_by now p (call_of l image p)) inside up in
-      let more = raises_grow now new p.start (depth_by now p (call_of l image p)) inside up in
+      let r = has_risen now new p.start p.height up inside (omega (arith, few)) h.are (height_taken p is few) raises in
       record {
-        are = raised now new p.start (depth_by now p (call_of l image p)) true inside few h.are taken up;
-        grown = λ s. let before = h.grown s in let after = more.each s in omega (arith, before, after);
+        are = r.are;
         own = λ q k. elim (front_cases points i d q below k) as (λ _. cap q.height ≤ depth_in new q.start) [
-          | inl before ↦ let low = h.own q before in let after = more.each q.start in omega (arith, low, after)
-          | inr here ↦ subst (λ (r : Point). cap r.height ≤ depth_in new r.start) here (at_least now p (call_of l image p) (depth_in new p.start) (omega (arith, more.own)))
+          | inl before ↦ let low = h.own q before in let after = r.each q.start in omega (arith, low, after)
+          | inr here ↦ subst (λ (s : Point). cap s.height ≤ depth_in new s.start) here (capped p.height (depth_in new p.start) r.own)
         ];
-        same = λ e. absurd (cc e);
+      }
+    where
+      capped : (n depth : ℕ) → n ≤ depth → cap n ≤ depth
+      capped n depth h = grind (arith, h)
+
+  -- by no calls
+  pub raised_none : (depths : List ℕ) → AreTaken l image depths → IsRaised l image [] depths depths false
+  raised_none depths are = record { are = are; grown = λ start. omega arith; high = λ h c k. absurd (omega (arith, k.1)); not_less = omega arith; more = λ h. absurd (cc h) }
+
+  -- the next call
+  pub raised_next : (calls : List StartCall) (i : ℕ) (d : StartCall) (old now new : List ℕ) (rose up : Bool) → i < length calls → rank (get_or calls i d).from < length now
+      → CallsAt l image (get_or calls i d).from (get_or calls i d).height (get_or calls i d).to → IsRaised l image (take i calls) old now rose
+      → Raises (get_or calls i d).from (depth_by now (get_or calls i d)) now new up → IsRaised l image (take (i + 1) calls) old new (up || rose)
+  raised_next calls i d old now new rose true below inside is h up =
+      let c = get_or calls i d in
+      let r = has_risen now new c.from (depth_by now c) true inside (by_few now c) h.are (call_taken now c is h.are) up in
+      let sums = r.more refl in
+      record {
+        are = r.are;
+        grown = λ s. let before = h.grown s in let after = r.each s in omega (arith, before, after);
         high = λ e. absurd (cc e);
         not_less = omega (arith, sums, h.not_less);
         more = λ e. omega (arith, sums, h.not_less);
       }
-  raised_next points i d old now new rose false below inside is h up few =
-      let p = get_or points i d in
-      subst (λ ds. IsRaised l image (take (i + 1) points) old ds rose) (sym up.1) (record {
-        are = h.are;
-        grown = h.grown;
-        own = λ q k. elim (front_cases points i d q below k) as (λ _. cap q.height ≤ depth_in now q.start) [
-          | inl before ↦ h.own q before
-          | inr here ↦ subst (λ (r : Point). cap r.height ≤ depth_in now r.start) here (at_least now p (call_of l image p) (depth_in now p.start) up.0)
-        ];
-        same = h.same;
-        high = λ e q k. elim (front_cases points i d q below k) as (λ _. depth_by now q (call_of l image q) ≤ depth_in now q.start) [
-          | inl before ↦ h.high e q before
-          | inr here ↦ subst (λ (r : Point). depth_by now r (call_of l image r) ≤ depth_in now r.start) here up.0
-        ];
-        not_less = h.not_less;
-        more = h.more;
-      })
+  raised_next calls i d old now new rose false below inside is h up = subst (λ ds. IsRaised l image (take (i + 1) calls) old ds rose) (sym up.1) (record {
+    are = h.are;
+    grown = h.grown;
+    high = λ e q k. elim (front_cases calls i d q below k) as (λ _. depth_by now q ≤ depth_in now q.from) [
+      | inl before ↦ h.high e q before
+      | inr here ↦ subst (λ (c : StartCall). depth_by now c ≤ depth_in now c.from) here up.0
+    ];
+    not_less = h.not_less;
+    more = h.more;
+  })
 
-  -- the table while it climbs: no depth is less than the height of a point
-  pub record IsClimbing (points : List Point) (depths : List ℕ) : Type 0 where
-    pub are : AreTaken l image depths
-    pub own : (p : Point) → Contains points p → cap p.height ≤ depth_in depths p.start
-
-  -- the points that call are looked at
-  pub climbing_on : (points calling : List Point) (old new : List ℕ) (rose : Bool) → IsClimbing points old → IsRaised l image calling old new rose → IsClimbing points new
-  climbing_on points calling old new rose h r = record {
+  -- where no call raises a depth, the table is settled
+  pub climbed : (points : List Point) (calls : List StartCall) (old new : List ℕ) → calls ≡ calls_of l image points → IsClimbing l image points old → IsRaised l image calls old new false
+      → AreSettled l image points new
+  climbed points calls old new is h r = record {
     are = r.are;
     own = λ p k. let low = h.own p k in let more = r.grown p.start in omega (arith, low, more);
+    calls = λ c k. r.high refl c (subst (λ (cs : List StartCall). Contains cs c) (sym is) k);
   }
-
-  -- where none of them raises a depth, the table is settled
-  pub climbed : (points calling : List Point) (old new : List ℕ) → calling ≡ filter (λ p. is_some (call_of l image p)) points → IsClimbing points old → IsRaised l image calling old new false
-      → AreSettled l image points new
-  unfolding depth_by
-  climbed points calling old new is h r = record {
-    are = r.are;
-    high = λ p k. by p k (call_of l image p) refl;
-  }
-    where
-      by : (p : Point) → Contains points p → (o : Option ℕ) → call_of l image p ≡ o → depth_by new p (call_of l image p) ≤ depth_in new p.start
-      by p k None e = let low = h.own p k in let more = r.grown p.start in rw e (omega (arith, low, more))
-      by p k (Some to) e = r.high refl p (subst (λ (ps : List Point). Contains ps p) (sym is) (filter_keeps (λ (q : Point). is_some (call_of l image q)) points p k (ap is_some e)))
-
-  pub by_few : (depths : List ℕ) (p : Point) (o : Option ℕ) → depth_by depths p o ≤ 256
-  unfolding depth_by
-  by_few depths p None = grind arith
-  by_few depths p (Some to) = grind arith
 
   module _ (points : List Point) (depths : List ℕ) (are : ArePoints l image points) (s : AreSettled l image points depths) where
     pub settled_own : (start : Start) (height : ℕ) → HasHeight l image start height → cap height ≤ depth_in depths start
-    settled_own start height h = by (call_of l image h.point) (s.high h.point (are.all h.point h.is_point))
-      where
-        by : (o : Option ℕ) → depth_by depths h.point o ≤ depth_in depths h.point.start → cap height ≤ depth_in depths start
-        by o high = subst (λ t. cap height ≤ depth_in depths t) h.start_is (subst (λ n. cap n ≤ depth_in depths h.point.start) h.height_is (at_least depths h.point o (depth_in depths h.point.start) high))
+    settled_own start height h =
+        subst (λ t. cap height ≤ depth_in depths t) h.start_is
+        (subst (λ n. cap n ≤ depth_in depths h.point.start) h.height_is (s.own h.point (are.all h.point h.is_point)))
+
+    -- so it is of a call of the program, which is in the list of calls
+    of_call : (start : Start) (height to : ℕ) → CallsAt l image start height to → depth_by depths (record { from = start; height = height; to = to }) ≤ depth_in depths start
+    of_call start height to c =
+        let listed = calls_all l image points c.point to (are.all c.point c.is_point) c.calls in
+        let high = s.calls (record { from = c.point.start; height = c.point.height; to = to }) listed in
+        subst (λ t. depth_by depths (record { from = t; height = height; to = to }) ≤ depth_in depths t) c.start_is
+        (subst (λ n. depth_by depths (record { from = c.point.start; height = n; to = to }) ≤ depth_in depths c.point.start) c.height_is high)
 
     pub settled_call : (start : Start) (height to bytes : ℕ) → CallsAt l image start height to → cap bytes ≤ depth_in depths (At to) → cap (height + 2 + bytes) ≤ depth_in depths start
-    settled_call start height to bytes c below =
-        let high = subst (λ o. depth_by depths c.point o ≤ depth_in depths c.point.start) c.calls (s.high c.point (are.all c.point c.is_point)) in
-        subst (λ t. cap (height + 2 + bytes) ≤ depth_in depths t) c.start_is
-        (subst (λ n. cap (n + 2 + bytes) ≤ depth_in depths c.point.start) c.height_is (at_call depths c.point to bytes (depth_in depths c.point.start) below high))
+    settled_call start height to bytes c below = at_call depths (record { from = start; height = height; to = to }) bytes (depth_in depths start) below (of_call start height to c)
 
     -- what a start takes is no more than its depth in a settled table, where that is at most 255
     pub takes_most : (start : Start) (path : List Start) (bytes : ℕ) → Takes l image start path bytes → cap bytes ≤ depth_in depths start
@@ -314,9 +292,7 @@ module _ (l : LayoutParts) (image : List ℕ) where
 
     -- a start whose depth is not above 255 is deeper than each that it calls, directly or through others
     calls_less : (start : Start) (to : ℕ) → depth_in depths start ≤ 255 → Calls l image start to → depth_in depths (At to) < depth_in depths start
-    calls_less start to low (height, c) =
-        let high = subst (λ o. depth_by depths c.point o ≤ depth_in depths c.point.start) c.calls (s.high c.point (are.all c.point c.is_point)) in
-        subst (λ t. depth_in depths (At to) < depth_in depths t) c.start_is (call_less depths c.point to (depth_in depths c.point.start) (subst (λ t. depth_in depths t ≤ 255) (sym c.start_is) low) high)
+    calls_less start to low (height, c) = call_less depths (record { from = start; height = height; to = to }) (depth_in depths start) low (of_call start height to c)
 
     through_less : (start : Start) (to : ℕ) → depth_in depths start ≤ 255 → CallsThrough l image start to → depth_in depths (At to) < depth_in depths start
     through_less start _ low (Direct to h) = calls_less start to low h

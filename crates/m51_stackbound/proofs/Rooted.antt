@@ -82,7 +82,7 @@ module _ (l : LayoutParts) (image : List ℕ) where
     | inr entry ↦ entry_under a entry.to q entry.is s (After p q is after)
   ]
 
-  -- a value that SP may come to that is at least so much
+  -- a value that SP may get and that is at least this number
   pub record ComesAbove (bytes : ℕ) : Type 0 where
     pub value : ℕ
     pub comes : ComesTo l image value

@@ -13,7 +13,7 @@ module _ (l : LayoutParts) (image : List ℕ) where
   added _ (OneHandler v d h k) = One v d k.path h k.takes
   added _ (TwoHandlers v w d e h k ne i j) = Two v w d e i.path j.path h k ne i.takes j.takes
 
-  -- a sum of depths that is at least so much
+  -- a sum of depths that is at least this number
   record AddsAbove (bytes : ℕ) : Type 0 where
     pub sum : ℕ
     pub adds : DepthsAdd l image sum

@@ -1,4 +1,4 @@
--- The sum that the table tells is the total, and so is where a depth is above 255.
+-- The sum by the table is the total, and SP may exceed 255 where a depth is above 255.
 use Rattle.std.proofs.Common.{◌≤◌, ◌+◌, ℕ, List, refl, subst, arith, inl, inr}
 use Rattle.std.specs.List.{Contains}
 use Rattle.m51_module.specs.declared.parts.LayoutParts.{LayoutParts}

@@ -1,9 +1,11 @@
--- Walks over rows find what the rows lead to, and these are the starts that a start calls.
-use Rattle.std.proofs.Common.{◌≡◌, ◌<◌, ◌≤◌, ◌+◌, ◌*◌, ℕ, Bool, true, false, List, [], ◌∷◌, ◌++◌, length, get_or, set, replicate, refl, sym, ap, subst, ◌∙◌, arith, ◌⊎◌, inl, inr, append_assoc, length-append}
+-- What walks over rows find, and which starts do not call themselves.
+use Rattle.std.proofs.Common.{◌≡◌, ◌<◌, ◌≤◌, ◌+◌, ◌-◌, ◌*◌, ◌↔◌, ℕ, Bool, true, false, List, [], ◌∷◌, ◌++◌, length, get_or, set, replicate, refl, sym, ap, subst, ◌∙◌, arith, ◌⊎◌, inl, inr, append_assoc, length-append}
 use Rattle.std.specs.List.{Contains, sum_by}
+use Rattle.std.specs.Prelude.{nat_eq}
 use Rattle.std.proofs.lemmas.Bool.{cases_lt}
+use Rattle.std.proofs.lemmas.Bool.Decides.{eqb_tells}
 use Rattle.std.proofs.lemmas.Grind.{common_steps}
-use Rattle.std.proofs.lemmas.List.{append-nil, get_or-set_same, get_or-set_other, length-set, length-replicate}
+use Rattle.std.proofs.lemmas.List.{append-nil, get_or_append_left, get_or-append_right, get_or-set_same, get_or-set_other, length-set, length-replicate}
 use Rattle.std.proofs.lemmas.List.Elements.{Contains-append_left, Contains-append_cases, Contains-get_or, Contains-push, Contains-push_cases}
 use Rattle.std.proofs.lemmas.List.Folds.{sum_by-replicate}
 use Rattle.std.proofs.lemmas.List.Sums.{sum_by-set}
@@ -11,11 +13,20 @@ use Rattle.m51_cells.proofs.Small.{first_or_after, none_in_empty}
 use Rattle.m51_module.specs.declared.parts.LayoutParts.{LayoutParts}
 use Rattle.m51_module.specs.declared.start.Start.TheVariants.{At}
 use Rattle.m51_module.proofs.Units.{same_or_not}
-use Rattle.m51_stackbound.specs.Callers.{AreCallRows, AreLed, AreMarked, GoesOn, Leads, Once, one_unmarked, Over, row_of}
+use Rattle.m51_stackbound.specs.Callers.{AreCallRows, AreCleared, AreMarked, GoesOn, HasCallees, IsClosed, Leads, Once, one_unmarked, Over, row_of, Walks, with_clear}
 use Rattle.m51_stackbound.specs.Depths.{CallsThrough, Direct, Through}
 
 blank_mark : (n k : ℕ) → get_or (replicate n false) k false ≡ false
 blank_mark n k = grind (arith, common_steps)
+
+pub marks_len : (count : ℕ) (marks : List Bool) → marks ≡ replicate count false → length marks ≡ count
+marks_len count marks e = rw e (length-replicate {A = Bool} count false)
+
+pub same_when : (a b : ℕ) → nat_eq a b ≡ true → a ≡ b
+same_when a b e = elim (eqb_tells a b) as (λ _. a ≡ b) [
+  | inl same ↦ same.1
+  | inr other ↦ absurd (cc (e, other.0))
+]
 
 pub marked_none : (count : ℕ) (marks : List Bool) → count ≡ 65536 → marks ≡ replicate count false → AreMarked [] marks
 marked_none count marks is e = subst (λ (ms : List Bool). AreMarked [] ms) (sym e) (record {
@@ -96,7 +107,7 @@ goes_more old now new xs x g h = record {
   ];
 }
 
--- what a list that goes on has
+-- what a continued list has
 module _ (old starts new : List ℕ) (g : GoesOn old starts new) where
   pub went_kept : (a : ℕ) → Contains old a → Contains new a
   went_kept a k = subst (λ (l : List ℕ). Contains l a) (sym g.is) (Contains-append_left old g.more a k)
@@ -110,52 +121,124 @@ module _ (old starts new : List ℕ) (g : GoesOn old starts new) where
   pub went_front : (i d : ℕ) → i < length old → get_or new i d ≡ get_or old i d
   went_front i d below = ap (λ (l : List ℕ). get_or l i d) g.is ∙ grind (arith, common_steps, below)
 
--- the walk: what is found is led to, and whom the starts that were looked at call is found
-pub record IsWalking (rows : List (List ℕ)) (from : ℕ) (starts : List ℕ) (next : ℕ) : Type 0 where
-  pub only : (a : ℕ) → Contains starts a → Leads rows from a
-  pub begun : (a : ℕ) → Contains (row_of rows from) a → Contains starts a
-  pub looked : (i a : ℕ) → i < next → i < length starts → Contains (row_of rows (get_or starts i 0)) a → Contains starts a
+-- an element that was added
+added : (old more now : List ℕ) (n : ℕ) → now ≡ old ++ more → length old ≤ n → n < length now → Contains more (get_or now n 0)
+added old more now n is high below =
+    let at : get_or now n 0 ≡ get_or more (n - length old) 0 = ap (λ (l : List ℕ). get_or l n 0) is ∙ get_or-append_right old more (length old) n 0 refl high in
+    let long : length now ≡ length old + length more = ap (λ (l : List ℕ). length l) is ∙ length-append old more in
+    subst (λ x. Contains more x) (sym at) (Contains-get_or more (n - length old) 0 (omega (arith, high, below, long)))
 
-module _ (rows : List (List ℕ)) (from : ℕ) where
-  pub walk_first : (starts : List ℕ) → GoesOn [] (row_of rows from) starts → IsWalking rows from starts 0
+-- the walk: what it adds is led to, and whom the starts that were looked at call is found
+pub record IsWalking (rows : List (List ℕ)) (from : ℕ) (old starts : List ℕ) (next : ℕ) : Type 0 where
+  pub more : List ℕ
+  pub is : starts ≡ old ++ more
+  pub only : (a : ℕ) → Contains more a → Leads rows from a
+  pub begun : HasCallees rows starts from
+  pub looked : (i : ℕ) → length old ≤ i → i < next → i < length starts → HasCallees rows starts (get_or starts i 0)
+
+module _ (rows : List (List ℕ)) (from : ℕ) (old : List ℕ) where
+  pub walk_first : (starts : List ℕ) → GoesOn old (row_of rows from) starts → IsWalking rows from old starts (length old)
   walk_first starts g = record {
-    only = λ a k. elim (went_from [] (row_of rows from) starts g a k) as (λ _. Leads rows from a) [
-      | inl none ↦ absurd (none_in_empty a none)
-      | inr called ↦ Once a called
-    ];
+    more = g.more;
+    is = g.is;
+    only = λ a k. Once a (g.from a k);
     begun = g.all;
-    looked = λ i a low below k. absurd (omega (arith, low));
+    looked = λ i high low below a k. absurd (omega (arith, high, low));
   }
 
-  pub walk_step : (old new : List ℕ) (next : ℕ) → next < length old → IsWalking rows from old next → GoesOn old (row_of rows (get_or old next 0)) new → IsWalking rows from new (next + 1)
-  walk_step old new next below w g =
-      let via : ℕ = get_or old next 0 in
+  pub walk_step : (now new : List ℕ) (next : ℕ) → length old ≤ next → next < length now → IsWalking rows from old now next → GoesOn now (row_of rows (get_or now next 0)) new
+      → IsWalking rows from old new (next + 1)
+  walk_step now new next high below w g =
+      let via : ℕ = get_or now next 0 in
       record {
-        only = λ a k. elim (went_from old (row_of rows via) new g a k) as (λ _. Leads rows from a) [
+        more = w.more ++ g.more;
+        is = g.is ∙ ap (λ (l : List ℕ). l ++ g.more) w.is ∙ append_assoc old w.more g.more;
+        only = λ a k. elim (Contains-append_cases w.more g.more a k) as (λ _. Leads rows from a) [
           | inl before ↦ w.only a before
-          | inr called ↦ Over via a (w.only via (Contains-get_or old next 0 below)) called
+          | inr later ↦ Over via a (w.only via (added old w.more now next w.is high below)) (g.from a later)
         ];
-        begun = λ a k. went_kept old (row_of rows via) new g a (w.begun a k);
-        looked = λ i a low inside k. elim (cases_lt i next) as (λ _. Contains new a) [
+        begun = λ a k. went_kept now (row_of rows via) new g a (w.begun a k);
+        looked = λ i up low inside a k. elim (cases_lt i next) as (λ _. Contains new a) [
           | inl early ↦
-              let within : i < length old = omega (arith, early, below) in
-              went_kept old (row_of rows via) new g a (w.looked i a early within (subst (λ n. Contains (row_of rows n) a) (went_front old (row_of rows via) new g i 0 within) k))
+              let within : i < length now = omega (arith, early, below) in
+              went_kept now (row_of rows via) new g a (w.looked i up early within a (subst (λ n. Contains (row_of rows n) a) (went_front now (row_of rows via) new g i 0 within) k))
           | inr late ↦
               let is : i ≡ next = omega (arith, late, low) in
-              let same : get_or new i 0 ≡ via = ap (λ n. get_or new n 0) is ∙ went_front old (row_of rows via) new g next 0 below in
+              let same : get_or new i 0 ≡ via = ap (λ n. get_or new n 0) is ∙ went_front now (row_of rows via) new g next 0 below in
               g.all a (subst (λ n. Contains (row_of rows n) a) same k)
         ];
       }
 
-  all_led : (starts : List ℕ) (next : ℕ) → length starts ≤ next → IsWalking rows from starts next → (a : ℕ) → Leads rows from a → Contains starts a
-  all_led starts next done w _ (Once a called) = w.begun a called
-  all_led starts next done w _ (Over via a before called) =
-      let h = all_led starts next done w via before in
-      let is : get_or starts h.0 0 ≡ via = grind (arith, common_steps, h.1, h.2) in
-      w.looked h.0 a (omega (arith, h.1, done)) h.1 (subst (λ n. Contains (row_of rows n) a) (sym is) called)
+  pub walk_done : (starts : List ℕ) (next : ℕ) → length starts ≤ next → IsWalking rows from old starts next → Walks rows from old starts
+  walk_done starts next done w = record {
+    more = w.more;
+    is = w.is;
+    only = w.only;
+    begun = w.begun;
+    closed = λ a k.
+        let at : get_or starts k.0 0 ≡ a = grind (arith, common_steps, k.1, k.2) in
+        elim (cases_lt k.0 (length old)) as (λ _. Contains old a ⊎ HasCallees rows starts a) [
+          | inl early ↦
+              let was : get_or starts k.0 0 ≡ get_or old k.0 0 = ap (λ (l : List ℕ). get_or l k.0 0) w.is ∙ get_or_append_left old w.more 0 k.0 early in
+              inl (subst (λ x. Contains old x) (sym was ∙ at) (Contains-get_or old k.0 0 early))
+          | inr late ↦ inr (subst (λ x. HasCallees rows starts x) at (w.looked k.0 (omega (arith, late)) (omega (arith, k.1, done)) k.1))
+        ];
+  }
 
-  pub walk_done : (starts : List ℕ) (next : ℕ) → length starts ≤ next → IsWalking rows from starts next → AreLed rows from starts
-  walk_done starts next done w = record { only = w.only; all = all_led starts next done w }
+  module _ (new : List ℕ) (w : Walks rows from old new) where
+    -- what the rows lead to is found, where what was found before is closed
+    pub led_found : IsClosed rows old → (a : ℕ) → Leads rows from a → Contains new a
+    led_found closed _ (Once a called) = w.begun a called
+    led_found closed _ (Over via a before called) = elim (w.closed via (led_found closed via before)) as (λ _. Contains new a) [
+      | inl early ↦ subst (λ (l : List ℕ). Contains l a) (sym w.is) (Contains-append_left old w.more a (closed via early a called))
+      | inr here ↦ here a called
+    ]
+
+    -- where nothing is added, a start that is new does not call itself
+    pub alone : IsClosed rows old → (Contains old from → ⊥) → length new ≡ length old → Leads rows from from → ⊥
+    alone closed fresh same h =
+        elim (Contains-append_cases old w.more from (subst (λ (l : List ℕ). Contains l from) w.is (led_found closed from h))) as (λ _. ⊥) [
+          | inl early ↦ fresh early
+          | inr late ↦ omega (arith, same, late.1, ap (λ (l : List ℕ). length l) w.is, length-append old w.more)
+        ]
+
+    -- and with the start itself it is closed again
+    pub closed_again : (after : List ℕ) → IsClosed rows old → GoesOn new (from ∷ []) after → IsClosed rows after
+    closed_again after closed g a k b called = went_kept new (from ∷ []) after g b (elim (went_from new (from ∷ []) after g a k) as (λ _. Contains new b) [
+      | inl before ↦ elim (w.closed a before) as (λ _. Contains new b) [
+        | inl early ↦ subst (λ (l : List ℕ). Contains l b) (sym w.is) (Contains-append_left old w.more b (closed a early b called))
+        | inr here ↦ here b called
+      ]
+      | inr last ↦ elim (first_or_after from [] a last) as (λ _. Contains new b) [
+        | inl here ↦ w.begun b (subst (λ n. Contains (row_of rows n) b) (sym here) called)
+        | inr none ↦ absurd (none_in_empty a none)
+      ]
+    ])
+
+-- a walk from nothing finds what the rows lead to
+pub walk_finds : (rows : List (List ℕ)) (from : ℕ) (new : List ℕ) → Walks rows from [] new → (a : ℕ) → Contains new a ↔ Leads rows from a
+walk_finds rows from new w a = (
+  λ k. w.only a (subst (λ (l : List ℕ). Contains l a) w.is k),
+  λ h. led_found rows from [] new w (λ b k. absurd (none_in_empty b k)) a h,
+)
+
+-- one more start, which is marked if it is clear
+pub cleared_more : (rows : List (List ℕ)) (cleared : List Bool) (start : ℕ) (is_clear : Bool) → start < 65536 → (is_clear ≡ true → Leads rows start start → ⊥) → AreCleared rows cleared
+    → AreCleared rows (with_clear cleared start is_clear)
+cleared_more rows cleared start false few apart h = h
+cleared_more rows cleared start true few apart h = record {
+  len = length-set cleared start true ∙ h.len;
+  apart = λ a k. elim (same_or_not a start) as (λ _. Leads rows a a → ⊥) [
+    | inl e ↦ subst (λ n. Leads rows n n → ⊥) (sym e) (apart refl)
+    | inr ne ↦ h.apart a (sym (get_or-set_other cleared start a true false ne) ∙ k)
+  ];
+}
+
+pub cleared_none : (rows : List (List ℕ)) (count : ℕ) (cleared : List Bool) → count ≡ 65536 → cleared ≡ replicate count false → AreCleared rows cleared
+cleared_none rows count cleared is e = subst (λ (marks : List Bool). AreCleared rows marks) (sym e) (record {
+  len = length-replicate {A = Bool} count false ∙ is;
+  apart = λ a k. absurd (cc (k, blank_mark count a));
+})
 
 -- the rows of a program lead from a start to those that it calls, directly or through others
 module _ (l : LayoutParts) (image : List ℕ) (rows : List (List ℕ)) (are : AreCallRows l image rows) where

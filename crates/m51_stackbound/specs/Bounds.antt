@@ -93,7 +93,7 @@ module _ (l : LayoutParts) (image : List ℕ) where
     Two : (v w d e : ℕ) (path other : List Start) → Contains (handlers l) v → Contains (handlers l) w → v ≢ w
         → Takes l image (At v) path d → Takes l image (At w) other e → Adds (2 + d + (2 + e))
 
-  -- a value that SP may come to: what the reset takes, and what interrupts add
+  -- a value that SP may get: what the reset takes, and what interrupts add
   pub record ComesTo (value : ℕ) : Type 0 where
     pub path : List Start
     pub reset : ℕ
@@ -107,7 +107,7 @@ module _ (l : LayoutParts) (image : List ℕ) where
     pub comes : ComesTo total
     pub most : (value : ℕ) → ComesTo value → value ≤ total
 
-  -- K6: PUSH stands at height 255, or a value is above 255
+  -- K6: PUSH is at height 255, or a value is above 255
   abbrev pub IsTooDeep : Type 0
   IsTooDeep = ((place : Place) × Breaks PushesAbove place) ⊎ ((value : ℕ) × ComesTo value × (255 < value))
 

@@ -1,13 +1,14 @@
 -- Depths in a table by starts, none above 256, and how they are raised.
 use Rattle.std.specs.Prelude.{◌≡◌, ◌⊎◌, ℕ, ◌+◌, ◌<◌, ◌≤◌, min, Bool, true, false, List, length, sum}
-use Rattle.std.specs.Prelude.{slice_set, slice_index, Option, Some, None}
+use Rattle.std.specs.Prelude.{slice_set, slice_index}
 use Rattle.std.specs.List.{Contains}
 use Rattle.m51_module.specs.declared.parts.LayoutParts.{LayoutParts}
 use Rattle.m51_stackbound.specs.declared.point.Point.{Point}
 use Rattle.m51_module.specs.declared.start.Start.{Start}
 use Rattle.m51_module.specs.declared.start.Start.TheVariants.{At}
-use Rattle.m51_stackbound.specs.Depths.{IsDepth, Takes}
-use Rattle.m51_stackbound.specs.Points.{call_of}
+use Rattle.m51_stackbound.specs.declared.calls.Call.{Call}
+use Rattle.m51_stackbound.specs.Callers.{calls_of}
+use Rattle.m51_stackbound.specs.Depths.{CallsAt, IsDepth, Takes}
 use Rattle.m51_stackbound.specs.Rules.{rank}
 
 -- a depth above 255 counts as 256
@@ -18,12 +19,15 @@ cap bytes = min bytes 256
 abbrev pub depth_in : List ℕ → Start → ℕ
 depth_in depths start = slice_index depths (rank start)
 
--- what a point that calls this start comes to
-unfoldable pub depth_by : List ℕ → Point → Option ℕ → ℕ
-depth_by depths p None = cap p.height
-depth_by depths p (Some to) = cap (p.height + 2 + depth_in depths (At to))
+-- what a start takes by a call
+abbrev pub depth_by : List ℕ → Call → ℕ
+depth_by depths call = cap (call.height + 2 + depth_in depths (At call.to))
 
--- the start and what it calls take so much
+-- the calls of the program, or some of them
+abbrev pub AreCalls : LayoutParts → List ℕ → List Call → Type 0
+AreCalls l image calls = (c : Call) → Contains calls c → CallsAt l image c.from c.height c.to
+
+-- the start and what it calls take this number of bytes, by a path
 pub record IsTaken (l : LayoutParts) (image : List ℕ) (start : Start) (depth : ℕ) : Type 0 where
   pub path : List Start
   pub bytes : ℕ
@@ -46,23 +50,27 @@ abbrev pub Raises : Start → ℕ → List ℕ → List ℕ → Bool → Type 0
 Raises start depth old new true = (depth_in old start < depth) × (new ≡ slice_set old (rank start) depth)
 Raises start depth old new false = (depth ≤ depth_in old start) × (new ≡ old)
 
--- the points are looked at: no depth is less than it was, or than the height of a point; where none rose, none is less
--- than what a point comes to
+-- the table while it climbs: no depth is less than the height of one of these points
+pub record IsClimbing (l : LayoutParts) (image : List ℕ) (points : List Point) (depths : List ℕ) : Type 0 where
+  pub are : AreTaken l image depths
+  pub own : (p : Point) → Contains points p → cap p.height ≤ depth_in depths p.start
+
+-- the calls are looked at: no depth is less than it was; where none rose, none is less than what its start takes by one
+-- of the calls
 pub record IsRaised
-    (l : LayoutParts) (image : List ℕ) (points : List Point) (old new : List ℕ) (rose : Bool)
+    (l : LayoutParts) (image : List ℕ) (calls : List Call) (old new : List ℕ) (rose : Bool)
     : Type 0 where
   pub are : AreTaken l image new
   pub grown : (start : Start) → depth_in old start ≤ depth_in new start
-  pub own : (p : Point) → Contains points p → cap p.height ≤ depth_in new p.start
-  pub same : rose ≡ false → new ≡ old
-  pub high : rose ≡ false → (p : Point) → Contains points p → depth_by new p (call_of l image p) ≤ depth_in new p.start
+  pub high : rose ≡ false → (c : Call) → Contains calls c → depth_by new c ≤ depth_in new c.from
   pub not_less : sum old ≤ sum new
   pub more : rose ≡ true → sum old < sum new
 
--- the table is settled
+-- the table is settled: no depth is less than a height of its start, or than what the start takes by a call
 pub record AreSettled (l : LayoutParts) (image : List ℕ) (points : List Point) (depths : List ℕ) : Type 0 where
   pub are : AreTaken l image depths
-  pub high : (p : Point) → Contains points p → depth_by depths p (call_of l image p) ≤ depth_in depths p.start
+  pub own : (p : Point) → Contains points p → cap p.height ≤ depth_in depths p.start
+  pub calls : (c : Call) → Contains (calls_of l image points) c → depth_by depths c ≤ depth_in depths c.from
 
 -- what a settled table says of a start
 abbrev pub SaysDepth : LayoutParts → List ℕ → Start → ℕ → Type 0

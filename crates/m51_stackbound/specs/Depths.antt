@@ -31,8 +31,8 @@ pub data CallsThrough (l : LayoutParts) (image : List ℕ) (start : Start) : ℕ
   Direct : (to : ℕ) → Calls l image start to → CallsThrough l image start to
   Through : (via to : ℕ) → CallsThrough l image start via → Calls l image (At via) to → CallsThrough l image start to
 
--- The starts after the first, each called by the one before it, take so many bytes of stack: each call its height and
--- two for the return address, and the last start the height of one of its points.
+-- The starts after the first, each called by the one before it, take this number of bytes of stack: each call its
+-- height and two for the return address, and the last start the height of one of its points.
 pub data Takes (l : LayoutParts) (image : List ℕ) : Start → List Start → ℕ → Type 0 where
   Own : (start : Start) (height : ℕ) → HasHeight l image start height → Takes l image start [] height
   Call : (start : Start) (height to : ℕ) (more : List Start) (bytes : ℕ)

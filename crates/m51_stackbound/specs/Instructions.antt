@@ -1,20 +1,19 @@
 -- What an instruction does with SP and with control, and which addresses it may lead to.
 use Rattle.std.specs.Prelude.{ℕ, ◌+◌, ◌%◌, Bool, true, false, nat_eq, if◌then◌else◌, List, [], ◌∷◌}
 use Rattle.std.specs.Prelude.{slice_index, Option, Some, None}
-use Rattle.std.specs.Option.{option_map_or}
 use Rattle.m51_isa.specs.declared.instr.Instr.{Instr}
-use Rattle.m51_isa.specs.declared.instr.Instr.TheVariants.{SjmpRel, PushDirect, PopDirect, AjmpAddr11}
-use Rattle.m51_isa.specs.declared.instr.Instr.TheVariants.{AcallAddr11, LjmpAddr16, LcallAddr16, Ret, Reti}
-use Rattle.m51_isa.specs.declared.instr.Instr.TheVariants.{OrlDirectA, AnlDirectA, XrlDirectA, OrlDirectData}
-use Rattle.m51_isa.specs.declared.instr.Instr.TheVariants.{AnlDirectData, XrlDirectData, JmpAtADptr}
-use Rattle.m51_isa.specs.declared.instr.Instr.TheVariants.{IncDirect, DecDirect, MovDirectData, MovDirectDirect}
-use Rattle.m51_isa.specs.declared.instr.Instr.TheVariants.{XchADirect, DjnzDirectRel, MovDirectA}
-use Rattle.m51_isa.specs.declared.instr.Instr.TheVariants.{MovDirectAtRi, MovDirectRn}
+use Rattle.m51_isa.specs.declared.instr.Instr.TheVariants.{JmpAtADptr, MovDirectData}
+use Rattle.m51_isa.specs.declared.instr.Stack.{Stack}
+use Rattle.m51_isa.specs.declared.instr.Stack.TheVariants.{Push, Pop, Call, Return}
+use Rattle.m51_isa.specs.declared.instr.Written.{Written}
+use Rattle.m51_isa.specs.declared.instr.Written.TheVariants.{Direct}
+pub use Rattle.m51_isa.specs.Changes.{is_jump}
+use Rattle.m51_isa.specs.Changes.{stack_of, written_of}
 use Rattle.m51_isa.specs.Table.{decoded, length_of}
 pub use Rattle.m51_isa.specs.Targets.{target_of}
 use Rattle.m51_sfr.specs.declared.addresses.TheConstants.{SP}
 
--- the instruction that begins at an address; the addresses of its bytes go on from 0 past the last one
+-- the instruction that begins at an address; after FFFFH the addresses of its bytes continue with 0
 unfoldable pub instr_at : List ℕ → ℕ → Option Instr
 instr_at image at =
     decoded (slice_index image at ∷ slice_index image ((at + 1) % 65536) ∷ slice_index image ((at + 2) % 65536) ∷ [])
@@ -23,63 +22,49 @@ instr_at image at =
 abbrev pub next_of : Instr → ℕ → ℕ
 next_of instr at = (at + length_of instr) % 65536
 
--- the direct address that it writes by an operand
-abbrev pub written_by : Instr → Option ℕ
-written_by (OrlDirectA direct) = Some direct
-written_by (AnlDirectA direct) = Some direct
-written_by (XrlDirectA direct) = Some direct
-written_by (OrlDirectData direct value) = Some direct
-written_by (AnlDirectData direct value) = Some direct
-written_by (XrlDirectData direct value) = Some direct
-written_by (IncDirect direct) = Some direct
-written_by (DecDirect direct) = Some direct
-written_by (MovDirectData direct value) = Some direct
-written_by (MovDirectDirect source target) = Some target
-written_by (MovDirectA direct) = Some direct
-written_by (MovDirectAtRi pointer direct) = Some direct
-written_by (MovDirectRn register direct) = Some direct
-written_by (PopDirect direct) = Some direct
-written_by (XchADirect direct) = Some direct
-written_by (DjnzDirectRel direct rel) = Some direct
-written_by _ = None
-
 -- it writes SP by an operand
+abbrev pub is_at_sp : Written → Bool
+is_at_sp (Direct direct) = nat_eq direct SP
+is_at_sp _ = false
+
 abbrev pub writes_sp : Instr → Bool
-writes_sp instr = option_map_or (λ direct. nat_eq direct SP) (written_by instr) false
+writes_sp instr = is_at_sp (written_of instr)
 
 -- the value that `MOV SP,#data` gives SP
 abbrev pub sets_sp : Instr → Option ℕ
 sets_sp (MovDirectData direct value) = if nat_eq direct SP then Some value else None
 sets_sp _ = None
 
+abbrev pub pushes : Stack → Bool
+pushes Push = true
+pushes _ = false
+
 abbrev pub is_push : Instr → Bool
-is_push (PushDirect direct) = true
-is_push _ = false
+is_push instr = pushes (stack_of instr)
+
+abbrev pub pops : Stack → Bool
+pops Pop = true
+pops _ = false
 
 abbrev pub is_pop : Instr → Bool
-is_pop (PopDirect direct) = true
-is_pop _ = false
+is_pop instr = pops (stack_of instr)
+
+abbrev pub calls : Stack → Bool
+calls Call = true
+calls _ = false
 
 abbrev pub is_call : Instr → Bool
-is_call (AcallAddr11 address) = true
-is_call (LcallAddr16 address) = true
-is_call _ = false
+is_call instr = calls (stack_of instr)
 
 -- RET or RETI
+abbrev pub returns : Stack → Bool
+returns Return = true
+returns _ = false
+
 abbrev pub is_return : Instr → Bool
-is_return Ret = true
-is_return Reti = true
-is_return _ = false
+is_return instr = returns (stack_of instr)
 
 -- `JMP @A+DPTR`
 abbrev pub is_computed : Instr → Bool
 is_computed JmpAtADptr = true
 is_computed _ = false
-
--- control never goes on after it: a jump without a condition
-abbrev pub is_jump : Instr → Bool
-is_jump (SjmpRel rel) = true
-is_jump (AjmpAddr11 address) = true
-is_jump (LjmpAddr16 address) = true
-is_jump JmpAtADptr = true
-is_jump _ = false

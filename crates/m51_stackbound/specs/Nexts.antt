@@ -1,4 +1,4 @@
--- Where the path of each start goes on, in a table by starts. Private contracts cite it.
+-- Where the path of each start continues, in a table by starts. Private contracts cite it.
 use Rattle.std.specs.Prelude.{◌≡◌, ◌⊎◌, ℕ, ◌+◌, ◌<◌, ◌≤◌, min, nat_eq, if◌then◌else◌, List, [], ◌∷◌, ◌++◌, length}
 use Rattle.std.specs.Prelude.{slice_index, slice_index_or, Option, Some, None}
 use Rattle.std.specs.List.{Contains}
@@ -71,13 +71,13 @@ pub record AreNexts
   pub len : length nexts ≡ 65537
   pub each : (start : Start) → IsEarliest l image points depths start (next_in nexts start)
 
--- the start that the path goes on to
+-- the start with which the path continues
 abbrev pub called_next : Next → Option ℕ
 called_next Unknown = None
 called_next Ends = None
 called_next (Calls to) = Some to
 
--- the path from a start, as the table tells
+-- the path from a start, by the table
 pub data Leads (nexts : List Next) : Start → List Start → Type 0 where
   Stop : (start : Start) → called_next (next_in nexts start) ≡ None → Leads nexts start []
   Go : (start : Start) (to : ℕ) (more : List Start) → called_next (next_in nexts start) ≡ Some to
@@ -102,7 +102,7 @@ pub record IsPassed (nexts : List Next) (first last : Start) (path : List Start)
   pub path_is : path ≡ first ∷ done
   pub leads : (more : List Start) → Leads nexts last more → Leads nexts first (done ++ more)
 
--- the depth and the path of a root, as the tables tell
+-- the depth and the path of a root, by the tables
 pub record IsRow (depths : List ℕ) (nexts : List Next) (root : ℕ) (start : Start) (r : RootDepth) : Type 0 where
   pub root_is : r.root ≡ root
   pub depth : r.depth ≡ depth_in depths start
@@ -118,7 +118,7 @@ pub record IsRowAt
   pub is_root : IsRootAt l vector root
   pub row : IsRow depths nexts root start r
 
--- the roots of the reset and of these interrupts, as the tables tell
+-- the roots of the reset and of these interrupts, by the tables
 pub record AreRows
     (l : LayoutParts) (depths : List ℕ) (nexts : List Next) (vectors : List ℕ) (roots : List RootDepth)
     : Type 0 where

@@ -57,7 +57,7 @@ unfoldable pub height_after : ℕ → Instr → ℕ
 height_after height instr =
     if is_push instr then height + 1 else if is_pop instr then height - 1 else unwrap_or (sets_sp instr) height
 
--- control goes on at the next address, in the same unit
+-- control continues at the next address, in the same unit
 unfoldable pub at_next : LayoutParts → Point → ℕ → ℕ → List Point
 at_next l p next height = if in_one_unit l p.address next then point_at p.start next height ∷ [] else []
 

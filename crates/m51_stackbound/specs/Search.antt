@@ -6,16 +6,16 @@ use Rattle.m51_module.specs.declared.parts.LayoutParts.{LayoutParts}
 use Rattle.m51_stackbound.specs.declared.point.Point.{Point}
 use Rattle.m51_stackbound.specs.Points.{IsReached, first_points}
 
--- a point is added, unless it is there
+-- a point is added, unless it is in the list
 abbrev pub Notes : List Point → Point → List Point → Type 0
 Notes old p new = ((new ≡ old) × Contains old p) ⊎ ((new ≡ old ++ p ∷ []) × (Contains old p → ⊥))
 
--- these points are added one after another, each unless it is there
+-- these points are added one after another, each unless it is in the list
 abbrev pub NotesAll : List Point → List Point → List Point → Type 0
 NotesAll old [] new = new ≡ old
 NotesAll old (p ∷ ps) new = (middle : List Point) × Notes old p middle × NotesAll middle ps new
 
--- no point stands twice in the list
+-- no point is in the list twice
 abbrev pub AreDifferent : List Point → Type 0
 AreDifferent ps = AllPairs (λ p q. p ≢ q) ps
 

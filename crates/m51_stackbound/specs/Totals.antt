@@ -1,4 +1,4 @@
--- The two greatest numbers of bytes that interrupts add, as a table of depths tells. Private contracts cite it.
+-- The two greatest numbers of bytes that interrupts add, by a table of depths. Private contracts cite it.
 use Rattle.std.specs.Prelude.{◌≡◌, ◌≢◌, ◌⊎◌, ℕ, ◌+◌, ◌≤◌, nat_lt, if◌then◌else◌, List}
 use Rattle.std.specs.List.{Contains}
 use Rattle.m51_module.specs.declared.start.Start.TheVariants.{Reset, At}
@@ -15,13 +15,13 @@ with_bytes old bytes =
     if nat_lt old.first bytes then record { first = bytes; second = old.first }
     else if nat_lt old.second bytes then record { first = old.first; second = bytes } else old
 
--- one of the interrupts adds so much
+-- one of the interrupts adds this number of bytes
 pub record OneAdds (depths vectors : List ℕ) (bytes : ℕ) : Type 0 where
   pub vector : ℕ
   pub listed : Contains vectors vector
   pub bytes_are : bytes ≡ added depths vector
 
--- two of the interrupts add so much
+-- two different interrupts add these numbers of bytes
 pub record TwoAdd (depths vectors : List ℕ) (one two : ℕ) : Type 0 where
   pub first : OneAdds depths vectors one
   pub second : OneAdds depths vectors two

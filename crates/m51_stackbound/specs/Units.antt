@@ -44,7 +44,7 @@ in_one_unit l from to = same (unit_of l from) (unit_of l to)
 unfoldable pub counts : LayoutParts → ℕ → ℕ → Bool
 counts l from to = joined l.edges (unit_of l from) (unit_of l to)
 
--- so many bytes from the address on lie in the unit that covers it
+-- bytes from the address on, of this number, lie in the unit that covers it
 abbrev pub lie_inside : LayoutParts → ℕ → ℕ → Bool
 lie_inside l at zero = true
 lie_inside l at (suc count) = lie_inside l at count && in_one_unit l at ((at + count) % 65536)

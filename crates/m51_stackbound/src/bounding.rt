@@ -5,11 +5,13 @@ ghost use Rattle.m51_module.specs.Sound.{IsSound};
 ghost use Rattle.m51_stackbound.specs.Above.{AreLow, HasLists, IsAbove, IsTangle};
 ghost use Rattle.m51_stackbound.specs.Bounds.{Answers, Breaks, HasTwoHeights, IsBreach, KeepsApart, KeepsHeights};
 ghost use Rattle.m51_stackbound.specs.Bounds.{KeepsRules};
+ghost use Rattle.m51_stackbound.specs.Callers.{calls_of};
 ghost use Rattle.m51_stackbound.specs.Climb.{AreSettled};
 ghost use Rattle.m51_stackbound.specs.Rules.{IsLeast};
 ghost use Rattle.m51_stackbound.specs.Search.{ArePoints};
 ghost use Rattle.m51_stackbound.specs.Units.{handlers};
 
+use crate::calls::{Call, calls_of};
 use crate::climbing::{depths_of, is_too_deep};
 use crate::cycling::first_cyclic;
 use crate::doubling::first_twice;
@@ -168,14 +170,16 @@ fn tangle(
     layout: &Layout,
     image: &Image,
     points: &[Point],
+    calls: &[Call],
     depths: &[u16],
 ) -> Result<Option<StackError>, NoMemory>
     requires points { ArePoints layout.now image.now points.now }
+    requires calls { calls.now ≡ calls_of layout.now image.now points.now }
     requires depths { AreSettled layout.now image.now points.now depths.now }
     requires rules { KeepsRules layout.now image.now }
     ensures { IfOk result (IsTangle layout.now image.now) }
 {
-    let cyclic = first_cyclic(alloc, layout, image, points, depths)?;
+    let cyclic = first_cyclic(alloc, layout, image, points, calls, depths)?;
     match cyclic {
         Some(start) => Ok(Some(StackError::K4 { start })),
         None => twice(alloc, layout, image, points),
@@ -195,8 +199,9 @@ fn bound_of(
     requires rules { KeepsRules layout.now image.now }
     ensures { Answers layout.now image.now result }
 {
-    let depths = depths_of(alloc, layout, image, points)?;
-    let refusal = tangle(alloc, layout, image, points, &depths)?;
+    let calls = calls_of(alloc, layout, image, points)?;
+    let depths = depths_of(alloc, layout, image, points, &calls)?;
+    let refusal = tangle(alloc, layout, image, points, &calls, &depths)?;
     match refusal {
         Some(error) => Err(error),
         None => bound_by(alloc, layout, image, points, &depths),

@@ -1,13 +1,15 @@
 //! Depths: how many bytes of stack a start and what it calls take at most.
-ghost use Rattle.std.specs.Prelude.{◌≡◌, ◌<◌, ◌≤◌, ℕ, filter, is_some, length, nat_lt, slice_index, IfOk};
+ghost use Rattle.std.specs.Prelude.{◌≡◌, ◌<◌, ◌≤◌, ℕ, length, nat_lt, slice_index, IfOk};
 ghost use Rattle.std.specs.List.{Contains, list_any};
-ghost use Rattle.m51_stackbound.specs.Climb.{depth_in, depth_by, AreTaken, AreSettled, IsBlank, IsRaised, Raises};
-ghost use Rattle.m51_stackbound.specs.Points.{call_of, IsPoint};
+ghost use Rattle.m51_stackbound.specs.Callers.{calls_of};
+ghost use Rattle.m51_stackbound.specs.Climb.{depth_in, depth_by, AreCalls, AreTaken, AreSettled, IsBlank, IsClimbing};
+ghost use Rattle.m51_stackbound.specs.Climb.{IsRaised, Raises};
+ghost use Rattle.m51_stackbound.specs.Points.{IsPoint};
 ghost use Rattle.m51_stackbound.specs.Rules.{rank};
 ghost use Rattle.m51_stackbound.specs.Search.{ArePoints};
 ghost use Rattle.m51_stackbound.specs.declared.point.Point.{Point};
 
-use crate::following::call_of;
+use crate::calls::Call;
 use crate::judging::rank;
 use crate::point::Point;
 use m51_cells::NoMemory;
@@ -33,18 +35,14 @@ pub(crate) fn is_too_deep(depths: &[u16]) -> bool
     depths.iter().any(|depth| *depth > 255)
 }
 
-// What a point comes to: its height, or what its call makes of it.
-#[tactic(auto, unfolding(crate::specs::Climb::depth_by))]
-fn depth_by(depths: &[u16], point: &Point, called: Option<u16>) -> u16
+// What a start takes by a call: its height, two bytes for the return address, and what the start that is called takes.
+fn depth_by(depths: &[u16], call: &Call) -> u16
     requires len { length depths.now ≡ 65537 }
     requires most { (i : ℕ) → i < length depths.now → slice_index depths.now i ≤ 256 }
-    ensures { result ≡ depth_by depths.now point.now called }
+    ensures { result ≡ depth_by depths.now call.now }
 {
-    let height = u16::from(point.height);
-    match called {
-        Some(to) => (height + 2 + depth_in(depths, Start::At(to))).min(256),
-        None => height.min(256),
-    }
+    let height = u16::from(call.height);
+    (height + 2 + depth_in(depths, Start::At(call.to))).min(256)
 }
 
 // Raises the depth of a start, unless it is as great; whether it rose.
@@ -61,49 +59,50 @@ fn raise(depths: &mut [u16], start: Start, depth: u16) -> bool
     true
 }
 
-// Raises the depth of each start by each of its points; whether one rose.
-fn raise_all(layout: &Layout, image: &Image, points: &[Point], depths: &mut [u16]) -> bool
+// The height of a point.
+fn height_of(point: &Point) -> u16
+    ensures value { result ≡ point.now.height }
+    ensures few { result ≤ 255 }
+{
+    u16::from(point.height)
+}
+
+// Raises the depth of each start to the heights of its points.
+fn raise_to_heights(layout: &Layout, image: &Image, points: &[Point], depths: &mut [u16])
     requires points { (p : Point) → Contains points.now p → IsPoint layout.now image.now p }
     requires depths { AreTaken layout.now image.now depths.old }
-    ensures { IsRaised layout.now image.now points.now depths.old depths.new result }
+    ensures { IsClimbing layout.now image.now points.now depths.new }
+{
+    for point in points {
+        raise(depths, point.start, height_of(point));
+    }
+}
+
+// Raises the depth of each start by each of its calls; whether one rose.
+fn raise_all(layout: &Layout, image: &Image, calls: &[Call], depths: &mut [u16]) -> bool
+    requires calls { AreCalls layout.now image.now calls.now }
+    requires depths { AreTaken layout.now image.now depths.old }
+    ensures { IsRaised layout.now image.now calls.now depths.old depths.new result }
 {
     let mut rose = false;
-    for point in points {
-        let depth = depth_by(depths, point, call_of(layout, image, point));
-        if raise(depths, point.start, depth) {
+    for call in calls {
+        let depth = depth_by(depths, call);
+        if raise(depths, call.from, depth) {
             rose = true;
         }
     }
     rose
 }
 
-// The points that call.
-fn calling(
-    alloc: Global,
-    layout: &Layout,
-    image: &Image,
-    points: &[Point],
-) -> Result<Vec<Point>, NoMemory>
-    ensures { IfOk result (λ calling. calling.items ≡ filter (λ p. is_some (call_of layout.now image.now p)) points.now) }
-{
-    let mut calling = Vec::new(alloc);
-    for point in points {
-        if call_of(layout, image, point).is_some() {
-            calling.push(*point)?;
-        }
-    }
-    Ok(calling)
-}
-
-// Raises depths until they are settled: once by all points, and then by those that call.
-fn settle(layout: &Layout, image: &Image, points: &[Point], calling: &[Point], depths: &mut [u16])
+// Raises depths until they are settled: once by all points, and then by calls.
+fn settle(layout: &Layout, image: &Image, points: &[Point], calls: &[Call], depths: &mut [u16])
     requires points { ArePoints layout.now image.now points.now }
-    requires calling { calling.now ≡ filter (λ p. is_some (call_of layout.now image.now p)) points.now }
+    requires calls { calls.now ≡ calls_of layout.now image.now points.now }
     requires depths { AreTaken layout.now image.now depths.old }
     ensures { AreSettled layout.now image.now points.now depths.new }
 {
-    raise_all(layout, image, points, depths);
-    'climb: while raise_all(layout, image, calling, depths) {}
+    raise_to_heights(layout, image, points, depths);
+    'climb: while raise_all(layout, image, calls, depths) {}
 }
 
 // A table of zeros.
@@ -121,12 +120,13 @@ pub(crate) fn depths_of(
     layout: &Layout,
     image: &Image,
     points: &[Point],
+    calls: &[Call],
 ) -> Result<Vec<u16>, NoMemory>
-    requires { ArePoints layout.now image.now points.now }
+    requires points { ArePoints layout.now image.now points.now }
+    requires calls { calls.now ≡ calls_of layout.now image.now points.now }
     ensures { IfOk result (λ depths. AreSettled layout.now image.now points.now depths.items) }
 {
-    let calling = calling(alloc, layout, image, points)?;
     let mut depths = blank_depths(alloc, STARTS)?;
-    settle(layout, image, points, &calling, &mut depths);
+    settle(layout, image, points, calls, &mut depths);
     Ok(depths)
 }

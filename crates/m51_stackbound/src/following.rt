@@ -94,7 +94,7 @@ fn height_after(height: u8, instr: &Instr) -> u8
     sets_sp(instr).unwrap_or(height)
 }
 
-// Control goes on at the next address, in the same unit.
+// Control continues at the next address, in the same unit.
 #[tactic(auto, unfolding(crate::specs::Points::at_next))]
 fn at_next(layout: &Layout, point: &Point, next: u16, height: u8) -> Option<Point>
     ensures { listed result ≡ at_next layout.now point.now next height }

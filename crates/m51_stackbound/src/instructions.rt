@@ -1,10 +1,10 @@
 //! What an instruction does with SP and with control.
 ghost use Rattle.std.specs.Prelude.{◌≡◌};
-ghost use Rattle.m51_stackbound.specs.Instructions.{instr_at, next_of, written_by, writes_sp, sets_sp, is_push};
-ghost use Rattle.m51_stackbound.specs.Instructions.{is_pop, is_call, is_return, is_computed, is_jump};
+ghost use Rattle.m51_stackbound.specs.Instructions.{instr_at, next_of, writes_sp, sets_sp, is_push, is_pop, is_call};
+ghost use Rattle.m51_stackbound.specs.Instructions.{is_return, is_computed};
 
-pub(crate) use m51_isa::target_of;
-use m51_isa::{Instr, decode, length};
+pub(crate) use m51_isa::{is_jump, target_of};
+use m51_isa::{Instr, Stack, Written, decode, length, stack_of, written_of};
 use m51_module::Image;
 use m51_sfr::addresses::SP;
 
@@ -28,38 +28,13 @@ pub(crate) fn next_of(instr: &Instr, at: u16) -> u16
     at.wrapping_add(u16::from(length(instr)))
 }
 
-// The direct address that the instruction writes by an operand.
-fn written_by(instr: &Instr) -> Option<u8>
-    ensures { result ≡ written_by instr.now }
-{
-    match instr {
-        Instr::OrlDirectA(direct)
-        | Instr::AnlDirectA(direct)
-        | Instr::XrlDirectA(direct)
-        | Instr::OrlDirectData(direct, _)
-        | Instr::AnlDirectData(direct, _)
-        | Instr::XrlDirectData(direct, _)
-        | Instr::IncDirect(direct)
-        | Instr::DecDirect(direct)
-        | Instr::MovDirectData(direct, _)
-        | Instr::MovDirectDirect(_, direct)
-        | Instr::MovDirectA(direct)
-        | Instr::MovDirectAtRi(_, direct)
-        | Instr::MovDirectRn(_, direct)
-        | Instr::PopDirect(direct)
-        | Instr::XchADirect(direct)
-        | Instr::DjnzDirectRel(direct, _) => Some(*direct),
-        _ => None,
-    }
-}
-
 /// Whether the instruction writes SP by an operand.
 pub(crate) fn writes_sp(instr: &Instr) -> bool
     ensures { result ≡ writes_sp instr.now }
 {
-    match written_by(instr) {
-        Some(direct) => direct == SP,
-        None => false,
+    match written_of(instr) {
+        Written::Direct(direct) => direct == SP,
+        _ => false,
     }
 }
 
@@ -77,28 +52,28 @@ pub(crate) fn sets_sp(instr: &Instr) -> Option<u8>
 pub(crate) fn is_push(instr: &Instr) -> bool
     ensures { result ≡ is_push instr.now }
 {
-    matches!(instr, Instr::PushDirect(_))
+    matches!(stack_of(instr), Stack::Push)
 }
 
 /// Whether it is POP.
 pub(crate) fn is_pop(instr: &Instr) -> bool
     ensures { result ≡ is_pop instr.now }
 {
-    matches!(instr, Instr::PopDirect(_))
+    matches!(stack_of(instr), Stack::Pop)
 }
 
 /// Whether it is a call.
 pub(crate) fn is_call(instr: &Instr) -> bool
     ensures { result ≡ is_call instr.now }
 {
-    matches!(instr, Instr::AcallAddr11(_) | Instr::LcallAddr16(_))
+    matches!(stack_of(instr), Stack::Call)
 }
 
 /// Whether it is RET or RETI.
 pub(crate) fn is_return(instr: &Instr) -> bool
     ensures { result ≡ is_return instr.now }
 {
-    matches!(instr, Instr::Ret | Instr::Reti)
+    matches!(stack_of(instr), Stack::Return)
 }
 
 /// Whether it is `JMP @A+DPTR`.
@@ -106,14 +81,4 @@ pub(crate) fn is_computed(instr: &Instr) -> bool
     ensures { result ≡ is_computed instr.now }
 {
     matches!(instr, Instr::JmpAtADptr)
-}
-
-/// Whether it is a jump without a condition.
-pub(crate) fn is_jump(instr: &Instr) -> bool
-    ensures { result ≡ is_jump instr.now }
-{
-    matches!(
-        instr,
-        Instr::SjmpRel(_) | Instr::AjmpAddr11(_) | Instr::LjmpAddr16(_) | Instr::JmpAtADptr
-    )
 }

@@ -11,6 +11,8 @@ mod instructions;
 mod judging;
 mod laws;
 mod listing;
+mod marks;
+mod ordering;
 mod paths;
 mod point;
 mod points;

@@ -1,5 +1,5 @@
 //! The starts of a program other than the reset, and its roots.
-ghost use Rattle.std.specs.Prelude.{◌≡◌, ◌<◌, ℕ, [], true, false, IfOk, length, replicate};
+ghost use Rattle.std.specs.Prelude.{◌≡◌, ◌<◌, ℕ, [], true, IfOk, length};
 ghost use Rattle.std.specs.List.{Contains};
 ghost use Rattle.m51_module.specs.Plan.{IsRootAt, IsUnitAt};
 ghost use Rattle.m51_module.specs.declared.start.Start.TheVariants.{At};
@@ -7,22 +7,13 @@ ghost use Rattle.m51_stackbound.specs.Listing.{AreListed, AreStarts, is_noted, w
 ghost use Rattle.m51_stackbound.specs.Nexts.{AreRows, AreTables};
 
 use crate::climbing::depth_in;
+use crate::marks::{ADDRESSES, no_marks};
 use crate::paths::{Next, root_depth};
 use crate::point::Point;
 use crate::units::{root_number, unit_number};
 use m51_cells::NoMemory;
 use m51_module::{Layout, Proc, RootDepth, Start};
-use std::alloc::{AllocError, Global};
-
-// How many addresses there are.
-const ADDRESSES: usize = 65536;
-
-// So many times false.
-fn none_yet(alloc: Global, count: usize) -> Result<Vec<bool>, AllocError>
-    ensures { IfOk result (λ starts. starts.items ≡ replicate count false) }
-{
-    vec![in alloc; false; count]
-}
+use std::alloc::Global;
 
 // Notes a start other than the reset.
 fn note_start(starts: &mut [bool], start: Start)
@@ -46,11 +37,11 @@ fn note_starts(points: &[Point], starts: &mut [bool])
     }
 }
 
-/// For each address whether a start is there.
+/// For each address whether it is that of a start.
 pub(crate) fn starts_of(alloc: Global, points: &[Point]) -> Result<Vec<bool>, NoMemory>
     ensures { IfOk result (λ starts. AreStarts points.now starts.items) }
 {
-    let mut starts = none_yet(alloc, ADDRESSES)?;
+    let mut starts = no_marks(alloc, ADDRESSES)?;
     note_starts(points, &mut starts);
     Ok(starts)
 }

@@ -13,7 +13,7 @@ use m51_cells::{ListOf, NoMemory};
 use m51_module::{Image, Layout, RootDepth, Start};
 use std::alloc::{AllocError, Global};
 
-/// How the path of a start goes on.
+/// How the path of a start continues.
 ///
 /// Source: own choice ("Stack bound").
 #[derive(Clone, Copy, Debug, PartialEq, Eq)]
@@ -53,7 +53,7 @@ fn next_by(depths: &[u16], point: &Point, called: Option<u16>) -> Next
     }
 }
 
-// The way to go on that comes first.
+// The way to continue that comes first.
 fn earlier(one: Next, two: Next) -> Next
     ensures { result ≡ earlier one two }
 {
@@ -64,7 +64,7 @@ fn earlier(one: Next, two: Next) -> Next
     }
 }
 
-// How the path of a start goes on.
+// How the path of a start continues.
 fn next_in(nexts: &[Next], start: Start) -> Next
     requires { length nexts.now ≡ 65537 }
     ensures { result ≡ next_in nexts.now start }
@@ -72,7 +72,7 @@ fn next_in(nexts: &[Next], start: Start) -> Next
     nexts[rank(start) as usize]
 }
 
-// The start that the path of a start goes on to.
+// The start with which the path of a start continues.
 fn called_next(nexts: &[Next], start: Start) -> Option<u16>
     requires { length nexts.now ≡ 65537 }
     ensures { result ≡ called_next (next_in nexts.now start) }
@@ -84,7 +84,7 @@ fn called_next(nexts: &[Next], start: Start) -> Option<u16>
     }
 }
 
-// Notes one more way in which the path of a start may go on.
+// Notes one more way in which the path of a start may continue.
 fn note_next(nexts: &mut [Next], start: Start, next: Next)
     requires { length nexts.old ≡ 65537 }
     ensures noted { nexts.new ≡ slice_set nexts.old (rank start) (earlier (next_in nexts.old start) next) }
@@ -94,7 +94,7 @@ fn note_next(nexts: &mut [Next], start: Start, next: Next)
     nexts[place] = earlier(nexts[place], next);
 }
 
-// A table in which no path goes on.
+// A table in which no path continues.
 fn blank_nexts(alloc: Global, count: usize) -> Result<Vec<Next>, AllocError>
     ensures { IfOk result (λ nexts. nexts.items ≡ replicate count Unknown) }
 {
@@ -113,7 +113,7 @@ fn note_all(layout: &Layout, image: &Image, points: &[Point], depths: &[u16], ne
     }
 }
 
-/// How the path of each start goes on, in a table by starts.
+/// How the path of each start continues, in a table by starts.
 pub(crate) fn nexts_of(
     alloc: Global,
     layout: &Layout,
@@ -129,7 +129,7 @@ pub(crate) fn nexts_of(
     Ok(nexts)
 }
 
-/// The depth of a root and its path: its start, and then each start that the one before it goes on to.
+/// The depth of a root and its path: its start, and then each start with which the one before it continues.
 pub(crate) fn root_depth(
     alloc: Global,
     depths: &[u16],

@@ -1,4 +1,4 @@
-//! Points: where control may be, and how high the stack is there.
+//! Points: where control may be, and how high the stack is then.
 use m51_module::Start;
 
 /// A start, an address and a height. For the reset the height is SP; for another start it is how far SP is above the

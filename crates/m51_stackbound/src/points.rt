@@ -49,7 +49,7 @@ impl Points {
         self.points.as_slice()
     }
 
-    /// Adds a point, unless it is there. Out of memory is the one refusal.
+    /// Adds a point, unless it is one of them. Out of memory is the only error.
     pub fn note(&mut self, point: Point) -> Result<(), NoMemory>
         ensures { OnOk result (Notes self.old point self.new) }
     {

@@ -1,4 +1,4 @@
-//! The total: the greatest value that SP may come to.
+//! The total: the greatest value that SP may get.
 ghost use Rattle.std.specs.Prelude.{◌≡◌, ◌≤◌, ◌<◌, ℕ, length, slice_index};
 ghost use Rattle.m51_module.specs.Rising.{Rises};
 ghost use Rattle.m51_stackbound.specs.Totals.{IsSum, with_bytes};

@@ -66,7 +66,7 @@ pub(crate) fn counts(layout: &Layout, from: u16, to: u16) -> bool
     }
 }
 
-/// Whether so many bytes from the address on lie in the unit that covers it.
+/// Whether bytes from the address on, of this number, lie in the unit that covers it.
 #[tactic(auto, using(crate::proofs::Inside::one_outside))]
 pub(crate) fn lie_inside(layout: &Layout, at: u16, count: u8) -> bool
     ensures { result ≡ lie_inside layout.now at count }

@@ -1,16 +1,13 @@
-//! Walks from a start over calls.
-ghost use Rattle.std.specs.Prelude.{◌≡◌, ◌<◌, ◌≤◌, ◌↔◌, [], ◌∷◌, length, slice_index, replicate, IfOk, IsTrue, OnOk};
-ghost use Rattle.std.specs.Prelude.{false};
+//! Walks over calls: what starts call, directly or through others.
+ghost use Rattle.std.specs.Prelude.{◌≡◌, ◌<◌, ◌≤◌, ◌↔◌, [], ◌∷◌, length, slice_index, IfOk, IsTrue, OnOk};
 ghost use Rattle.std.specs.List.{Contains};
-ghost use Rattle.m51_stackbound.specs.Callers.{AreLed, GoesOn, Leads};
+ghost use Rattle.m51_stackbound.specs.Callers.{AreCleared, Clears, GoesOn, IsClosed, Leads, Walks, with_clear};
 
 use crate::calls::Callees;
+use crate::marks::{ADDRESSES, no_marks};
 use m51_cells::NoMemory;
-use std::alloc::{AllocError, Global};
+use std::alloc::Global;
 use std::marker::Model;
-
-// How many addresses there are.
-const ADDRESSES: usize = 65536;
 
 // Starts that a walk found, each once, which contracts see as a list; and for each address whether it is one of them.
 #[derive(Drop)]
@@ -28,13 +25,6 @@ impl Model for Found {
     ghost view = { λ f. f.starts.items };
 
     ghost invariant = { λ f. AreMarked f.starts.items f.marks.items };
-}
-
-// So many times false.
-fn no_marks(alloc: Global, count: usize) -> Result<Vec<bool>, AllocError>
-    ensures { IfOk result (λ marks. marks.items ≡ replicate count false) }
-{
-    vec![in alloc; false; count]
 }
 
 impl Found {
@@ -72,7 +62,7 @@ impl Found {
         self.marks[usize::from(start)]
     }
 
-    // Adds a start, unless it is there. Out of memory is the one error.
+    // Adds a start, unless it was found before. Out of memory is the only error.
     fn note(&mut self, start: u16) -> Result<(), NoMemory>
         ensures { OnOk result (GoesOn self.old (start ∷ []) self.new) }
     {
@@ -84,7 +74,7 @@ impl Found {
         Ok(())
     }
 
-    // Adds these starts, each unless it is there.
+    // Adds these starts, each unless it was found before.
     fn note_all(&mut self, starts: &[u16]) -> Result<(), NoMemory>
         ensures { OnOk result (GoesOn self.old starts.now self.new) }
     {
@@ -95,20 +85,20 @@ impl Found {
     }
 }
 
-// What the start at this address calls, directly or through others. Each start is looked at once.
-fn walk(alloc: Global, rows: &[Callees], from: u16) -> Result<Found, NoMemory>
+// What the start calls and was not found before, directly or through others, is found. Each such start is looked at
+// once.
+fn walk(rows: &[Callees], found: &mut Found, from: u16) -> Result<(), NoMemory>
     requires { length rows.now ≡ 65536 }
-    ensures { IfOk result (AreLed rows.now from) }
+    ensures { OnOk result (Walks rows.now from found.old found.new) }
 {
-    let mut found = Found::none(alloc)?;
+    let mut next = found.len();
     found.note_all(rows[usize::from(from)].as_slice())?;
-    let mut next = 0;
     while next < found.len() {
         let via = found.at(next);
         found.note_all(rows[usize::from(via)].as_slice())?;
         next += 1;
     }
-    Ok(found)
+    Ok(())
 }
 
 /// Whether the start at this address calls itself, directly or through others.
@@ -116,6 +106,50 @@ pub(crate) fn calls_itself(alloc: Global, rows: &[Callees], at: u16) -> Result<b
     requires { length rows.now ≡ 65536 }
     ensures { IfOk result (λ b. IsTrue b ↔ Leads rows.now at at) }
 {
-    let found = walk(alloc, rows, at)?;
+    let mut found = Found::none(alloc)?;
+    walk(rows, &mut found, at)?;
     Ok(found.has(at))
+}
+
+// Finds a start and all that it calls. Whether it is new, and all that it calls was found before: then it does not call
+// itself, since none of these calls it.
+fn clear(rows: &[Callees], found: &mut Found, start: u16) -> Result<bool, NoMemory>
+    requires rows { length rows.now ≡ 65536 }
+    requires closed { IsClosed rows.now found.old }
+    ensures { IfOk result (Clears rows.now start found.new) }
+{
+    if found.has(start) {
+        return Ok(false);
+    }
+    let before = found.len();
+    walk(rows, found, start)?;
+    let is_clear = found.len() == before;
+    found.note(start)?;
+    Ok(is_clear)
+}
+
+// Marks the start if it is clear.
+fn mark_if(cleared: &mut Vec<bool>, start: u16, is_clear: bool)
+    requires { length cleared.old.items ≡ 65536 }
+    ensures marked { cleared.new.items ≡ with_clear cleared.old.items start is_clear }
+    ensures few { start < 65536 }
+{
+    if is_clear {
+        cleared[usize::from(start)] = true;
+    }
+}
+
+/// For each address whether it is known that the start there does not call itself. In the order of `order_of` it is
+/// known of all that do not.
+pub(crate) fn cleared(alloc: Global, rows: &[Callees], order: &[u16]) -> Result<Vec<bool>, NoMemory>
+    requires { length rows.now ≡ 65536 }
+    ensures { IfOk result (λ cleared. AreCleared rows.now cleared.items) }
+{
+    let mut found = Found::none(alloc)?;
+    let mut cleared = no_marks(alloc, ADDRESSES)?;
+    for start in order {
+        let is_clear = clear(rows, &mut found, *start)?;
+        mark_if(&mut cleared, *start, is_clear);
+    }
+    Ok(cleared)
 }

@@ -1,14 +1,14 @@
-use Rattle.std.proofs.Common.{◌≡◌, List, [], get_or, Option, ap, subst, sym, ◌∙◌}
+use Rattle.std.proofs.Common.{◌≡◌, ◌+◌, ◌++◌, List, [], Option, get_or, take, sym, ap, ◌∙◌}
+use Rattle.std.specs.List.{cons_option}
+use Rattle.std.proofs.lemmas.List.{append-nil}
 use Rattle.m51_module.specs.declared.start.Start.TheVariants.{Reset}
 use Rattle.m51_stackbound.specs.declared.calls.Call.{Call}
 use Rattle.m51_stackbound.specs.declared.point.Point.{Point}
-use Rattle.m51_stackbound.specs.Callers.{AddsCall, AreCallsOf, call_from}
+use Rattle.m51_stackbound.specs.Callers.{call_from, calls_of}
 use Rattle.m51_stackbound.specs.Points.{call_of, point_at}
-use Rattle.m51_stackbound.proofs.CallRows.{calls_more, calls_none}
+use Rattle.m51_stackbound.proofs.CallRows.{calls_more}
 use Rattle.m51_stackbound.proofs.calls.calls_of.Goals as goal
-
-pub loop-point-init : goal.loop-point-init
-loop-point-init c = subst (λ (cs : List Call). AreCallsOf c.args.layout.now c.args.image.now [] cs) (sym c.new-calls.ensures) (calls_none c.args.layout.now c.args.image.now)
+use Rattle.m51_stackbound.proofs.calls.calls_of.Goals.{in-Some+in_ok-push-in-Some, in-None}
 
 pub loop-point-preserved : goal.loop-point-preserved
 loop-point-preserved c =
@@ -16,7 +16,14 @@ loop-point-preserved c =
     let image = c.args.image.now in
     let points = c.args.points.now in
     let i = c.loop-point.point-index in
-    let p : Point = get_or points i (point_at Reset 0 0) in
-    let is : c.call_from.result ≡ call_from p.start (call_of l image p) = c.call_from.ensures ∙ ap (call_from p.start) c.call_of.ensures in
-    calls_more l image points i (point_at Reset 0 0) c.loop-point.calls c.note_one.new.self c.loop-point-test.true c.loop-point.invariant
-    (subst (λ (call : Option Call). AddsCall c.loop-point.calls call c.note_one.new.self) is c.in_ok-note_one.ensures)
+    let none : Point = point_at Reset 0 0 in
+    let p : Point = get_or points i none in
+    let is : c.call_from.result ≡ call_from p (call_of l image p) = c.call_from.ensures ∙ ap (call_from p) c.call_of.ensures in
+    let more : (calls : List Call) → calls ≡ c.loop-point.calls.items ++ cons_option c.call_from.result [] → calls ≡ calls_of l image (take (i + 1) points) =
+    λ calls e. e ∙ ap (λ (o : Option Call). c.loop-point.calls.items ++ cons_option o []) is ∙ ap (λ (cs : List Call). cs ++ cons_option (call_from p (call_of l image p)) []) c.loop-point.invariant
+    ∙ sym (calls_more l image points i none c.loop-point-test.true) in
+    elim c.match-call_from.branch as (λ _. c.match-call_from.calls.items ≡ calls_of l image (take (i + 1) points)) [
+      | in-Some+in_ok-push-in-Some w ↦ rw w.calls-is (more w.push.new.self.items (w.in_ok-push-in-Some.ensures.items ∙ ap (λ (o : Option Call). c.loop-point.calls.items ++ cons_option o []) (sym w.in-Some.is)))
+      | in-None w ↦
+          rw w.calls-is (more c.loop-point.calls.items (sym (append-nil c.loop-point.calls.items) ∙ ap (λ (o : Option Call). c.loop-point.calls.items ++ cons_option o []) (sym w.in-None.is)))
+    ]

@@ -1,5 +1,6 @@
 use Rattle.std.proofs.Common.{get_or, take, arith}
 use Rattle.std.proofs.lemmas.List.{take_more}
+use Rattle.m51_module.specs.declared.start.Start.TheVariants.{Reset}
 use Rattle.m51_stackbound.specs.declared.calls.Call.{Call}
 use Rattle.m51_stackbound.proofs.CallRows.{rows_more, rows_none}
 use Rattle.m51_stackbound.proofs.calls.rows_of.Goals as goal
@@ -11,7 +12,7 @@ pub loop-call-preserved : goal.loop-call-preserved
 loop-call-preserved c =
     let calls = c.args.calls.now in
     let i = c.loop-call.call-index in
-    let none : Call = record { from = 0; to = 0 } in
+    let none : Call = record { from = Reset; height = 0; to = 0 } in
     let call : Call = get_or calls i none in
     rw (c.in_ok-add_to.ensures.added, take_more calls i none c.loop-call-test.true)
     (rows_more (take i calls) call c.loop-call.rows.items c.add_to.ensures.few c.loop-call.invariant)

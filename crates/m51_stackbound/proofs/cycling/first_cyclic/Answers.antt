@@ -2,6 +2,7 @@ use Rattle.std.proofs.Common.{List, ℕ, below_more, arith, sym, subst, ◌∙�
 use Rattle.m51_module.specs.declared.start.Start.TheVariants.{At}
 use Rattle.m51_stackbound.specs.Callers.{AreCallRows}
 use Rattle.m51_stackbound.specs.Depths.{CallsThrough}
+use Rattle.m51_stackbound.proofs.CallRows.{rows_are}
 use Rattle.m51_stackbound.proofs.Deciding.{all_low, first_is, none_is}
 use Rattle.m51_stackbound.proofs.Raised.{low_not_cyclic}
 use Rattle.m51_stackbound.proofs.Walks.{leads_from, through_from}
@@ -12,30 +13,24 @@ returns-then-not-is_too_deep c = λ start h.
     low_not_cyclic c.args.layout.now c.args.image.now c.args.points.now c.args.depths.now c.requires.points c.requires.depths start
     (all_low c.args.depths.now (sym c.is_too_deep.ensures ∙ c.if-not-is_too_deep.true) start) h
 
-pub is_cyclic-requires-clause-low : goal.is_cyclic-requires-clause-low
-is_cyclic-requires-clause-low c = λ low h.
-    let l = c.args.layout.now in
-    let image = c.args.image.now in
-    let rows : AreCallRows l image c.deref.result.now = subst (λ (rows : List (List ℕ)). AreCallRows l image rows) (sym c.deref.ensures.value) c.in_ok-rows.ensures in
-    low_not_cyclic l image c.args.points.now c.args.depths.now c.requires.points c.requires.depths (At c.loop-place.place) low
-    (through_from l image c.deref.result.now rows c.loop-place.place c.loop-place.place h)
-
 pub loop-place-preserved : goal.loop-place-preserved
 loop-place-preserved c =
     let l = c.args.layout.now in
     let image = c.args.image.now in
     let place = c.loop-place.place in
-    let rows : AreCallRows l image c.deref.result.now = subst (λ (rows : List (List ℕ)). AreCallRows l image rows) (sym c.deref.ensures.value) c.in_ok-rows.ensures in
+    let rows : AreCallRows l image c.deref-in-loop-place.result.now = subst (λ (rows : List (List ℕ)). AreCallRows l image rows) (sym c.deref-in-loop-place.ensures.value)
+    (rows_are l image c.args.points.now c.args.calls.now c.in_ok-rows.rows.items c.requires.points c.requires.calls c.in_ok-rows.ensures) in
     below_more (λ a. CallsThrough l image (At a) a → ⊥) place c.loop-place.invariant
-    (λ h. absurd (cc (c.in_ok-is_cyclic.ensures.1 (leads_from l image c.deref.result.now rows place place h), c.if-branch.false)))
+    (λ h. absurd (cc (c.in_ok-is_cyclic.ensures.1 (leads_from l image c.deref-in-loop-place.result.now rows place place h), c.if-branch.false)))
 
 pub returns-then-branch : goal.returns-then-branch
 returns-then-branch c =
     let l = c.args.layout.now in
     let image = c.args.image.now in
     let place = c.loop-place.place in
-    let rows : AreCallRows l image c.deref.result.now = subst (λ (rows : List (List ℕ)). AreCallRows l image rows) (sym c.deref.ensures.value) c.in_ok-rows.ensures in
-    first_is l image place (through_from l image c.deref.result.now rows place place (c.in_ok-is_cyclic.ensures.0 c.if-branch.true)) c.loop-place.invariant
+    let rows : AreCallRows l image c.deref-in-loop-place.result.now = subst (λ (rows : List (List ℕ)). AreCallRows l image rows) (sym c.deref-in-loop-place.ensures.value)
+    (rows_are l image c.args.points.now c.args.calls.now c.in_ok-rows.rows.items c.requires.points c.requires.calls c.in_ok-rows.ensures) in
+    first_is l image place (through_from l image c.deref-in-loop-place.result.now rows place place (c.in_ok-is_cyclic.ensures.0 c.if-branch.true)) c.loop-place.invariant
 
 pub returns : goal.returns
 returns c =

@@ -1,7 +1,7 @@
-use Rattle.std.proofs.Common.{◌≡◌, ◌<◌, ℕ, List, [], get_or, sym, ap, subst, ◌∙◌, arith, rules}
+use Rattle.std.proofs.Common.{◌≡◌, ◌<◌, ℕ, List, get_or, sym, ap, subst, ◌∙◌, arith, rules}
 use Rattle.m51_module.proofs.KeptRows.{row_is}
 use Rattle.m51_stackbound.specs.Callers.{GoesOn, row_of}
-use Rattle.m51_stackbound.proofs.Walks.{walk_first, walk_step, walk_done}
+use Rattle.m51_stackbound.proofs.Walks.{IsWalking, walk_first, walk_step, walk_done}
 use Rattle.m51_stackbound.proofs.walking.walk.Goals as goal
 
 pub loop-next-init : goal.loop-next-init
@@ -10,9 +10,12 @@ loop-next-init c =
     let few : c.args.from < 65536 = search rules in
     let row : row_of rows c.args.from ≡ c.as_slice.result.now =
     ap (row_of rows) (sym c.from.ensures) ∙ row_is rows c.from.result c.index-rows-from.result (omega (arith, c.from.ensures, c.requires, few)) c.index-rows-from.is ∙ sym c.as_slice.ensures in
-    let new = c.note_all.new.self in
-    walk_first rows c.args.from new
-    (subst (λ (xs : List ℕ). GoesOn [] xs new) (sym row) (subst (λ (old : List ℕ). GoesOn old c.as_slice.result.now new) c.in_ok-found.ensures c.in_ok-note_all.ensures))
+    let old = c.args.found.now in
+    let new = c.note_all.new.self in (
+      omega (arith, c.len-next.ensures.value),
+      subst (λ (n : ℕ). IsWalking rows c.args.from old new n) (sym c.len-next.ensures.value)
+          (walk_first rows c.args.from old new (subst (λ (xs : List ℕ). GoesOn old xs new) (sym row) c.in_ok-note_all.ensures)),
+    )
 
 pub loop-next-preserved : goal.loop-next-preserved
 loop-next-preserved c =
@@ -24,9 +27,12 @@ loop-next-preserved c =
     let row : row_of rows (get_or found next 0) ≡ c.as_slice-in-loop-next.result.now =
     ap (row_of rows) (sym c.at-via.ensures ∙ sym c.from-in-loop-next.ensures)
     ∙ row_is rows c.from-in-loop-next.result c.index-rows-from-in-loop-next.result (omega (arith, c.from-in-loop-next.ensures, c.requires, few)) c.index-rows-from-in-loop-next.is
-    ∙ sym c.as_slice-in-loop-next.ensures in
-    walk_step rows c.args.from found new next (omega (arith, c.loop-next-test.true, c.len.ensures.value)) c.loop-next.invariant
-    (subst (λ (xs : List ℕ). GoesOn found xs new) (sym row) c.in_ok-note_all-2.ensures)
+    ∙ sym c.as_slice-in-loop-next.ensures in (
+      omega (arith, c.loop-next.invariant.0),
+      walk_step rows c.args.from c.args.found.now found new next c.loop-next.invariant.0 (omega (arith, c.loop-next-test.true, c.len.ensures.value)) c.loop-next.invariant.1
+          (subst (λ (xs : List ℕ). GoesOn found xs new) (sym row) c.in_ok-note_all-2.ensures),
+    )
 
 pub returns : goal.returns
-returns c = walk_done c.args.rows.now c.args.from c.loop-next.found c.loop-next.next (omega (arith, c.loop-next-test.false, c.len.ensures.value)) c.loop-next.invariant
+returns c =
+    walk_done c.args.rows.now c.args.from c.args.found.now c.loop-next.found c.loop-next.next (omega (arith, c.loop-next-test.false, c.len.ensures.value)) c.loop-next.invariant.1

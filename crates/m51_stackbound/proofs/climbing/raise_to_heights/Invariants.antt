@@ -1,0 +1,6 @@
+use Rattle.std.proofs.Common.{take}
+use Rattle.m51_stackbound.specs.Climb.{IsClimbing}
+use Rattle.m51_stackbound.proofs.climbing.raise_to_heights.Given as goal
+
+abbrev pub invariant-loop-point : goal.invariant-loop-point
+invariant-loop-point l = IsClimbing l.layout l.image (take l.point-index l.points) l.depths

@@ -1,0 +1,5 @@
+use Rattle.m51_stackbound.specs.Callers.{AreCleared, IsClosed}
+use Rattle.m51_stackbound.proofs.walking.cleared.Given as goal
+
+abbrev pub invariant-loop-start : goal.invariant-loop-start
+invariant-loop-start l = IsClosed l.rows l.found × AreCleared l.rows l.cleared.items

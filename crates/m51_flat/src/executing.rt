@@ -160,8 +160,8 @@ fn run<M: CellStore>(
     }
 }
 
-/// The outcome of an instruction over a store, where `image` has 65,536 bytes. It changes nothing: the caller puts `first`
-/// and then `second`.
+/// The outcome of an instruction over a store, where `image` has 65,536 bytes. It changes nothing: the caller puts
+/// `first` and then `second`.
 ///
 /// - `Outside` and `Unset`: the first read that the store does not answer, in the order of the operands.
 /// - `Outside`, else: the lowest cell of the first put, then of the second, that may not be written.

@@ -159,15 +159,18 @@ pub struct Effect {
 }
 
 impl Effect {
-    /// That of a step of no machine cycle that changes nothing, and after which interrupts are not held off: what a call
-    /// begins with that fills an effect.
+    /// That of a step of no machine cycle that changes nothing, and after which interrupts are not held off. A call
+    /// that fills an effect begins with it.
     ///
     /// Source: own choice ("Effects").
     pub fn none(cpu: &Cpu) -> Effect
         ensures { result ≡ still cpu.now 0 }
     {
         Effect {
-            cpu: Cpu { held: false, ..*cpu },
+            cpu: Cpu {
+                held: false,
+                ..*cpu
+            },
             first: Put::Nothing,
             second: Put::Nothing,
             transfer: Transfer::Next,

@@ -74,7 +74,7 @@ module _ (cpu : Cpu) (image : List ℕ) (ext : Pins) where
       let k = by.sp_follows _ top begin len refl refl in
       λ v. by.either_follows _ _ None with_location _ _ v (nat_lt direct 128) (with_sfr sp top begin) k (by.plain_follows _ _ None direct v (with_sfr sp top begin) ne k)
 
-  -- an instruction that goes on or jumps, and does not write SP by an operand but for an immediate value
+  -- an instruction that continues with the next or jumps, and does not write SP by an operand but for an immediate value
   leads_by : (instr : Instr) → length cpu.regs ≡ 128 → (writes_sp instr && not (is_some (sets_sp instr))) ≡ false → (is_call instr || is_return instr || is_computed instr) ≡ false → LeadsBy instr
   unfolding latch
   leads_by (names.PushDirect direct) len p q = by.follows_good _ _ _ _ (by.pushed_follows _ (started cpu (names.PushDirect direct)) len refl refl ext _)

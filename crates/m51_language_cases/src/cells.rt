@@ -39,7 +39,7 @@ fn names_are_stored_in_upper_case(rt: HostRuntime) {
     assert!(rt; Name::none().bytes().is_empty(), "at the empty name");
 }
 
-// Whether a list has one item, is not empty, lends its item, and hands it out.
+// Whether a list has one item, is not empty, lends its item, and returns it as a `Vec`.
 fn answers_of_list(alloc: Global) -> Result<[bool; 4], NoMemory> {
     let name = Name::at(3);
     let names: Names = ListOf::of(vec![in alloc; name]?);

@@ -146,7 +146,7 @@ $INCLUDE (A(1.inc) \n\
 END \n\
 ";
 
-// Lines of fault 6: an expression or an operand is needed, and none is there.
+// Lines of fault 6: an expression or an operand is missing.
 const NO_EXPRESSION: &str = "\
 DB\n\
 X EQU\n\
@@ -192,7 +192,7 @@ S SEGMENT CODE *\n\
 S SEGMENT NOT\n\
 ";
 
-// Lines of fault 11: no instruction, or out of its form.
+// Lines of fault 11: no instruction, or one with other operands.
 const NO_INSTRUCTION: &str = "\
 MOV #1,A\n\
 5\n\
@@ -281,7 +281,7 @@ fn fault(alloc: Global, line: &str) -> Option<u8> {
     answer(alloc, line).err()
 }
 
-// The same of a line that begins so and goes on with a character so many times.
+// The same of a line that begins with this text and continues with a character, repeated this number of times.
 fn fault_of_many(
     alloc: Global,
     front: &str,

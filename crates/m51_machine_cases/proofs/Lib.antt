@@ -1,1 +1,5 @@
+mod Counted
 mod OneUnitSound
+mod Sound
+mod SoundTests
+mod ThreeRoots

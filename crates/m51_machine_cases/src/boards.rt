@@ -21,7 +21,7 @@ fn image(alloc: Global, bytes: &[u8]) -> Result<Image, NoMemory>
     Ok(image)
 }
 
-// One unit of so many bytes at 0000H, and a byte of DATA at 08H.
+// One unit of this size at 0000H, and a byte of DATA at 08H.
 fn parts(alloc: Global, size: u16) -> Result<LayoutParts, NoMemory>
     ensures { IfOk result (λ parts. parts ≡ one_unit (title_at 0) [] size) }
 {

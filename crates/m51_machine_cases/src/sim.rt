@@ -19,7 +19,7 @@ fn run_on(board: &mut Board, n: u32, sink: &mut MemSink) -> RunEnd
     board.run(n, sink)
 }
 
-// How so many steps of a board end, and whether they write this.
+// How this number of steps of a board ends, and whether they write this.
 fn run_writes(
     alloc: Global,
     board: &mut Board,

@@ -1,5 +1,5 @@
-//! Tests of what no verb reaches of modules, layouts, images and libraries, and of the text of generated programs. It is
-//! no part of the product.
+//! Tests of what no verb reaches of modules, layouts, images and libraries, and of the text of generated programs. It
+//! is no part of the product.
 #![tactic(auto)]
 
 #[cfg(test)]

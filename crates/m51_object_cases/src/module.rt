@@ -1,4 +1,4 @@
-//! What no clause says: that the calls give their answers where memory is there.
+//! What no clause says: that the calls give their answers where there is memory.
 use crate::sample;
 use m51_cells::{Kind, NoMemory};
 use m51_module::{Image, external_numbered, segment_numbered};

@@ -3,7 +3,7 @@ use Rattle.std.specs.Prelude.{ℕ, ◌+◌, ◌-◌}
 use Rattle.m51_flat.specs.declared.state.Transfer.{Transfer}
 use Rattle.m51_flat.specs.declared.state.Transfer.TheVariants.{Next, Jump, Call, Ret, Reti, Vector}
 
--- after a transfer, where so many were in progress before
+-- after a transfer, by their number before it
 abbrev pub taken_by : Transfer → ℕ → ℕ
 taken_by Next taken = taken
 taken_by Jump taken = taken

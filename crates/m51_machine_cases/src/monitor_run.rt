@@ -3,7 +3,7 @@ ghost use Rattle.std.specs.Prelude.{◌≡◌, ◌<◌, ◌≤◌, ℕ, true};
 ghost use Rattle.m51_monitor.specs.Monitored.{HasAddress, HasLevel, Monitored, WasJudged};
 ghost use Rattle.m51_monitor.specs.Rising.{interrupts};
 ghost use Rattle.m51_monitor.specs.Transfers.{moved};
-ghost use Rattle.m51_cases.specs.Taken.{taken_by};
+ghost use Rattle.m51_machine_cases.specs.Taken.{taken_by};
 
 use crate::monitor_layout::monitor;
 use m51_cells::{Cell, Event, NoMemory, Space};
@@ -93,7 +93,7 @@ impl Act {
     }
 }
 
-// With so many interrupts in progress the move may be made.
+// Whether the move may be made with this number of interrupts in progress.
 fn has_level(taken: u8, step: Move) -> bool
     ensures { (m : Monitored) → interrupts m.records.returns ≡ taken → result ≡ true → HasLevel m step }
 {

@@ -1,6 +1,7 @@
 //! Transfers of control for which two or three rules of the table fail, and which of them comes first.
 use crate::monitor_run::{Act, Run, Spot};
-use m51_cells::{Event, NoMemory, Why, digit_value};
+use crate::rows::{at, byte};
+use m51_cells::{Event, NoMemory, Why};
 use m51_flat::Source;
 use std::alloc::Global;
 
@@ -37,19 +38,7 @@ C 50 42 lost 1B 43 NoHandler SpBelow
 I 03 42 lost 1B 43 NoHandler SpBelow
 I 03 42 tick 03 43 RootBusy SpBelow";
 
-// The byte of a row.
-fn at(row: &[u8], index: usize) -> u8 {
-    row.get(index).copied().unwrap_or(0)
-}
-
-// The two digits in a row.
-fn byte(row: &[u8], index: usize) -> u8 {
-    let high = digit_value(at(row, index)).unwrap_or(0);
-    let low = digit_value(at(row, index.saturating_add(1))).unwrap_or(0);
-    high.wrapping_mul(16).wrapping_add(low)
-}
-
-// An address and SP in a row.
+// An address and SP of a table's row.
 fn spot(row: &[u8], index: usize) -> Spot {
     Spot {
         pc: byte(row, index),
@@ -70,7 +59,7 @@ fn act(row: &[u8]) -> Act {
     }
 }
 
-// The rule that a row names, which its first and third letters tell.
+// The rule that a row names, by its first and third letters.
 fn why(row: &[u8]) -> Option<Why> {
     match (at(row, 19), at(row, 21)) {
         (b'P', b's') => Some(Why::PastEnd),

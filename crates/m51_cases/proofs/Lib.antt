@@ -1,4 +1,0 @@
-pub mod Counted
-pub mod Sound
-pub mod SoundTests
-pub mod ThreeRoots

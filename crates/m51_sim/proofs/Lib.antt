@@ -1,6 +1,7 @@
 pub mod Values
 pub mod Sums
 pub mod Going
+pub mod Decoded
 pub mod Tellings
 pub mod StoresRead
 pub mod Preparing

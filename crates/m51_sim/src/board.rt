@@ -67,8 +67,9 @@ impl Board {
     {
         let monitor = Monitor::start(alloc, layout, script.fill())?;
         stand(&monitor);
+        let chip = Chip::make(alloc, image, script)?;
         Ok(Board {
-            chip: Chip::make(image, script),
+            chip,
             monitor,
             effect: place(),
         })

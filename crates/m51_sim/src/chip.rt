@@ -1,5 +1,5 @@
 //! An image, a script, the processor, the devices, and the number of the machine cycle.
-ghost use Rattle.std.specs.Prelude.{◌≡◌, length, slice_index};
+ghost use Rattle.std.specs.Prelude.{◌≡◌, length, IfOk};
 ghost use Rattle.m51_flat.specs.Reset.{reset_cpu};
 ghost use Rattle.m51_timers_uart.specs.LineLaws.{written_to};
 ghost use Rattle.m51_timers_uart.specs.Tick.{reset_periph};
@@ -9,22 +9,23 @@ ghost use Rattle.m51_sim.specs.Effects.{instr_at, latch_address, port_entry};
 
 use crate::attempt::Attempt;
 use crate::cycles::{Passing, Timed, pass_cycles};
+use crate::program::Program;
 use crate::runs::Entries;
-use m51_cells::Entry;
+use m51_cells::{Entry, NoMemory};
 use m51_flat::{Cpu, Effect, Pins, Put, Source, Transfer, begin, reset};
 use m51_irq::choose;
-use m51_isa::{Instr, decode};
 use m51_module::Image;
 use m51_script::Script;
 use m51_sfr::addresses::{P0, P1, P2, P3, PCON};
 use m51_sfr::bits::IDL;
 use m51_timers_uart::Periph;
+use std::alloc::Global;
 use std::marker::Model;
 
 /// What both boards have besides their memories.
 #[derive(Drop)]
 pub(crate) struct Chip {
-    image: Image,
+    program: Program,
     script: Script,
     passing: Passing,
 }
@@ -35,7 +36,7 @@ impl Model for Chip {
     ghost Value = { ChipState };
 
     ghost view = { λ c. record {
-      image = c.image;
+      image = c.program;
       script = c.script;
       cpu = c.passing.cpu;
       periph = c.passing.periph;
@@ -44,19 +45,20 @@ impl Model for Chip {
 }
 
 impl Chip {
-    // With this image and script, after a reset.
-    pub(crate) fn make(image: Image, script: Script) -> Chip
-        ensures { result ≡ record {
+    // With this image and script, after a reset. Error: out of memory.
+    pub(crate) fn make(alloc: Global, image: Image, script: Script) -> Result<Chip, NoMemory>
+        ensures { IfOk result (λ chip. chip ≡ record {
           image = image;
           script = script;
           cpu = reset_cpu;
           periph = reset_periph ((inputs_of script).pins 0);
           cycle = 0;
-        } }
+        }) }
     {
+        let program = Program::make(alloc, image)?;
         let periph = Periph::reset(&script.pins_at(0));
-        Chip {
-            image,
+        Ok(Chip {
+            program,
             script,
             passing: Passing {
                 cpu: reset(),
@@ -64,7 +66,7 @@ impl Chip {
                 cycle: 0,
                 sent: None,
             },
-        }
+        })
     }
 
     // The processor.
@@ -93,7 +95,7 @@ impl Chip {
         ensures list { result.now ≡ self.now.image }
         ensures whole { length result.now ≡ 65536 }
     {
-        self.image.bytes()
+        self.program.bytes()
     }
 
     // The levels that the outside gives the pins.
@@ -130,27 +132,14 @@ impl Chip {
     }
 
     // The instruction at the program counter, or the reserved opcode.
-    #[tactic(auto, unfolding(crate::specs::Effects::instr_at))]
     #[inline(always)]
     fn fetch(&self) -> Attempt
         ensures { result ≡ executing (instr_at self.now.image self.now.cpu.pc) }
     {
-        let pc = self.passing.cpu.pc;
-        match decode([
-            self.byte(pc),
-            self.byte(pc.wrapping_add(1)),
-            self.byte(pc.wrapping_add(2)),
-        ]) {
+        match self.program.instr(self.passing.cpu.pc) {
             None => Attempt::Refusing,
             Some(instr) => Attempt::Executing(instr),
         }
-    }
-
-    // The byte of the image at an address.
-    fn byte(&self, address: u16) -> u8
-        ensures { result ≡ slice_index self.now.image address }
-    {
-        self.image.bytes()[usize::from(address)]
     }
 
     // Performs the step of an effect, but for its puts: its changes, and then its cycles.

@@ -54,8 +54,9 @@ impl FlatBoard {
         ensures { IfOk result (IsFlatStarted image script) }
     {
         let memory = FlatRam::filled(alloc, script.fill())?;
+        let chip = Chip::make(alloc, image, script)?;
         Ok(FlatBoard {
-            chip: Chip::make(image, script),
+            chip,
             memory,
             effect: place(),
         })

@@ -8,6 +8,7 @@ mod cycles;
 mod flat_board;
 mod judging;
 mod laws;
+mod program;
 mod runs;
 
 pub use board::Board;

@@ -1,4 +1,3 @@
-use Rattle.std.proofs.Common.{refl}
 use Rattle.m51_sim.specs.Boards.{map_of}
 use Rattle.m51_sim.specs.Cycles.{inputs_of}
 use Rattle.m51_sim.proofs.Flatly.{effect_done, effect_down}

@@ -9,7 +9,7 @@ use Rattle.m51_stmt.specs.Statement.{StmtTree}
 use Rattle.m51_text.specs.Said.{said}
 use Rattle.m51_text.specs.Text.{TextLine, file_lines, text_lines}
 use Rattle.m51_text.specs.Faults.{faults_of}
-use Rattle.m51_text.specs.Answer.{LineTree, Lines, with_statement, statements_of}
+use Rattle.m51_text.specs.Answer.{LineTree, with_statement, statements_of}
 use Rattle.m51_asm.specs.declared.contents.Contents.{Contents}
 use Rattle.m51_asm.specs.Assignment.{Assignment}
 use Rattle.m51_asm.specs.Answer.{Gives, Faults, content_or_faults, answer_of_lines}

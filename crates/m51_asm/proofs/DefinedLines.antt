@@ -1,4 +1,4 @@
--- What is kept after so many lines of a text: the first definitions above, what is public and named there, and where a line
+-- The state after the first lines of a text: the first definitions above, what is public and named there, and where a line
 -- repeats.
 use Rattle.std.proofs.Common.{◌≡◌, ℕ, zero, suc, ◌+◌, ◌<◌, ◌≤◌, Bool, true, false, not, ◌&&◌, ◌||◌, cond, List, [], ◌∷◌, ◌++◌, length, map, take, drop, Option, Some, None, option_map, is_some, slice_get, refl, ap, sym, ◌∙◌, arith, add-zero}
 use Rattle.std.proofs.lemmas.List.{take_all}
@@ -66,7 +66,7 @@ or_found : {A : Type 0} (o : Option A) (x y : A) → o ≡ Some x → o ≡ or_h
 or_found (Some z) x y h = refl
 or_found None x y h = absurd (cc h)
 
--- a name that stands in a table does so under each equal text
+-- a name of a table is found under each equal text
 held : (table : Table) (name key : List ℕ) (f g : FirstDefinition) (b : Bool) → bytes_eq name key ≡ b → first_in table key ≡ Some f
     → first_in table name ≡ or_here (first_in table name) (cond b (Some g) None)
 held table name key f g true e h = or_found (first_in table name) f g (ap (first_in table) ((bytes_eq-Decides name key).0 e) ∙ h)
@@ -91,7 +91,7 @@ found_step : (d : Defined) (ds : List Defined) (name : List ℕ) → or_here (on
 unfolding one_defined
 found_step d ds name = or_cond (bytes_eq name d.0) d.1 (found_in ds name)
 
--- what stands in a table with the definitions of a line
+-- the entries of a table with the definitions of a line
 pub all_noted_in : (table : Table) (line : ℕ) (ds : List Defined) (name : List ℕ)
     → first_in (all_noted table line (map brief ds)) name ≡ or_here (first_in table name) (option_map (first_at line) (found_in ds name))
 all_noted_in table line [] name = sym (or_none (first_in table name))
@@ -134,7 +134,7 @@ take_len [] k l is = absurd (cc is)
 take_len (x ∷ lines) zero l is = refl
 take_len (x ∷ lines) (suc k) l is = ap suc (take_len lines k l is)
 
--- the first definition of a name after one line more
+-- the first definition of a name after one more line
 pub defined_more : (lines : List LineTree) (k : ℕ) (l : LineTree) (name : List ℕ) → slice_get lines k ≡ Some l
     → definition_of (take (suc k) lines) name ≡ or_here (definition_of (take k lines) name) (option_map (at_line k) (found_in (definitions_in l.stmt) name))
 unfolding definition_of
@@ -147,7 +147,7 @@ unfolding at_line first_at
 firsts_map k None = refl
 firsts_map k (Some h) = refl
 
--- a table has the first definitions above line k, and those that stand before in the line
+-- a table has the first definitions above line k, and those before in the line
 pub Sees : Table → List LineTree → ℕ → List Defined → Type 0
 Sees table lines k before = (name : List ℕ)
     → first_in table name ≡ or_here (option_map first_of (definition_of (take k lines) name)) (option_map (first_at k) (found_in before name))
@@ -197,7 +197,7 @@ or_true : (b c : Bool) → b ≡ true → b ≡ (b || c)
 or_true true c h = refl
 or_true false c h = absurd (cc h)
 
--- a name that stands among texts does so as each equal text
+-- a name that is among texts is so as each equal text
 also_public : (publics : List (List ℕ)) (name key : List ℕ) (b : Bool) → bytes_eq name key ≡ b → list_any (bytes_eq key) publics ≡ true
     → list_any (bytes_eq name) publics ≡ (list_any (bytes_eq name) publics || b)
 also_public publics name key true e h =
@@ -225,7 +225,7 @@ all_made publics (key ∷ names) name =
     all_made (made_public publics key) names name ∙ ap (λ b. b || list_any (bytes_eq name) names) (made_in publics name key)
     ∙ join_bools (list_any (bytes_eq name) publics) (bytes_eq name key) (list_any (bytes_eq name) names)
 
--- the names that are public above line k, and those that stand before in the line
+-- the names that are public above line k, and those before in the line
 SeesPublic : List (List ℕ) → List LineTree → ℕ → List (List ℕ) → Type 0
 SeesPublic publics lines k before = (name : List ℕ)
     → list_any (bytes_eq name) publics ≡ (list_any (bytes_eq name) before || list_any (has_public name) (take k lines))

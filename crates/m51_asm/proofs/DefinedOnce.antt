@@ -20,7 +20,7 @@ if_none : {A : Type 0} (b : Bool) (x : A) (o : Option A) → cond b (Some x) o �
 if_none true x o h = absurd (cc h)
 if_none false x o h = (refl, h)
 
--- texts that a test tells apart differ
+-- texts that a test distinguishes differ
 pub texts_differ : (m n : List ℕ) → bytes_eq m n ≡ false → m ≢ n
 texts_differ m n h e = absurd (cc (h, (bytes_eq-Decides m n).1 e))
 
@@ -59,7 +59,7 @@ clash_none (Some first) d h s = absurd (set_or_not (is_set first) (is_set d) s h
     set_or_not true false s h = cc h
     set_or_not false c s h = cc h
 
--- the definition stands for the first time at line k, after those
+-- the definition is the first of its name at line k, after those
 abbrev First : List LineTree → ℕ → List Defined → Defined → Type 0
 First lines k before d = (definition_of (take k lines) d.0 ≡ None) × (found_in before d.0 ≡ None)
 

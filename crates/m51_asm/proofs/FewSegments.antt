@@ -1,5 +1,5 @@
 -- A text without faults gives no more segments and externals than a module may have.
-use Rattle.std.proofs.Common.{◌≡◌, ◌≢◌, ◌⊎◌, inl, inr, ℕ, zero, suc, ◌+◌, ◌<◌, ◌≤◌, ◌==◌, nat_lt, Bool, true, false, not, ◌&&◌, cond, List, [], ◌∷◌, ◌++◌, length, refl, sym, ap, ◌∙◌, arith, add-zero, length-append, eq-eqb}
+use Rattle.std.proofs.Common.{◌≡◌, ◌≢◌, ◌⊎◌, inl, inr, ℕ, zero, suc, ◌+◌, ◌<◌, ◌≤◌, ◌==◌, nat_lt, Bool, true, false, not, ◌&&◌, cond, List, [], ◌∷◌, ◌++◌, length, ◌-◌, refl, sym, ap, subst, ◌∙◌, arith, add-zero, length-append, eq-eqb}
 use Rattle.std.proofs.lemmas.List.{length-map}
 use Rattle.std.proofs.lemmas.Bool.{ltb-true, ltb-false, lt-ltb, le-ltb, eqb-true, eqb-false, ne_eqb, or_parts, and_from, cases_Bool}
 use Rattle.m51_cells.specs.declared.kind.Kind.{Kind}
@@ -13,10 +13,10 @@ use Rattle.m51_text.specs.Answer.{LineTree}
 use Rattle.m51_asm.specs.Assignment.{TextSegment, Assignment, body_at, above}
 use Rattle.m51_asm.specs.Fitting.{size_by, size_at, filled, externals_in, externals_before}
 use Rattle.m51_asm.specs.PlacedFaults.{begins_to_fill, is_numbered_by, numbers_a_segment, segments_before}
-use Rattle.m51_asm.specs.ObjectSegments.{Kept, kept, segment_of}
+use Rattle.m51_asm.specs.ObjectSegments.{Kept, kept_by, kept_before, kept, segment_of}
 use Rattle.m51_asm.specs.Parts.{external, externals_by, externals}
 use Rattle.m51_asm.proofs.Members.{In, Every, Pairs, in_first, in_later}
-use Rattle.m51_asm.proofs.GoodLines.{IsClean, IsFaultFree, free}
+use Rattle.m51_asm.proofs.GoodLines.{IsFreeText, IsFaultFree, free}
 use Rattle.m51_asm.proofs.KnownSegments.{known}
 use Rattle.m51_asm.proofs.SegmentRoom.{filled_here, filled_there, filled_first}
 use Rattle.m51_asm.proofs.KeptSegments.{IsKept, IsNamed, Nameless, DeclaredAt, AreKept, all_kept}
@@ -88,7 +88,7 @@ none_counted p (s ∷ xs) h =
     let rest : counted p xs ≡ 0 = none_counted p xs (λ t i. h t (in_later t s xs i)) in
     omega (arith, e, rest)
 
-module _ (lines : List LineTree) (a : Assignment) (c : IsClean lines a) where
+module _ (lines : List LineTree) (a : Assignment) (c : IsFreeText lines a) where
   -- a segment has a number above line k: it is declared there, or is absolute and holds something
   has_one : ℕ → Kept → Bool
   has_one k s = cond (is_absolute s.segment.reloc) (not (filled lines a s.id k == 0)) (nat_lt s.id (k + 2))
@@ -230,6 +230,25 @@ module _ (lines : List LineTree) (a : Assignment) (c : IsClean lines a) where
       let whole = all_counted (has_one (length lines)) (kept lines a) (λ s i. at_last s (is_kept s i) (all.low s i)) in
       omega (arith, most, counts, whole)
 
+  kept_grows : (k j : ℕ) → length (kept_before lines a k) ≤ length (kept_before lines a (k + j))
+  unfolding kept_before
+  kept_grows k zero = subst (λ n. length (kept_before lines a k) ≤ length (kept_before lines a n)) (sym (add-zero k)) (omega arith)
+  kept_grows k (suc j) =
+      let before = kept_grows k j in
+      let len = length-append (kept_before lines a (k + j)) (kept_by lines a (k + j) (body_at lines (k + j))) in
+      let e : suc (k + j) ≡ k + suc j = omega arith in
+      subst (λ n. length (kept_before lines a k) ≤ length (kept_before lines a n)) e (omega (arith, before, len))
+
+  -- nor do its first lines
+  pub kept_most : (k : ℕ) → k ≤ length lines → length (kept_before lines a k) ≤ 254
+  unfolding kept
+  kept_most k within =
+      let e : k + (length lines - k) ≡ length lines = omega (arith, within) in
+      let grows : length (kept_before lines a k) ≤ length (kept_before lines a (length lines)) =
+      subst (λ n. length (kept_before lines a k) ≤ length (kept_before lines a n)) e (kept_grows k (length lines - k)) in
+      let most : length (kept_before lines a (length lines)) ≤ 254 = few_segments in
+      omega (arith, grows, most)
+
 externals_of : (b : BodyTree) → externals_in b ≡ length (externals_by b)
 externals_of (body.Extrn xs) = sym (length-map xs external)
 externals_of b = refl
@@ -257,7 +276,7 @@ externals_count lines =
     let h : externals_before lines (0 + length lines) ≡ 0 + length (externals lines) = externals_to lines lines 0 (λ j. ap (body_at lines) (zero_more j)) in
     zero_more (length (externals lines)) ∙ sym h ∙ ap (externals_before lines) (sym (zero_more (length lines)))
 
-externals_most : (lines : List LineTree) (a : Assignment) → IsClean lines a → (n : ℕ) → n ≡ length lines → externals_before lines n ≤ 255
+externals_most : (lines : List LineTree) (a : Assignment) → IsFreeText lines a → (n : ℕ) → n ≡ length lines → externals_before lines n ≤ 255
 unfolding externals_before
 externals_most lines a c zero is = omega arith
 externals_most lines a c (suc k) is =
@@ -265,5 +284,5 @@ externals_most lines a c (suc k) is =
     let p = or_parts (nat_lt 254 (segments_before lines a (suc k))) (nat_lt 255 (externals_before lines (suc k))) f.few in
     ltb-false 255 (externals_before lines (suc k)) p.1
 
-pub few_externals : (lines : List LineTree) (a : Assignment) → IsClean lines a → length (externals lines) ≤ 255
+pub few_externals : (lines : List LineTree) (a : Assignment) → IsFreeText lines a → length (externals lines) ≤ 255
 few_externals lines a c = let e = externals_count lines in let most = externals_most lines a c (length lines) refl in omega (arith, e, most)

@@ -1,4 +1,4 @@
--- What is kept for pass 2 says what names and the place of a line stand for over the segments of the module.
+-- By the state for pass 2, what names and the place of a line mean over the segments of the module.
 use Rattle.std.proofs.Common.{◌≡◌, ℕ, ◌%◌, List, option_map, ap, sym, ◌∙◌}
 use Rattle.m51_cells.specs.declared.kind.Base.TheVariants as base
 use Rattle.m51_expr.specs.declared.value.Part.TheVariants.{Whole}
@@ -26,7 +26,7 @@ place_is lines a k p f place =
     (λ i. here_of (place.segment i) (place.offset i))
     ∙ ap (λ n. record { number = n % 65536; class = (a.segment k).kind; base = base.Segment (a.segment k).id; part = Whole }) (sym (f.places k))
 
--- what is kept for a line says what names stand for there
+-- by the state at a line, what names mean there
 pub names_are : (lines : List LineTree) (a : Assignment) (k : ℕ) (t : PlacedText) → IsReady lines a t → (set : Valuation) → IsSetAt lines a k set
     → (p : LinePlace) → IsPlaceOf lines a k p → (n : ObjectNames) → n.values.names.now ≡ t.text.names.now → n.values.kept.now ≡ t.end.now.values
     → n.values.set.now ≡ set → n.values.mod51 ≡ t.text.mod51 → n.values.bank ≡ p.bank → n.numbering.now ≡ t.numbering.now

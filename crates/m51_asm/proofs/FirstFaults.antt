@@ -1,4 +1,4 @@
--- The first line that has a fault by what stands above it tells the answer.
+-- The first line that has a fault by the lines above it gives the answer.
 use Rattle.std.proofs.Common.{◌≡◌, ℕ, zero, suc, ◌+◌, ◌<◌, List, [], ◌∷◌, length, Option, Some, None, refl, ap, sym, ◌∙◌, slice_get, add-zero, arith}
 use Rattle.m51_text.specs.Answer.{LineTree}
 use Rattle.m51_asm.specs.Assignment.{Assignment}

@@ -24,7 +24,7 @@ use Rattle.m51_asm.specs.declared.object_names.PlacedText.{PlacedText}
 use Rattle.m51_asm.proofs.FewSegments.{few_segments}
 use Rattle.m51_asm.proofs.Members.{In, Every, Pairs, in_first, in_later, got_in}
 use Rattle.m51_asm.proofs.FirstFaults.{moved}
-use Rattle.m51_asm.proofs.GoodLines.{IsClean, clean_where}
+use Rattle.m51_asm.proofs.GoodLines.{IsClean, clean_where, free_text}
 use Rattle.m51_asm.proofs.KeptNumbers.{ids, Ascend}
 use Rattle.m51_asm.proofs.KeptSegments.{AreKept, all_kept}
 use Rattle.m51_asm.proofs.KnownSegments.{known}
@@ -169,7 +169,7 @@ module _ (lines : List LineTree) (a : Assignment) where
       → content_of (all_pieces gathered) (all_fixups gathered) ≡ content_of (pieces lines a) (fixups lines a)
   whole gathered e = λ i. content_of ((ap all_pieces e ∙ pieces_are) i) ((ap all_fixups e ∙ fixups_all) i)
 
-  -- the segment of line k with the line more
+  -- the segment of line k with that line added
   here_grows : (k : ℕ) (s : Kept) → s.id ≡ (a.segment k).id → with_line (object_segments lines a) (gathered_in lines a k s) (placed_at lines a k) ≡ gathered_in lines a (suc k) s
   unfolding placed_before
   here_grows k s e =
@@ -186,9 +186,9 @@ module _ (lines : List LineTree) (a : Assignment) where
 
 module _ (lines : List LineTree) (a : Assignment) (c : IsClean lines a) where
   order : Ascend (kept lines a)
-  order = let all : AreKept lines a c (length lines) (kept lines a) = all_kept lines a c in all.order
+  order = let all : AreKept lines a (free_text lines a c) (length lines) (kept lines a) = all_kept lines a (free_text lines a c) in all.order
 
-  -- with a line more
+  -- with one more line
   pub gathered_more : (k : ℕ) → changed (λ g. with_line (object_segments lines a) g (placed_at lines a k)) (segment_number lines a (a.segment k).id) (gathered_before lines a k)
       ≡ gathered_before lines a (suc k)
   unfolding number_in
@@ -202,7 +202,7 @@ module _ (lines : List LineTree) (a : Assignment) (c : IsClean lines a) where
       let s = a.segment k in
       let test : (s.id == s.id) ≡ true = eq-eqb s.id s.id refl in
       let end = line_ends lines a c k s.id below test in
-      elim (room lines a c (suc k) (omega (arith, below)) s (known lines a c k).same) [
+      elim (room lines a (free_text lines a c) (suc k) (omega (arith, below)) s (known lines a (free_text lines a c) k).same) [
         | inl none ↦ omega (arith, end, none)
         | inr r ↦ let most = r.most in omega (arith, end, most)
       ]
@@ -219,7 +219,7 @@ module _ (lines : List LineTree) (a : Assignment) (c : IsClean lines a) where
   unfolding content_at
   line_lies k = references_lie (final lines a k) (a.form k) (body_at lines k)
 
--- so many segments from a number on, to which no line has given anything
+-- this number of segments from a number on, to which no line has given anything
 abbrev nothing_from : ℕ → ℕ → List Gathered
 nothing_from n zero = []
 nothing_from n (suc m) = nothing_in (suc n) ∷ nothing_from (suc n) m
@@ -277,10 +277,10 @@ module _ (lines : List LineTree) (a : Assignment) (c : IsClean lines a) where
   next_gathered k number at content segments old new same numbered placed given before e =
       e ∙ (λ i. changed (λ g. with_line (same i) g (placed i, given i)) (numbered i) (before i)) ∙ gathered_more lines a c k
 
-  -- so many segments as the module has are not too many
+  -- the segments of the module are not too many
   pub segments_few : (segments : List Segment) → segments ≡ object_segments lines a → length segments ≤ 254
   segments_few segments e =
-      let few = few_segments lines a c in
+      let few = few_segments lines a (free_text lines a c) in
       let len : length segments ≡ length (kept lines a) = ap length e ∙ length-map (kept lines a) (λ (k : Kept). k.segment) in
       omega (arith, few, len)
 

@@ -1,5 +1,5 @@
--- What a line gives to names is what their definitions say.
-use Rattle.std.proofs.Common.{◌≡◌, ℕ, suc, Bool, true, false, cond, List, [], ◌∷◌, ◌++◌, map, Option, Some, None, refl, ap, option_map}
+-- What a line gives to names is what their definitions say, and its externals have numbers.
+use Rattle.std.proofs.Common.{◌≡◌, ℕ, suc, ◌+◌, ◌≤◌, length, Bool, true, false, cond, List, [], ◌∷◌, ◌++◌, map, Option, Some, None, refl, ap, sym, subst, arith, option_map}
 use Rattle.std.specs.Str.{bytes_eq}
 use Rattle.m51_cells.specs.declared.kind.Kind.{Kind}
 use Rattle.m51_stmt.specs.Statement.{BodyTree, StmtTree, Segment, Equ, Set, Address, Extrn}
@@ -8,11 +8,11 @@ use Rattle.m51_asm.specs.declared.values.Located.{Located}
 use Rattle.m51_asm.specs.declared.giving.Giving.{Giving}
 use Rattle.m51_asm.specs.Definitions.{Definition, Label, SegmentOf, EquOf, SetOf, AddressOf, ExternOf, externals_from, defined_by, label_defined, definitions_in, found_in}
 use Rattle.m51_asm.specs.Assignment.{Assignment, here_at, above}
-use Rattle.m51_asm.specs.Fitting.{externals_before}
+use Rattle.m51_asm.specs.Fitting.{externals_in, externals_before}
 use Rattle.m51_asm.specs.Located.{located_value}
-use Rattle.m51_asm.specs.Table.{how_of, brief}
+use Rattle.m51_asm.specs.Table.{Brief, how_of, brief}
 use Rattle.m51_asm.specs.ValuesAbove.{line_value, or_kept}
-use Rattle.m51_asm.specs.GivenValues.{expression_given, given_by, given_or}
+use Rattle.m51_asm.specs.GivenValues.{expression_given, given_by, given_or, HaveNumbers}
 
 module _ (lines : List LineTree) (a : Assignment) (k : ℕ) (g : Giving) (here : located_value g.here ≡ here_at a k) (line : g.line ≡ k)
     (externals : g.externals ≡ externals_before lines k) (name : List ℕ) (kept : Option Located) where
@@ -64,3 +64,26 @@ pub given : (lines : List LineTree) (a : Assignment) (k : ℕ) (g : Giving) → 
     → option_map located_value (given_or g (map brief (definitions_in stmt)) name kept)
     ≡ or_kept lines a k (found_in (definitions_in stmt) name) (option_map located_value kept)
 given lines a k g here line externals name kept stmt h = label_given lines a k g here line externals name kept stmt.label stmt.body h
+
+externals_have : (above number : ℕ) (names : List (List ℕ × Kind)) → above + number + length names ≤ 255
+    → HaveNumbers above (map brief (externals_from number names))
+externals_have above number [] h = tt
+externals_have above number (e ∷ names) h = (omega (arith, h), externals_have above (suc number) names (omega (arith, h)))
+
+body_has : (above : ℕ) (body : BodyTree) → above + externals_in body ≤ 255 → HaveNumbers above (map brief (defined_by body))
+body_has above (Extrn names) h = externals_have above 0 names (omega (arith, h))
+body_has above (Segment other kind reloc overlayable) h = (tt, tt)
+body_has above (Equ other e) h = (tt, tt)
+body_has above (Set other e) h = (tt, tt)
+body_has above (Address other kind e) h = (tt, tt)
+body_has above body h = tt
+
+label_has : (above : ℕ) (label : Option (List ℕ)) (body : BodyTree) → above + externals_in body ≤ 255
+    → HaveNumbers above (map brief (label_defined label ++ defined_by body))
+label_has above None body h = body_has above body h
+label_has above (Some label) body h = (tt, body_has above body h)
+
+-- the externals that a line defines have numbers
+pub have_numbers : (above : ℕ) (stmt : StmtTree) (defined : List Brief) → defined ≡ map brief (definitions_in stmt)
+    → above + externals_in stmt.body ≤ 255 → HaveNumbers above defined
+have_numbers above stmt defined is h = subst (HaveNumbers above) (sym is) (label_has above stmt.label stmt.body h)

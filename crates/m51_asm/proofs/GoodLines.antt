@@ -47,7 +47,7 @@ pub record IsDeclared (name : List ℕ) (k : Kind) (r : Reloc) (overlayable : Bo
   pub reloc_is : r ≢ reloc.Abs
   pub allowed : is_allowed k r overlayable ≡ true
 
--- what a line says has names that are written, and kinds, types and operands that may stand
+-- what a line says has names that are written, and kinds, types and operands that are allowed
 abbrev pub IsGood : BodyTree → Type 0
 IsGood (body.Code mnemonic operands) = has_form mnemonic operands ≡ true
 IsGood (body.Dw items) = Each (IsItem false) items
@@ -150,6 +150,12 @@ good_at [] k all = tt
 good_at (l ∷ ls) zero all = all.0
 good_at (l ∷ ls) (suc k) all = good_at ls k all.1
 
+-- a text in which no line has a fault by the lines above it
+pub record IsFreeText (lines : List LineTree) (a : Assignment) : Type 0 where
+  pub fits : Fits lines a
+  pub good : (k : ℕ) → IsGood (body_at lines k)
+  pub placed : (k : ℕ) → k < length lines → placed_fault lines a k ≡ None
+
 -- a text without faults
 pub record IsClean (lines : List LineTree) (a : Assignment) : Type 0 where
   pub fits : Fits lines a
@@ -182,15 +188,23 @@ none_in fault (l ∷ ls) n (suc j) h below =
 from_zero : (k : ℕ) → k ≡ 0 + k
 from_zero k = omega arith
 
+pub free_text : (lines : List LineTree) (a : Assignment) → IsClean lines a → IsFreeText lines a
+free_text lines a c = record { fits = c.fits; good = c.good; placed = c.placed }
+
+pub free_where : (source : SourceFile) (includes : List SourceFile) (lines : List LineTree) (a : Assignment) → text_of source includes ≡ Lines lines → Fits lines a
+    → AreFree lines a (length lines) → IsFreeText lines a
+free_where source includes lines a read fits placed =
+    let ls : List TextLine = text_lines source includes in
+    let is : statements_of ls ≡ lines = found_are (faults_of includes ls) (statements_of ls) lines read in
+    record { fits = fits; good = λ k. good_at lines k (subst (AllByRecursion GoodTree) is (all_good ls)); placed = placed }
+
 -- the lines of a text, of which none has a fault
 pub clean_where : (source : SourceFile) (includes : List SourceFile) (lines : List LineTree) (a : Assignment) → text_of source includes ≡ Lines lines → Fits lines a
     → AreFree lines a (length lines) → content_faults lines a ≡ [] → IsClean lines a
 clean_where source includes lines a read fits placed content =
-    let ls : List TextLine = text_lines source includes in
-    let is : statements_of ls ≡ lines = found_are (faults_of includes ls) (statements_of ls) lines read in
     record {
       fits = fits;
-      good = λ k. good_at lines k (subst (AllByRecursion GoodTree) is (all_good ls));
+      good = (free_where source includes lines a read fits placed).good;
       placed = placed;
       content = λ k below. ap (content_fault lines a) (from_zero k) ∙ none_in (content_fault lines a) lines 0 k content below;
     }
@@ -200,7 +214,7 @@ clean lines a f =
     clean_where f.source f.includes lines a f.read f.fits
     (λ k below. ap (placed_fault lines a) (from_zero k) ∙ none_placed (placed_fault lines a) lines 0 k f.placed below) f.content
 
--- a line that has no fault by what stands above it
+-- a line that has no fault by the lines above it
 pub record IsFaultFree (lines : List LineTree) (a : Assignment) (k : ℕ) : Type 0 where
   pub once : is_repeated lines k ≡ false
   pub inside : is_past lines a k ≡ false

@@ -24,7 +24,7 @@ definition_in d = d.1
 abbrev pub above_of : List LineTree → ℕ → List ℕ → Option Definition
 above_of lines k name = option_map (λ d. d.1) (definition_of (take k lines) name)
 
--- what a line that repeats no name defines does not clash with what stands above it
+-- what a line that repeats no name defines does not clash with the definitions above it
 pub no_clash_in : (lines : List LineTree) (k : ℕ) (before ds : List Defined) (name : List ℕ) (d : Definition) → repeats_from lines k before ds ≡ false
     → found_in ds name ≡ Some d → clashes (above_of lines k name) d ≡ false
 no_clash_in lines k before [] name d h f = absurd (cc f)

@@ -14,7 +14,7 @@ ids xs = map (λ s. s.id) xs
 abbrev pub Ascend : List Kept → Type 0
 Ascend xs = Pairs (λ s t. s.id < t.id) xs
 
--- a segment stands where its number says
+-- a segment is at the index that its number gives
 pub record StandsAt (xs : List Kept) (s : Kept) : Type 0 where
   pub index : ℕ
   pub place : place_in (ids xs) s.id ≡ Some index

@@ -1,4 +1,4 @@
--- The segments of the module of a text: each is valid, is known by its id, and stands in the order of ids.
+-- The segments of the module of a text: each is valid, is known by its id, and they are in the order of ids.
 use Rattle.std.proofs.Common.{◌≡◌, ◌≢◌, ◌⊎◌, inl, inr, ℕ, zero, suc, ◌+◌, ◌<◌, ◌≤◌, ◌==◌, Bool, true, false, not, ◌&&◌, ◌||◌, cond, List, [], ◌∷◌, ◌++◌, length, refl, sym, ap, subst, ◌∙◌, arith}
 use Rattle.std.proofs.lemmas.Bool.{eqb-true, and_parts}
 use Rattle.m51_cells.specs.declared.kind.Kind.{Kind}
@@ -20,7 +20,7 @@ use Rattle.m51_asm.specs.Fitting.{declared_in}
 use Rattle.m51_asm.specs.PlacedFaults.{end_of}
 use Rattle.m51_asm.specs.ObjectSegments.{Kept, size_of, relocatable, absolute_of, if_filled, begun_by, kept_by, kept_before, kept, declared_or, segment_of}
 use Rattle.m51_asm.proofs.Members.{In, Every, Pairs, in_cons, no_element, every_append, pairs_append}
-use Rattle.m51_asm.proofs.GoodLines.{IsClean, IsDeclared, IsGood}
+use Rattle.m51_asm.proofs.GoodLines.{IsFreeText, IsDeclared, IsGood}
 use Rattle.m51_asm.proofs.KnownSegments.{IsTyped, Absolute, Relocatable, IsKnown, known, two_more}
 use Rattle.m51_asm.proofs.SegmentRoom.{HasRoom, FitsIn, room}
 
@@ -69,7 +69,7 @@ overlays : (k : Kind) (r : Reloc) (overlayable : Bool) → is_allowed k r overla
 overlays k r true h e = (and_parts (allows k r) (may_overlay k r) h).1
 overlays k r false h e = absurd (cc e)
 
-module _ (lines : List LineTree) (a : Assignment) (c : IsClean lines a) where
+module _ (lines : List LineTree) (a : Assignment) (c : IsFreeText lines a) where
   -- an absolute segment that has something
   absolute_kept : (s : TextSegment) (more : ℕ) → segment_of lines a s.id ≡ s → s.kind ≢ kind.Number → s.reloc ≡ reloc.Abs → size_of lines a s.id ≡ suc more → IsKept lines a (absolute_of s (suc more))
   absolute_kept s more same some type is =

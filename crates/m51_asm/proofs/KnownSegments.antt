@@ -17,7 +17,7 @@ use Rattle.m51_asm.specs.Definitions.{Definition, Label, SegmentOf, EquOf, SetOf
 use Rattle.m51_asm.specs.Assignment.{TextSegment, Assignment, absolute, opening, body_at, above, number_of}
 use Rattle.m51_asm.specs.Fitting.{is_absolute_of, last_absolute, declared_in, declared_by, segment_by, segment_behind}
 use Rattle.m51_asm.specs.ObjectSegments.{declared_or, segment_of}
-use Rattle.m51_asm.proofs.GoodLines.{IsClean, IsGood}
+use Rattle.m51_asm.proofs.GoodLines.{IsFreeText, IsGood}
 
 -- what is found is of a test that passes
 pub found_if : (b : Bool) (x y : Definition) (o : Option Definition) → cond b (Some x) o ≡ Some y → (x ≡ y) ⊎ (o ≡ Some y)
@@ -120,7 +120,7 @@ begun lines a k b s is other e id some type =
       type_is = Absolute (ap (λ (x : TextSegment). x.reloc) e ∙ type);
     }
 
-module _ (lines : List LineTree) (a : Assignment) (c : IsClean lines a) where
+module _ (lines : List LineTree) (a : Assignment) (c : IsFreeText lines a) where
   Below : ℕ → Type 0
   Below k = (j : ℕ) → j ≤ k → IsKnown lines a j (a.segment j)
 

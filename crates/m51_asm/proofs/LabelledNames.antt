@@ -1,4 +1,4 @@
--- The form of a JMP or CALL is told by the lines above and by the label of its own line.
+-- The form of a JMP or CALL follows from the lines above and the label of its own line.
 use Rattle.std.proofs.Common.{◌≡◌, ℕ, suc, nat_lt, Bool, true, false, not, ◌&&◌, cond, List, [], take, Option, Some, None, refl, ap, sym, ◌∙◌, option_map, slice_get}
 use Rattle.std.specs.Str.{bytes_eq}
 use Rattle.m51_cells.specs.Kinds.{is_absolute}

@@ -1,4 +1,4 @@
--- An expression has the same value by the numbers of a table in which the segments of its names stand.
+-- An expression has the same value by the numbers of a table that has the segments of its names.
 use Rattle.std.proofs.Common.{◌≡◌, ℕ, suc, ◌-◌, ◌==◌, ◌&&◌, Bool, true, false, cond, List, [], ◌∷◌, ◌++◌, Option, Some, None, Ok, Err, refl, ap, sym, subst, ◌∙◌, arith, option_map, is_some, slice_get, unwrap_or, inl, inr, length, take, ◌≤◌}
 use Rattle.std.proofs.lemmas.List.{take_all}
 use Rattle.std.proofs.lemmas.Bool.{eqb-true, eq-eqb, ne_eqb, and_from, and_parts}
@@ -188,7 +188,7 @@ module _ (names : Meanings) (table : List ℕ) (here_in : AreIn table (base_ids 
         form = λ verb. sym (u.form verb) ∙ form_of_restricted verb (value_of (restricted names table) e) ∙ ap (jump_form_of names verb) same;
       }
 
--- the first 255 of a table that has no more, in which the segments of the place and of the names of an expression stand
+-- the first 255 of a table that has no more, and that has the segments of the place and of the names of an expression
 pub front_enough : (names : Meanings) (table : List ℕ) (e : Tree) → table ≡ base_ids names.here.base ++ ids_in names e → length table ≤ 255
     → IsEnough names (take 255 table) e
 front_enough names table e is short =

@@ -1,4 +1,4 @@
--- What parts of a line come to: where none has a fault, so many fixups are made, and never more than 65,535.
+-- The outcomes of the parts of a line: where none has a fault, the fixups of all are made, never more than 65,535.
 use Rattle.std.proofs.Common.{◌≡◌, ℕ, suc, ◌+◌, ◌<◌, ◌≤◌, nat_lt, Bool, true, false, cond, List, [], ◌∷◌, length, Some, None, refl, sym, ◌∙◌, arith, add-zero}
 use Rattle.std.proofs.lemmas.Bool.{ltb-true}
 use Rattle.m51_expr.specs.Meanings.{Meanings}
@@ -14,7 +14,7 @@ abbrev pub one_fixup : Outcome → ℕ
 one_fixup Fixes = 1
 one_fixup other = 0
 
--- how many fixups parts come to
+-- the number of fixups of parts
 abbrev pub fixes : List Outcome → ℕ
 fixes [] = 0
 fixes (part ∷ parts) = one_fixup part + fixes parts

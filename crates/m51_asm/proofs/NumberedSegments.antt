@@ -1,5 +1,5 @@
 -- The segments of a module and the numbers of ids, line by line.
-use Rattle.std.proofs.Common.{◌≡◌, ℕ, zero, suc, ◌+◌, ◌≤◌, ◌==◌, Bool, true, false, cond, List, [], ◌∷◌, ◌++◌, map, length, length-append, Option, Some, None, option_map, is_some, ◌&&◌, refl, ap, sym, ◌∙◌, arith, eq-eqb, append-nil}
+use Rattle.std.proofs.Common.{◌≡◌, ℕ, zero, suc, ◌+◌, ◌<◌, ◌≤◌, ◌==◌, Bool, true, false, cond, List, [], ◌∷◌, ◌++◌, map, length, length-append, Option, Some, None, option_map, is_some, ◌&&◌, refl, ap, sym, ◌∙◌, arith, eq-eqb, append-nil}
 use Rattle.std.proofs.lemmas.Bool.{eqb-true, eqb-false, ne_eqb}
 use Rattle.std.proofs.lemmas.List.{map-append, length-map}
 use Rattle.m51_module.specs.declared.segment.Segment.{Segment}
@@ -10,6 +10,8 @@ use Rattle.m51_asm.specs.Assignment.{TextSegment, Assignment, opening, body_at}
 use Rattle.m51_asm.specs.Repeats.{or_here}
 use Rattle.m51_asm.proofs.DefinedLines.{or_none}
 use Rattle.m51_asm.specs.ObjectSegments.{Kept, size_of, if_filled, kept_by, kept_before, kept, from_one, place_in, number_in}
+use Rattle.m51_asm.proofs.FewSegments.{kept_most}
+use Rattle.m51_asm.proofs.GoodLines.{IsFreeText}
 use Rattle.m51_asm.specs.Numbering.{number_at, segment_filled, segment_added, as_list, next_number, IsNumberedTo, IsNumbering}
 
 -- a segment of this id, or none
@@ -191,6 +193,21 @@ module _ (lines : List LineTree) (a : Assignment) where
 pub numbered_all : (lines : List LineTree) (a : Assignment) (n : Numbering) → IsNumberedTo lines a (length lines) n.segments n.numbers → IsNumbering lines a n
 unfolding kept
 numbered_all lines a n h = record { segments = h.same; each = h.each }
+
+pub few_first : (before : ℕ) (o : Option Segment) → before ≡ 0 → before + length (as_list o) ≤ 254
+few_first before (Some s) h = omega (arith, h)
+few_first before None h = omega (arith, h)
+
+-- the segments of the first lines are no more than a module may have
+pub few_more : (lines : List LineTree) (a : Assignment) → IsFreeText lines a → (k : ℕ) → k < length lines → (segments : List Segment)
+    (o : Option Segment) (numbers : List ℕ) → IsNumberedTo lines a (suc k) (segments ++ as_list o) numbers
+    → length segments + length (as_list o) ≤ 254
+few_more lines a c k below segments o numbers h =
+    let few = kept_most lines a c (suc k) (omega (arith, below)) in
+    let len = length-append segments (as_list o) in
+    let same = ap length h.same in
+    let whole = length-map (kept_before lines a (suc k)) (λ (s : Kept). s.segment) in
+    omega (arith, few, len, same, whole)
 
 -- the same with equal lists
 pub numbered_as : (lines : List LineTree) (a : Assignment) (k : ℕ) (segments others : List Segment) (numbers more : List ℕ)

@@ -1,4 +1,4 @@
--- Pass 1 line by line: where it stops, and how one line more is passed.
+-- Pass 1 line by line: where it stops, and how one more line is passed.
 use Rattle.std.proofs.Common.{◌≡◌, ℕ, zero, suc, ◌<◌, ◌≤◌, true, false, List, [], ◌∷◌, ◌++◌, length, Option, Some, None, refl, ap, sym, subst, ◌∙◌, slice_get, arith, add-one, below_more, length-append}
 use Rattle.std.proofs.lemmas.Bool.{leb-false, leb-true}
 use Rattle.m51_cells.specs.declared.fault.TheConstants.{DEFINED_TWICE}
@@ -56,7 +56,7 @@ pub no_places : (lines : List LineTree) (a : Assignment) → ArePlaces lines a [
 no_places lines a zero p e = absurd (cc e)
 no_places lines a (suc j) p e = absurd (cc e)
 
--- one line more is passed
+-- one more line is passed
 pub passed_more : (lines : List LineTree) (a : Assignment) (k : ℕ) (places more : List LinePlace) (p : LinePlace) (before end : Placing)
     → IsPassedTo lines a k places before → more ≡ places ++ p ∷ [] → placed_fault lines a k ≡ None → IsAt lines a (suc k) end
     → IsPlaceOf lines a k p → IsPassedTo lines a (suc k) more end

@@ -1,7 +1,9 @@
 -- What is kept grows with a line as the definitions say, and the fault of the line follows from what is counted.
-use Rattle.std.proofs.Common.{◌≡◌, ℕ, suc, ◌+◌, ◌==◌, ◌||◌, nat_lt, Bool, true, false, cond, List, [], ◌∷◌, map, Some, None, refl, ap, sym, ◌∙◌, option_map, slice_get, add-zero}
-use Rattle.std.proofs.lemmas.Bool.{eqb-true}
+use Rattle.std.proofs.Common.{◌≡◌, inl, inr, ℕ, suc, ◌+◌, ◌-◌, ◌^◌, ◌<◌, ◌≤◌, ◌==◌, ◌&&◌, ◌||◌, not, min, nat_lt, Bool, true, false, cond, List, [], ◌∷◌, map, Option, Some, None, refl, ap, sym, subst, ◌∙◌, option_map, slice_get, add-zero, arith}
+use Rattle.std.proofs.lemmas.Bool.{eqb-true, ltb-false, or_parts}
 use Rattle.m51_cells.specs.declared.kind.Kind.{Kind}
+use Rattle.m51_cells.specs.declared.kind.Kind.TheVariants as kind
+use Rattle.m51_cells.specs.Kinds.{is_absolute}
 use Rattle.m51_stmt.specs.Statement.{BodyTree, Segment}
 use Rattle.m51_text.specs.Answer.{LineTree}
 use Rattle.m51_asm.specs.declared.counts.Counts.{Counts}
@@ -9,8 +11,8 @@ use Rattle.m51_asm.specs.declared.giving.Giving.{Giving}
 use Rattle.m51_asm.specs.declared.placing.Placing.{Placing}
 use Rattle.m51_asm.specs.declared.told.Told.{Told}
 use Rattle.m51_asm.specs.Definitions.{definitions_in, found_in, definition_of}
-use Rattle.m51_asm.specs.Assignment.{Assignment, defined_of, body_at, above}
-use Rattle.m51_asm.specs.Fitting.{is_absolute_of, last_absolute, size_at, given_to, filled, bank_before, externals_in, externals_before, Fits}
+use Rattle.m51_asm.specs.Assignment.{TextSegment, Assignment, body_of, defined_of, body_at, above}
+use Rattle.m51_asm.specs.Fitting.{is_absolute_of, last_absolute, size_at, given_to, filled, bank_by, bank_before, externals_in, externals_before, Fits}
 use Rattle.m51_asm.specs.Repeats.{is_repeated}
 use Rattle.m51_asm.specs.PlacedFaults.{end_of, is_past, is_misplaced, is_numbered_by, segments_before, is_too_many, operand_fault, placed_fault}
 use Rattle.m51_asm.specs.Table.{brief}
@@ -18,78 +20,170 @@ use Rattle.m51_asm.specs.ValuesAbove.{value_above, or_kept}
 use Rattle.m51_asm.specs.Located.{located_value}
 use Rattle.m51_asm.specs.Above.{value_in}
 use Rattle.m51_asm.specs.OpenSegments.{text_segment, last_with, last_in}
-use Rattle.m51_asm.specs.Filled.{size_in, Sets}
-use Rattle.m51_asm.specs.GivenValues.{given_or}
-use Rattle.m51_asm.specs.Placing.{IsAt, IsTold, IsCounted, IsGiving, numbers_one, passes, are_too_many, fault_by}
+use Rattle.m51_asm.specs.Filled.{size_in, saturated, Sets}
+use Rattle.m51_asm.specs.GivenValues.{expression_given, given_or}
+use Rattle.m51_asm.specs.Operands.{fault_of, given_in, bank_in}
+use Rattle.m51_asm.specs.Placing.{IsAt, IsTold, IsCounted, numbers_one, passes, are_too_many, fault_by}
 use Rattle.m51_asm.proofs.GrowingValues.{grown}
 use Rattle.m51_asm.proofs.GivenValues.{given}
+use Rattle.m51_asm.proofs.GoodLines.{IsFaultFree}
+use Rattle.m51_asm.proofs.SegmentRoom.{stays}
 
 numbers_same : (lines : List LineTree) (a : Assignment) (k : ℕ) (body : BodyTree)
     → numbers_one (a.segment k) (filled lines a (a.segment k).id k) (size_at lines a k) body ≡ is_numbered_by lines a k body
 numbers_same lines a k (Segment name kind reloc overlayable) = refl
 numbers_same lines a k body = refl
 
+-- a size past 64 bits is over each limit, as the exact one is
+small_sum : (a n most : ℕ) → min (a + min n most) most ≡ min (a + n) most
+small_sum a n most = omega arith
+
+small_zero : (n most : ℕ) → 0 < most → (min n most == 0) ≡ (n == 0)
+small_zero n most h = grind (arith, h)
+
+small_over : (limit n most : ℕ) → limit < most → nat_lt limit (min n most) ≡ nat_lt limit n
+small_over limit n most h = grind (arith, h)
+
+small_end : (limit base n most : ℕ) → limit < most → nat_lt limit (base + min n most) ≡ nat_lt limit (base + n)
+small_end limit base n most h = grind (arith, h)
+
+below_most : (n : ℕ) → n ≤ 65536 → n < 2 ^ 64 - 1
+below_most n h = omega (arith, h)
+
+small_is : (n most : ℕ) → most < 2 ^ 64 - 1 → saturated n ≤ most → saturated n ≡ n
+small_is n most h less = omega (arith, h, less)
+
+given_sum : (b : Bool) (before n : ℕ) → saturated (before + cond b (saturated n) 0) ≡ saturated (before + cond b n 0)
+given_sum true before n = small_sum before n (2 ^ 64 - 1)
+given_sum false before n = refl
+
+end_most : (k : Kind) → end_of k ≤ 65536
+end_most kind.Direct = omega arith
+end_most kind.Bits = omega arith
+end_most kind.Idata = omega arith
+end_most kind.Code = omega arith
+end_most kind.Xdata = omega arith
+end_most kind.Number = omega arith
+
+passes_same : (s : TextSegment) (n : ℕ) → passes s (saturated n) ≡ passes s n
+passes_same s n =
+    let less : end_of s.kind < 2 ^ 64 - 1 = below_most (end_of s.kind) (end_most s.kind) in
+    λ i. small_end (end_of s.kind) s.base n (2 ^ 64 - 1) less i || small_over 65535 n (2 ^ 64 - 1) (omega arith) i
+
+numbers_whole : (s : TextSegment) (before n : ℕ) (body : BodyTree) → numbers_one s before (saturated n) body ≡ numbers_one s before n body
+numbers_whole s before n (Segment name kind reloc overlayable) = refl
+numbers_whole s before n body =
+    ap (λ b. is_absolute s.reloc && (before == 0 && not b)) (small_zero n (2 ^ 64 - 1) (omega arith))
+
+nothing_more : (n : ℕ) (b : Bool) → n + cond b 0 0 ≡ n
+nothing_more n true = add-zero n
+nothing_more n false = add-zero n
+
 -- what is counted
 pub counted : (lines : List LineTree) (a : Assignment) (k : ℕ) (s : Placing) (t : Told) (c : Counts) (body : BodyTree)
     → IsAt lines a k s → IsTold lines a k t → body ≡ body_at lines k
-    → c.own ≡ size_in s.filled s.segment.id + given_to s.segment.id (text_segment s.segment) t.size
-    → c.next ≡ size_in s.filled t.next.id + given_to t.next.id (text_segment s.segment) t.size
+    → c.next ≡ saturated (size_in s.filled t.next.id + given_to t.next.id (text_segment s.segment) t.size)
     → c.segments ≡ s.segments + cond (numbers_one (text_segment s.segment) (size_in s.filled s.segment.id) t.size body) 1 0
-    → c.externals ≡ s.externals + externals_in body
+    → c.externals ≡ saturated (s.externals + externals_in body)
     → IsCounted lines a k c
 unfolding filled segments_before externals_before
-counted lines a k s t c body at told is own next segments externals = record {
-  own =
-      own ∙ ap (λ n. n + given_to s.segment.id (text_segment s.segment) t.size) (at.sizes s.segment.id)
-      ∙ (λ i. filled lines a (at.segment i).id k + given_to (at.segment i).id (at.segment i) (told.size i));
+counted lines a k s t c body at told is next segments externals = record {
   next =
-      next ∙ ap (λ n. n + given_to t.next.id (text_segment s.segment) t.size) (at.sizes t.next.id)
-      ∙ (λ i. filled lines a (told.next i).id k + given_to (told.next i).id (at.segment i) (told.size i));
+      next ∙ ap (λ n. saturated (n + given_to t.next.id (text_segment s.segment) t.size)) (at.sizes t.next.id)
+      ∙ (λ i. saturated (filled lines a (told.next i).id k + given_to (told.next i).id (at.segment i) (told.size i)))
+      ∙ given_sum ((a.segment k).id == (a.segment (suc k)).id) (filled lines a (a.segment (suc k)).id k) (size_at lines a k);
   segments =
       segments
       ∙ ap (λ n. s.segments + cond (numbers_one (text_segment s.segment) n t.size body) 1 0) (at.sizes s.segment.id)
       ∙ (λ i. at.numbered i + cond (numbers_one (at.segment i) (filled lines a (at.segment i).id k) (told.size i) (is i)) 1 0)
-      ∙ ap (λ b. segments_before lines a k + cond b 1 0) (numbers_same lines a k (body_at lines k));
-  externals = externals ∙ (λ i. at.declared i + externals_in (is i));
+      ∙ ap (λ b. segments_before lines a k + cond b 1 0)
+      (numbers_whole (a.segment k) (filled lines a (a.segment k).id k) (size_at lines a k) (body_at lines k) ∙ numbers_same lines a k (body_at lines k));
+  externals = externals ∙ (λ i. saturated (at.declared i + externals_in (is i)));
 }
 
 -- the fault of a line that repeats nothing
 pub fault_told : (lines : List LineTree) (a : Assignment) (k : ℕ) (s : Placing) (t : Told) (c : Counts) (body : BodyTree) → Fits lines a
     → IsAt lines a k s → IsTold lines a k t → IsCounted lines a k c → body ≡ body_at lines k → is_repeated lines k ≡ false
-    → fault_by (passes (text_segment t.next) c.next) (is_misplaced (text_segment s.segment) body) (are_too_many c.segments c.externals) t.operand
+    → fault_by (passes (text_segment t.next) c.next) (is_misplaced (text_segment s.segment) body) (are_too_many c.segments c.externals) (fault_of t.operand)
     ≡ placed_fault lines a k
 unfolding placed_fault
 fault_told lines a k s t c body f at told counts is once =
-    (λ i. fault_by (passes (told.next i) (counts.next i)) (is_misplaced (at.segment i) (is i)) (are_too_many (counts.segments i) (counts.externals i)) (told.operand i))
+    (λ i. fault_by (passes (told.next i) (counts.next i)) (is_misplaced (at.segment i) (is i)) (are_too_many (counts.segments i) (counts.externals i)) (told.operand.fault_is i))
+    ∙ (λ i. fault_by (passes_same (a.segment (suc k)) (filled lines a (a.segment (suc k)).id (suc k)) i) (is_misplaced (a.segment k) (body_at lines k))
+    (nat_lt 254 (segments_before lines a (suc k)) || small_over 255 (externals_before lines (suc k)) (2 ^ 64 - 1) (omega arith) i)
+    (operand_fault lines (above lines a k) k (body_at lines k)))
     ∙ ap (λ p. fault_by (nat_lt (end_of (a.segment (suc k)).kind) p || nat_lt 65535 (filled lines a (a.segment (suc k)).id (suc k)))
     (is_misplaced (a.segment k) (body_at lines k)) (is_too_many lines a k) (operand_fault lines (above lines a k) k (body_at lines k))) (sym (f.places (suc k)))
     ∙ sym (ap (λ b. cond b (Some 13) (fault_by (is_past lines a k) (is_misplaced (a.segment k) (body_at lines k)) (is_too_many lines a k)
     (operand_fault lines (above lines a k) k (body_at lines k)))) once)
 
-module _ (lines : List LineTree) (a : Assignment) (k : ℕ) (line : LineTree) (is : slice_get lines k ≡ Some line)
-    (once : is_repeated lines k ≡ false) (s : Placing) (at : IsAt lines a k s) (t : Told) (told : IsTold lines a k t)
-    (c : Counts) (counts : IsCounted lines a k c) (g : Giving) (bank : ℕ) (gives : IsGiving lines a k line.stmt.body g bank) (n : Placing) where
+-- what is counted down to a line without a fault
+pub record IsSmall (c : Counts) : Type 0 where
+  pub next : c.next ≤ 65535
+  pub segments : c.segments ≤ 255
+  pub externals : c.externals ≤ 255
+
+none_past : (past misplaced many : Bool) (operand : Option ℕ) → fault_by past misplaced many operand ≡ None → (past ≡ false) × (many ≡ false)
+none_past false false false operand h = (refl, refl)
+none_past true misplaced many operand h = absurd (cc h)
+none_past false true many operand h = absurd (cc h)
+none_past false false true operand h = absurd (cc h)
+
+pub small_counts : (s : TextSegment) (c : Counts) (misplaced : Bool) (operand : Option ℕ)
+    → fault_by (passes s c.next) misplaced (are_too_many c.segments c.externals) operand ≡ None → IsSmall c
+small_counts s c misplaced operand h =
+    let p = none_past (passes s c.next) misplaced (are_too_many c.segments c.externals) operand h in
+    let past = or_parts (nat_lt (end_of s.kind) (s.base + c.next)) (nat_lt 65535 c.next) p.0 in
+    let many = or_parts (nat_lt 254 c.segments) (nat_lt 255 c.externals) p.1 in
+    let segments : c.segments ≤ 254 = ltb-false 254 c.segments many.0 in
+    record { next = ltb-false 65535 c.next past.1; segments = omega (arith, segments); externals = ltb-false 255 c.externals many.1 }
+
+-- the externals of a line that are not too many by their count are not too many
+pub small_sum_is : (above here counted : ℕ) → counted ≡ saturated (above + here) → counted ≤ 255 → above + here ≤ 255
+small_sum_is above here counted h less =
+    let e : saturated (above + here) ≤ 255 = omega (arith, h, less) in
+    let same : saturated (above + here) ≡ above + here = small_is (above + here) 255 (omega arith) e in
+    omega (arith, same, e)
+
+-- the bank after a line without a fault
+pub bank_after : (lines : List LineTree) (a : Assignment) (k : ℕ) → IsFaultFree lines a k → (s : Placing) → IsAt lines a k s
+    → (t : Told) → IsTold lines a k t → bank_in s.bank t.operand ≡ bank_before lines a (suc k)
+unfolding bank_before
+bank_after lines a k free s at t told =
+    told.operand.bank_is free.operand s.bank ∙ ap (λ b. bank_by (above lines a k) b (body_at lines k)) at.selected
+
+module _ (lines : List LineTree) (a : Assignment) (f : Fits lines a) (k : ℕ) (line : LineTree) (is : slice_get lines k ≡ Some line)
+    (free : IsFaultFree lines a k) (s : Placing) (at : IsAt lines a k s) (t : Told) (told : IsTold lines a k t)
+    (c : Counts) (counts : IsCounted lines a k c) (small : IsSmall c) (g : Giving) (here : g.here ≡ t.here)
+    (expression : option_map located_value g.expression ≡ given_in t.operand) (number : g.line ≡ k)
+    (externals : g.externals ≡ s.externals) (n : Placing) where
   known_next : ((name : List ℕ) → value_in n.values name ≡ given_or g (map brief (definitions_in line.stmt)) name (value_in s.values name))
       → (name : List ℕ) → option_map located_value (value_in n.values name) ≡ value_above lines a (suc k) name
   known_next h name =
       ap (option_map located_value) (h name)
-      ∙ given lines a k g gives.here gives.line gives.externals name (value_in s.values name) line.stmt gives.expression
+      ∙ given lines a k g (ap located_value here ∙ told.here) number (externals ∙ at.declared) name (value_in s.values name) line.stmt
+      (expression ∙ told.operand.given_is free.operand ∙ ap (λ l. expression_given (above lines a k) (body_of l)) is)
       ∙ ap (or_kept lines a k (found_in (definitions_in line.stmt) name)) (at.known name)
       ∙ ap (λ l. or_kept lines a k (found_in (defined_of l) name) (value_above lines a k name)) (sym is)
-      ∙ sym (grown lines a k name line is once)
+      ∙ sym (grown lines a k name line is free.once)
 
-  size_by_test : (id : ℕ) (b : Bool) → ((a.segment k).id == id) ≡ b
-      → cond b (filled lines a (a.segment k).id (suc k)) (filled lines a id k) ≡ filled lines a id (suc k)
+  -- a line that leaves another segment open gives nothing to its own
+  size_by_test : (id : ℕ) (b : Bool) → ((a.segment (suc k)).id == id) ≡ b
+      → cond b (filled lines a (a.segment (suc k)).id (suc k)) (filled lines a id k) ≡ filled lines a id (suc k)
   unfolding filled
-  size_by_test id true e = ap (λ x. filled lines a x (suc k)) (eqb-true (a.segment k).id id e)
-  size_by_test id false e =
-      sym (ap (λ b. filled lines a id k + cond b (size_at lines a k) 0) e ∙ add-zero (filled lines a id k))
+  size_by_test id true e = ap (λ x. filled lines a x (suc k)) (eqb-true (a.segment (suc k)).id id e)
+  size_by_test id false e = elim (stays lines a f k) [
+    | inl none ↦ sym (ap (λ n. filled lines a id k + cond ((a.segment k).id == id) n 0) none ∙ nothing_more (filled lines a id k) ((a.segment k).id == id))
+    | inr same ↦ sym (ap (λ b. filled lines a id k + cond b (size_at lines a k) 0) (ap (λ (x : TextSegment). x.id == id) (sym same) ∙ e) ∙ add-zero (filled lines a id k))
+  ]
 
-  sizes_next : Sets s.filled n.filled s.segment.id c.own → (id : ℕ) → size_in n.filled id ≡ filled lines a id (suc k)
+  sizes_next : Sets s.filled n.filled t.next.id c.next → (id : ℕ) → size_in n.filled id ≡ filled lines a id (suc k)
   sizes_next h id =
       h id
-      ∙ (λ i. cond ((at.segment i).id == id) (counts.own i) (at.sizes id i))
-      ∙ size_by_test id ((a.segment k).id == id) refl
+      ∙ (λ i. cond ((told.next i).id == id) (counts.next i) (at.sizes id i))
+      ∙ ap (λ x. cond ((a.segment (suc k)).id == id) x (filled lines a id k))
+      (small_is (filled lines a (a.segment (suc k)).id (suc k)) 65535 (omega arith) (subst (λ x. x ≤ 65535) counts.next small.next))
+      ∙ size_by_test id ((a.segment (suc k)).id == id) refl
 
   latest_next : ((kind : Kind) → last_in n.last kind ≡ last_with (text_segment t.next) (last_in s.last) kind)
       → (kind : Kind) → last_in n.last kind ≡ last_absolute a.segment kind (suc k)
@@ -97,17 +191,19 @@ module _ (lines : List LineTree) (a : Assignment) (k : ℕ) (line : LineTree) (i
   latest_next h kind = h kind ∙ (λ i. cond (is_absolute_of kind (told.next i)) (Some (told.next i)) (at.latest kind i))
 
   pub at_next : ((name : List ℕ) → value_in n.values name ≡ given_or g (map brief (definitions_in line.stmt)) name (value_in s.values name))
-      → Sets s.filled n.filled s.segment.id c.own
+      → Sets s.filled n.filled t.next.id c.next
       → ((kind : Kind) → last_in n.last kind ≡ last_with (text_segment t.next) (last_in s.last) kind)
-      → n.segment ≡ t.next → n.bank ≡ bank → n.segments ≡ c.segments → n.externals ≡ c.externals → IsAt lines a (suc k) n
-  at_next values sizes latest segment selected segments externals = record {
+      → n.segment ≡ t.next → n.bank ≡ bank_in s.bank t.operand → n.segments ≡ c.segments → n.externals ≡ c.externals → IsAt lines a (suc k) n
+  at_next values sizes latest segment selected segments declared = record {
     known = known_next values;
     sizes = sizes_next sizes;
     segment = ap text_segment segment ∙ told.next;
     latest = latest_next latest;
-    selected = selected ∙ gives.selected;
+    selected = selected ∙ bank_after lines a k free s at t told;
     numbered = segments ∙ counts.segments;
-    declared = externals ∙ counts.externals;
+    declared =
+        declared ∙ counts.externals
+        ∙ small_is (externals_before lines (suc k)) 255 (omega arith) (subst (λ x. x ≤ 255) counts.externals small.externals);
   }
 
 nothing_above : (lines : List LineTree) (a : Assignment) (name : List ℕ) → value_above lines a 0 name ≡ None

@@ -1,4 +1,4 @@
--- What names stand for at a line, by the values of names that lines above define.
+-- What names mean at a line, by the values of names that lines above define.
 use Rattle.std.proofs.Common.{◌≡◌, ℕ, zero, suc, ◌+◌, ◌<◌, ◌≤◌, nat_lt, Bool, true, false, cond, List, [], ◌∷◌, take, Option, Some, None, refl, ap, sym, ◌∙◌, arith}
 use Rattle.std.proofs.lemmas.Bool.{lt-ltb, le-ltb}
 use Rattle.m51_text.specs.Answer.{LineTree}

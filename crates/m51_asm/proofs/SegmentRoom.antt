@@ -1,4 +1,4 @@
--- Where no line has a fault by what stands above it, no segment goes past the end of its kind.
+-- Where no line has a fault by the lines above it, no segment goes past the end of its kind.
 use Rattle.std.proofs.Common.{◌≡◌, ◌⊎◌, inl, inr, ℕ, zero, suc, ◌+◌, ◌<◌, ◌≤◌, ◌==◌, nat_lt, Bool, true, false, cond, List, length, Option, refl, sym, ap, subst, ◌∙◌, arith, add-zero}
 use Rattle.std.proofs.lemmas.Bool.{ltb-false, eqb-true, or_parts}
 use Rattle.m51_cells.specs.declared.kind.Kind.{Kind}
@@ -11,15 +11,15 @@ use Rattle.m51_asm.specs.Assignment.{TextSegment, Assignment, body_at, above}
 use Rattle.m51_asm.specs.Fitting.{segment_by, segment_behind, size_by, size_at, filled, last_absolute, Fits}
 use Rattle.m51_asm.specs.PlacedFaults.{end_of}
 use Rattle.m51_asm.specs.ObjectSegments.{segment_of}
-use Rattle.m51_asm.proofs.GoodLines.{IsClean, IsFaultFree, free}
+use Rattle.m51_asm.proofs.GoodLines.{IsFreeText, IsFaultFree, free}
 use Rattle.m51_asm.proofs.KnownSegments.{known}
 
--- so much fits in the segment
+-- this size fits in the segment
 pub record HasRoom (s : TextSegment) (size : ℕ) : Type 0 where
   pub end : s.base + size ≤ end_of s.kind
   pub most : size ≤ 65535
 
--- a segment that holds nothing, or in which so much fits
+-- a segment that holds nothing, or in which this size fits
 abbrev pub FitsIn : TextSegment → ℕ → Type 0
 FitsIn s size = (size ≡ 0) ⊎ HasRoom s size
 
@@ -62,7 +62,7 @@ pub filled_first : (lines : List LineTree) (a : Assignment) (id : ℕ) → fille
 unfolding filled
 filled_first lines a id = refl
 
-module _ (lines : List LineTree) (a : Assignment) (c : IsClean lines a) where
+module _ (lines : List LineTree) (a : Assignment) (c : IsFreeText lines a) where
   room_after : (k : ℕ) → k < length lines → HasRoom (a.segment (suc k)) (filled lines a (a.segment (suc k)).id (suc k))
   room_after k below =
       let f : IsFaultFree lines a k = free lines a k (c.placed k below) in

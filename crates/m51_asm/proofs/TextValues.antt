@@ -1,4 +1,4 @@
--- What names stand for at a line, by the values that the whole text gives and by what its SET statements gave.
+-- What names mean at a line, by the values that the whole text gives and by what its SET statements gave.
 use Rattle.std.proofs.Common.{◌≡◌, ℕ, suc, Bool, true, false, cond, List, [], ◌∷◌, ◌++◌, length, Option, Some, None, refl, ap, sym, ◌∙◌, slice_get, option_map, arith}
 use Rattle.std.proofs.lemmas.List.{take_all}
 use Rattle.std.proofs.lemmas.Slice.Eq.{bytes_eq-Decides}

@@ -1,15 +1,16 @@
--- What a line is told by what is kept of the lines above it is what the definitions say of it.
-use Rattle.std.proofs.Common.{◌≡◌, ℕ, suc, ◌%◌, Bool, false, List, Option, Some, None, refl, ap, sym, ◌∙◌, is_some, option_map, slice_get}
+-- What follows for a line from the state after the lines above it is what the definitions say of it.
+use Rattle.std.proofs.Common.{◌≡◌, ℕ, suc, ◌%◌, Bool, false, List, Option, Some, None, refl, ap, sym, subst, ◌∙◌, is_some, option_map, slice_get}
 use Rattle.m51_cells.specs.declared.kind.Base.TheVariants as base
 use Rattle.m51_expr.specs.declared.value.Part.TheVariants.{Whole}
 use Rattle.m51_expr.specs.Meanings.{Meanings}
+use Rattle.m51_stmt.specs.Statement.{BodyTree}
 use Rattle.m51_text.specs.Answer.{LineTree}
 use Rattle.m51_asm.specs.declared.placing.Placing.{Placing}
 use Rattle.m51_asm.specs.declared.segments.OpenSegment.{OpenSegment}
 use Rattle.m51_asm.specs.declared.told.Told.{Told}
 use Rattle.m51_asm.specs.declared.values.Located.{Located}
 use Rattle.m51_asm.specs.Assignment.{Assignment, body_of, body_at, here_at, above}
-use Rattle.m51_asm.specs.Fitting.{last_absolute, declared, size_by, size_at, filled, mod51, form_by, Fits}
+use Rattle.m51_asm.specs.Fitting.{last_absolute, declared, size_by, size_at, filled, bank_by, mod51, form_by, Fits}
 use Rattle.m51_asm.specs.Repeats.{is_repeated}
 use Rattle.m51_asm.specs.PlacedFaults.{operand_fault}
 use Rattle.m51_asm.specs.Table.{Table, first_in}
@@ -18,7 +19,9 @@ use Rattle.m51_asm.specs.Above.{kept_meanings}
 use Rattle.m51_asm.specs.LineFaults.{operand_fault_by}
 use Rattle.m51_asm.specs.OpenSegments.{text_segment, declared_first, last_in, open_behind, named_by}
 use Rattle.m51_asm.specs.LabelledNames.{with_label}
-use Rattle.m51_asm.specs.Filled.{size_in}
+use Rattle.m51_asm.specs.Filled.{size_in, saturated}
+use Rattle.m51_asm.specs.GivenValues.{expression_given}
+use Rattle.m51_asm.specs.Operands.{operand_number, IsOperand}
 use Rattle.m51_asm.specs.Placing.{IsTableOf, IsAt, IsTold, here_of}
 use Rattle.m51_asm.proofs.KeptMeanings.{means}
 use Rattle.m51_asm.proofs.LabelledNames.{form_told}
@@ -37,7 +40,7 @@ module _ (lines : List LineTree) (a : Assignment) (f : Fits lines a) (k : ℕ) (
       ∙ ap (λ x. here_of x (filled lines a x.id k)) at.segment
       ∙ ap (λ p. record { number = p % 65536; class = (a.segment k).kind; base = base.Segment (a.segment k).id; part = Whole }) (sym (f.places k))
 
-  -- what names stand for at a line
+  -- what names mean at a line
   pub names_are : (table : Table) → IsTableOf lines table → (predefines : Bool) → predefines ≡ mod51 lines → (here : Located)
       → located_value here ≡ here_of (text_segment s.segment) (size_in s.filled s.segment.id)
       → kept_meanings lines table s.values k predefines s.bank here ≡ above lines a k
@@ -62,9 +65,13 @@ module _ (lines : List LineTree) (a : Assignment) (f : Fits lines a) (k : ℕ) (
   the_form : t.form ≡ form_by (with_label m line.stmt.label) line.stmt.body → t.form ≡ a.form k
   the_form h = h ∙ ap (λ n. form_by (with_label n line.stmt.label) line.stmt.body) same ∙ form_told lines a f k line is once
 
-  the_size : t.form ≡ a.form k → t.size ≡ size_by m t.form line.stmt.body → t.size ≡ size_at lines a k
+  the_size : t.form ≡ a.form k → t.size ≡ saturated (size_by m t.form line.stmt.body) → t.size ≡ saturated (size_at lines a k)
   unfolding size_at
-  the_size form h = h ∙ (λ i. size_by (same i) (form i) (the_body i))
+  the_size form h = h ∙ (λ i. saturated (size_by (same i) (form i) (the_body i)))
+
+  the_here : located_value t.here ≡ m.here → located_value t.here ≡ here_at a k
+  unfolding above
+  the_here h = h ∙ (λ i. (same i).here)
 
   the_next : text_segment t.next ≡ open_behind k m (last_in s.last) (option_map text_segment named) (text_segment s.segment) line.stmt.body
       → text_segment t.next ≡ a.segment (suc k)
@@ -73,16 +80,28 @@ module _ (lines : List LineTree) (a : Assignment) (f : Fits lines a) (k : ℕ) (
       ∙ ap (λ b. open_behind k (above lines a k) (λ kind. last_absolute a.segment kind k) (named_by (λ name. declared lines name k) b) (a.segment k) b) the_body
       ∙ behind lines a k ∙ sym (f.segments k)
 
-  the_operand : t.operand ≡ operand_fault_by m (is_some named) line.stmt.body → t.operand ≡ operand_fault lines (above lines a k) k (body_at lines k)
-  the_operand h =
-      h ∙ ap (λ b. operand_fault_by m b line.stmt.body) (some_named named)
+  -- the operand of a line that says this, by these meanings
+  abbrev IsIts : Option ℕ → Meanings → BodyTree → Type 0
+  IsIts fault n b = IsOperand fault (operand_number n b) (expression_given n b) (λ bank. bank_by n bank b) t.operand
+
+  the_fault : operand_fault_by m (is_some named) line.stmt.body ≡ operand_fault lines (above lines a k) k (body_at lines k)
+  the_fault =
+      ap (λ b. operand_fault_by m b line.stmt.body) (some_named named)
       ∙ (λ i. operand_fault_by (same i) (is_some (the_named i)) line.stmt.body)
       ∙ operand_told lines (above lines a k) k line.stmt.body
       ∙ ap (operand_fault lines (above lines a k) k) the_body
 
-  pub told_line : t.form ≡ form_by (with_label m line.stmt.label) line.stmt.body → t.size ≡ size_by m t.form line.stmt.body
+  the_operand : IsIts (operand_fault_by m (is_some named) line.stmt.body) m line.stmt.body
+      → IsIts (operand_fault lines (above lines a k) k (body_at lines k)) (above lines a k) (body_at lines k)
+  the_operand h =
+      let fault = operand_fault lines (above lines a k) k (body_at lines k) in
+      subst (IsIts fault (above lines a k)) the_body
+      (subst (λ n. IsIts fault n line.stmt.body) same (subst (λ e. IsIts e m line.stmt.body) the_fault h))
+
+  pub told_line : located_value t.here ≡ m.here → t.form ≡ form_by (with_label m line.stmt.label) line.stmt.body
+      → t.size ≡ saturated (size_by m t.form line.stmt.body)
       → text_segment t.next ≡ open_behind k m (last_in s.last) (option_map text_segment named) (text_segment s.segment) line.stmt.body
-      → t.operand ≡ operand_fault_by m (is_some named) line.stmt.body → IsTold lines a k t
-  told_line form size next operand =
+      → IsIts (operand_fault_by m (is_some named) line.stmt.body) m line.stmt.body → IsTold lines a k t
+  told_line here form size next operand =
       let the : t.form ≡ a.form k = the_form form in
-      record { form = the; size = the_size the size; next = the_next next; operand = the_operand operand }
+      record { here = the_here here; form = the; size = the_size the size; next = the_next next; operand = the_operand operand }

@@ -1,4 +1,4 @@
--- The module that is given for a source is valid, and each of its rows is of a line that is there.
+-- The module that is given for a source is valid, and each of its rows is of a line that exists.
 use Rattle.std.proofs.Common.{◌≡◌, ℕ, suc, ◌≤◌, min, List, [], ◌∷◌, length, Option, Some, None, refl, sym, subst, arith, All}
 use Rattle.std.proofs.lemmas.List.Elements.{All-nil, All-cons, All-head, All-tail}
 use Rattle.m51_module.specs.declared.parts.ModuleParts.{ModuleParts}

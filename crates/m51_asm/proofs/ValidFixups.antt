@@ -14,7 +14,7 @@ use Rattle.m51_asm.specs.Content.{ReferenceAt}
 use Rattle.m51_asm.specs.ContentFaults.{made_before}
 use Rattle.m51_asm.specs.Pieces.{content_at, offset_at, pieces, fixup_of, line_fixups, fixups_from, fixups}
 use Rattle.m51_asm.proofs.Members.{In, Every, Pairs, no_element, in_append, in_map, in_flat, in_first, in_later, pairs_append, pairs_map, pairs_weaker, pairs_flat}
-use Rattle.m51_asm.proofs.GoodLines.{IsClean}
+use Rattle.m51_asm.proofs.GoodLines.{IsClean, free_text}
 use Rattle.m51_asm.proofs.KeptSegments.{AreKept, all_kept}
 use Rattle.m51_asm.proofs.KeptNumbers.{numbers_ascend}
 use Rattle.m51_asm.proofs.ContentFields.{FieldAfter}
@@ -124,7 +124,7 @@ module _ (lines : List LineTree) (a : Assignment) (c : IsClean lines a) where
 
   pub fixups_ordered : Pairs FieldBefore (fixups lines a)
   fixups_ordered =
-      let all : AreKept lines a c (length lines) (kept lines a) = all_kept lines a c in
+      let all : AreKept lines a (free_text lines a c) (length lines) (kept lines a) = all_kept lines a (free_text lines a c) in
       pairs_flat (λ s. fixups_from lines a s 0 lines) FieldBefore (λ s t. number s < number t) (kept lines a) (numbers_ascend (kept lines a) all.order)
       (λ s i. in_order s 0 lines (zero_more (length lines)))
       (λ s t i j less f g in_f in_g.
@@ -200,7 +200,7 @@ module _ (lines : List LineTree) (a : Assignment) (c : IsClean lines a) where
 
   pub few_fixups : length (fixups lines a) ≤ 65535
   few_fixups =
-      let all : AreKept lines a c (length lines) (kept lines a) = all_kept lines a c in
+      let all : AreKept lines a (free_text lines a c) (length lines) (kept lines a) = all_kept lines a (free_text lines a c) in
       let is = total_is 0 lines (kept lines a) in
       let most = total_most 0 lines (kept lines a) all.order (zero_more (length lines)) in
       let made = made_most lines a c (length lines) (omega arith) in

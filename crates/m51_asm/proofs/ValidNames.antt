@@ -17,7 +17,7 @@ use Rattle.m51_asm.specs.ObjectSegments.{Kept, kept, object_segments}
 use Rattle.m51_asm.specs.Parts.{external, externals_by, externals, name_by, name_in}
 use Rattle.m51_asm.proofs.Written.{file_named}
 use Rattle.m51_asm.proofs.Members.{In, Every, Pairs, Comes, in_cons, no_element, in_first, in_later, in_map, in_flat, in_range, pairs_map, pairs_weaker, pairs_flat, pairs_range}
-use Rattle.m51_asm.proofs.GoodLines.{IsClean, IsGood, free}
+use Rattle.m51_asm.proofs.GoodLines.{IsClean, IsGood, free, free_text}
 use Rattle.m51_asm.proofs.KeptSegments.{IsNamed, Nameless, DeclaredAt, AreKept, all_kept}
 use Rattle.m51_asm.proofs.DefinedOnce.{Apart, IsOnce, once}
 
@@ -138,7 +138,7 @@ module _ (lines : List LineTree) (a : Assignment) (c : IsClean lines a) where
   pub segments_differ : Pairs (λ s t. Differ s.name t.name) (object_segments lines a)
   unfolding Every
   segments_differ =
-      let all : AreKept lines a c (length lines) (kept lines a) = all_kept lines a c in
+      let all : AreKept lines a (free_text lines a c) (length lines) (kept lines a) = all_kept lines a (free_text lines a c) in
       pairs_map (λ k. k.segment) (λ s t. Differ s.name t.name) (kept lines a)
       (pairs_weaker (λ s t. s.id < t.id) OtherSegment (kept lines a)
       (λ s t i j less. names_differ s t less (all.low t j) (all.every s i).named (all.every t j).named) all.order)

@@ -18,7 +18,7 @@ use Rattle.m51_asm.specs.Parts.{externals, publics_before, is_selected, version_
 use Rattle.m51_asm.specs.Pieces.{pieces, fixups}
 use Rattle.m51_asm.specs.ValidTexts.{PartsAreValid}
 use Rattle.m51_asm.proofs.Members.{In, Every, Comes, in_cons, no_element, in_map, every_all, pairs_all}
-use Rattle.m51_asm.proofs.GoodLines.{IsClean, clean_where, clean}
+use Rattle.m51_asm.proofs.GoodLines.{IsClean, clean_where, clean, free_text}
 use Rattle.m51_asm.proofs.KeptSegments.{AreKept, all_kept}
 use Rattle.m51_asm.proofs.ValidNames.{file_written, name_is_written, externals_written, externals_differ, segments_differ}
 use Rattle.m51_asm.proofs.ValidPublics.{publics_differ, publics_valid}
@@ -74,7 +74,7 @@ module _ (lines : List LineTree) (a : Assignment) (c : IsClean lines a) where
   segments_valid : Every IsSegmentValid (object_segments lines a)
   unfolding Every
   segments_valid s i =
-      let all : AreKept lines a c (length lines) (kept lines a) = all_kept lines a c in
+      let all : AreKept lines a (free_text lines a c) (length lines) (kept lines a) = all_kept lines a (free_text lines a c) in
       let r : Comes (λ (k : Kept). k.segment) (kept lines a) s = in_map (λ (k : Kept). k.segment) (kept lines a) s i in
       subst IsSegmentValid r.is (all.every r.from r.there).valid
 
@@ -83,7 +83,7 @@ module _ (lines : List LineTree) (a : Assignment) (c : IsClean lines a) where
   marked s i h = version_two (object_segments lines a) s i h
 
   few : length (object_segments lines a) ≤ 254
-  few = let e = length-map (kept lines a) (λ (k : Kept). k.segment) in let most = few_segments lines a c in omega (arith, e, most)
+  few = let e = length-map (kept lines a) (λ (k : Kept). k.segment) in let most = few_segments lines a (free_text lines a c) in omega (arith, e, most)
 
   pub is_valid : (file : List ℕ) → IsValid (parts file lines a)
   unfolding parts
@@ -91,7 +91,7 @@ module _ (lines : List LineTree) (a : Assignment) (c : IsClean lines a) where
     name = name_is_written (module_name file) lines c.good (file_written file);
     version = one_or_two (list_any (λ s. s.argument) (object_segments lines a));
     few_segments = few;
-    few_externals = few_externals lines a c;
+    few_externals = few_externals lines a (free_text lines a c);
     few_fixups = few_fixups lines a c;
     segments = every_all IsSegmentValid (object_segments lines a) segments_valid;
     marks = every_all (λ s. s.argument ≡ true → version_of (object_segments lines a) ≡ 2) (object_segments lines a) marked;

@@ -12,7 +12,7 @@ use Rattle.m51_asm.specs.ObjectSegments.{Kept, kept, object_segments, segment_of
 use Rattle.m51_asm.specs.Pieces.{Run, if_bytes, content_at, offset_at, runs_from, pieces_of_run, segment_pieces, pieces}
 use Rattle.m51_asm.proofs.Members.{In, Every, Pairs, no_element, in_flat, flat_in, pairs_flat, contains_in}
 use Rattle.m51_asm.proofs.CutRuns.{AreRuns, runs_lower, runs_before, IsBefore, run_in, runs_pairs, Holds, held_first, held_later, IsOfRun, piece_of_run, pieces_in_order, runs_in_order, run_is_cut}
-use Rattle.m51_asm.proofs.GoodLines.{IsClean}
+use Rattle.m51_asm.proofs.GoodLines.{IsClean, free_text}
 use Rattle.m51_asm.proofs.KnownSegments.{known}
 use Rattle.m51_asm.proofs.SegmentRoom.{filled_here, filled_more, filled_later}
 use Rattle.m51_asm.proofs.KeptSegments.{AreKept, all_kept}
@@ -81,8 +81,8 @@ module _ (lines : List LineTree) (a : Assignment) (c : IsClean lines a) where
       let len : length (l ∷ ls) ≡ suc (length ls) = refl in
       code_by id k (runs_from lines a id (suc k) ls) ((a.segment k).id == id) refl (omega (arith, e, len)) (λ q j. code_to id (suc k) ls (omega (arith, e, len)) q j) r i
 
-  all : AreKept lines a c (length lines) (kept lines a)
-  all = all_kept lines a c
+  all : AreKept lines a (free_text lines a c) (length lines) (kept lines a)
+  all = all_kept lines a (free_text lines a c)
 
   -- a piece of a segment
   record IsOfSegment (s : Kept) (p : Piece) : Type 0 where
@@ -112,7 +112,7 @@ module _ (lines : List LineTree) (a : Assignment) (c : IsClean lines a) where
         most = o.cut.most;
         segment = s.segment;
         is = ap (numbered (object_segments lines a)) o.cut.segment_is ∙ leads_to (kept lines a) all.order s r.there;
-        code = is_kept.kind_is ∙ ap (λ i. (segment_of lines a i).kind) (sym code.1) ∙ ap (λ (t : TextSegment). t.kind) (known lines a c code.0).same ∙ code.2;
+        code = is_kept.kind_is ∙ ap (λ i. (segment_of lines a i).kind) (sym code.1) ∙ ap (λ (t : TextSegment). t.kind) (known lines a (free_text lines a c) code.0).same ∙ code.2;
         inside = omega (arith, size, end, run_end);
       }
 

@@ -20,7 +20,7 @@ use Rattle.m51_asm.specs.ObjectSegments.{kept, object_segments, segment_of, numb
 use Rattle.m51_asm.specs.PublicNames.{Published, public, from_base, public_in, public_of_value, public_valued, public_by, published, if_public, publics_of}
 use Rattle.m51_asm.specs.Parts.{external, publics_by, publics_before}
 use Rattle.m51_asm.proofs.Members.{In, Every, Pairs, in_cons, no_element, in_first, in_later, in_append, pairs_append}
-use Rattle.m51_asm.proofs.GoodLines.{IsClean, IsGood}
+use Rattle.m51_asm.proofs.GoodLines.{IsClean, IsGood, free_text}
 use Rattle.m51_asm.proofs.KeptSegments.{AreKept, all_kept}
 use Rattle.m51_asm.proofs.KeptNumbers.{IsNumbered, has_number, leads_to}
 use Rattle.m51_asm.proofs.DefinedOnce.{AreOnce, publics_once}
@@ -45,7 +45,7 @@ module _ (lines : List LineTree) (a : Assignment) (c : IsClean lines a) where
       → IsPublicBase (object_segments lines a) v.class (base.Segment (segment_number lines a id))
   unfolding Every
   numbered_base v id ne same =
-      let all : AreKept lines a c (length lines) (kept lines a) = all_kept lines a c in
+      let all : AreKept lines a (free_text lines a c) (length lines) (kept lines a) = all_kept lines a (free_text lines a c) in
       let n : IsNumbered (kept lines a) id = has_number (kept lines a) id ne in
       let is : numbered (object_segments lines a) (segment_number lines a id) ≡ Some n.kept.segment =
       ap (λ i. numbered (object_segments lines a) (number_in (kept lines a) i)) (sym n.id_is) ∙ leads_to (kept lines a) all.order n.kept n.there in

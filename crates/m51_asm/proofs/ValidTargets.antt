@@ -29,7 +29,7 @@ use Rattle.m51_asm.specs.ObjectMeanings.{object_base, object_value, final}
 use Rattle.m51_asm.specs.Parts.{externals}
 use Rattle.m51_asm.specs.Pieces.{pieces, fixups}
 use Rattle.m51_asm.proofs.Members.{Every}
-use Rattle.m51_asm.proofs.GoodLines.{IsClean}
+use Rattle.m51_asm.proofs.GoodLines.{IsClean, free_text}
 use Rattle.m51_asm.proofs.KeptSegments.{AreKept, all_kept}
 use Rattle.m51_asm.proofs.KeptNumbers.{IsNumbered, has_number, leads_to}
 use Rattle.m51_asm.proofs.FewSegments.{externals_count}
@@ -86,7 +86,7 @@ module _ (lines : List LineTree) (a : Assignment) (c : IsClean lines a) where
   abbrev segments : List Segment
   segments = object_segments lines a
 
-  -- a base of an object: the segment is there, or has the number 0
+  -- a base of an object: the segment exists, or has the number 0
   abbrev IsThere : Base → Type 0
   IsThere base.None = Unit {0}
   IsThere (base.Segment n) = (n ≡ 0) ⊎ IsTarget segments (externals lines) (base.Segment n)
@@ -97,7 +97,7 @@ module _ (lines : List LineTree) (a : Assignment) (c : IsClean lines a) where
     | inl e ↦ inl e
     | inr ne ↦
         let n : IsNumbered (kept lines a) id = has_number (kept lines a) id ne in
-        let all : AreKept lines a c (length lines) (kept lines a) = all_kept lines a c in
+        let all : AreKept lines a (free_text lines a c) (length lines) (kept lines a) = all_kept lines a (free_text lines a c) in
         let is : numbered segments (segment_number lines a id) ≡ Some n.kept.segment =
         ap (λ i. numbered segments (number_in (kept lines a) i)) (sym n.id_is) ∙ leads_to (kept lines a) all.order n.kept n.there in
         inr (n.kept.segment, is)

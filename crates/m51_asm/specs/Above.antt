@@ -1,4 +1,4 @@
--- What is kept of the lines above a line, and what names stand for by it.
+-- The state after the lines above a line, and what names mean by it.
 use Rattle.std.specs.Prelude.{◌≡◌, ℕ, Bool, nat_lt, if◌then◌else◌, List, [], ◌∷◌, map, Option, Some, None, option_map}
 use Rattle.std.specs.Global.{Vec}
 use Rattle.std.specs.Str.{bytes_eq}
@@ -50,7 +50,7 @@ abbrev pub value_seen : ℕ → Option Value → Option Value → Option FirstDe
 value_seen k above undefined None = undefined
 value_seen k above undefined (Some first) = if nat_lt first.line k then above else None
 
--- what names and the place of line k stand for, by what is kept of the lines above
+-- what names and the place of line k mean, by the state after the lines above
 abbrev pub kept_meanings : List LineTree → Table → Valuation → ℕ → Bool → ℕ → Located → Meanings
 kept_meanings lines table values k mod51 bank here = record {
   value = λ name.
@@ -70,7 +70,7 @@ pub record IsKeptOf (lines : List LineTree) (a : Assignment) (k : ℕ) (table : 
   pub selected : bank ≡ bank_before lines a k
   pub place : located_value here ≡ here_at a k
 
--- What is kept of the lines above says what names stand for at a line, as the assignment that fits does.
+-- By the state after the lines above a line, names mean what they mean by the assignment that fits.
 abbrev pub KeptMeans : Type 0
 KeptMeans =
     (lines : List LineTree) (a : Assignment) → Fits lines a

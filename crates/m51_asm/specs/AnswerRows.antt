@@ -11,7 +11,7 @@ use Rattle.m51_asm.specs.Pieces.{content_at}
 abbrev pub place_of : Assignment → ℕ → LineTree → Option ℕ
 place_of a k line = place_in line.stmt (a.place k)
 
--- the row of a line that stands at this place and gives this content
+-- the row of a line with this place and this content
 abbrev pub row_of : LineTree → Option ℕ → EmittedContent → Row
 row_of line place c = row_in line.file line.line place c
 

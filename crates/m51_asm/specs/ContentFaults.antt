@@ -14,7 +14,7 @@ abbrev pub line_outcomes_by : List LineTree → Assignment → ℕ → BodyTree 
 line_outcomes_by lines a k (Public names) = map (λ name. public_outcome (published lines a k name)) names
 line_outcomes_by lines a k body = outcomes_by (final lines a k) (a.form k) body
 
--- what the operands, items and public names of line k come to
+-- the outcomes of the operands, items and public names of line k
 unfoldable pub line_outcomes : List LineTree → Assignment → ℕ → List Outcome
 line_outcomes lines a k = line_outcomes_by lines a k (body_at lines k)
 

@@ -1,5 +1,9 @@
 -- How much lines give to segments, as the code keeps it: a number for each id.
-use Rattle.std.specs.Prelude.{◌≡◌, ℕ, ◌==◌, if◌then◌else◌, List, slice_get, unwrap_or}
+use Rattle.std.specs.Prelude.{◌≡◌, ℕ, ◌-◌, ◌^◌, ◌==◌, min, if◌then◌else◌, List, slice_get, unwrap_or}
+
+-- a size as far as 64 bits hold it
+abbrev pub saturated : ℕ → ℕ
+saturated n = min n (2 ^ 64 - 1)
 
 -- what is kept of a segment, 0 where nothing is
 abbrev pub size_in : List ℕ → ℕ → ℕ

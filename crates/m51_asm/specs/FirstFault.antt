@@ -1,4 +1,4 @@
--- What the first fault of a text by what stands above says of its answer.
+-- The answer of a text by its first fault that follows from the lines above.
 use Rattle.std.specs.Prelude.{◌≡◌, ℕ, ◌<◌, List, [], ◌∷◌, length, Some, None, slice_get}
 use Rattle.m51_text.specs.Answer.{LineTree}
 use Rattle.m51_asm.specs.Assignment.{Assignment}
@@ -16,7 +16,7 @@ pub record IsFirstFault (lines : List LineTree) (a : Assignment) (k number : ℕ
   pub found : placed_fault lines a k ≡ Some number
   pub earlier : AreFree lines a k
 
--- A first fault by what stands above is the answer.
+-- The first fault that follows from the lines above is the answer.
 abbrev pub FaultIsAnswer : Type 0
 FaultIsAnswer =
     (file : List ℕ) (lines : List LineTree) (a : Assignment) (k number : ℕ) (line : LineTree)

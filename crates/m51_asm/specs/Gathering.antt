@@ -16,7 +16,7 @@ use Rattle.m51_asm.specs.Pieces.{content_at, offset_at}
 abbrev pub nothing_in : ℕ → Gathered
 nothing_in number = record { segment = number; runs = []; fixups = [] }
 
--- the first so many segments of a module, to which no line has given anything
+-- the first segments of a module, up to this number, to which no line has given anything
 abbrev pub nothing_gathered : ℕ → List Gathered
 nothing_gathered zero = []
 nothing_gathered (suc n) = nothing_gathered n ++ nothing_in (suc n) ∷ []

@@ -1,5 +1,5 @@
 -- The values that a line gives to the names which it defines, as the code takes them in.
-use Rattle.std.specs.Prelude.{ℕ, ◌+◌, if◌then◌else◌, List, [], ◌∷◌, Option, Some, None, option_map}
+use Rattle.std.specs.Prelude.{ℕ, ◌+◌, ◌<◌, if◌then◌else◌, List, [], ◌∷◌, Option, Some, None, option_map}
 use Rattle.std.specs.Str.{bytes_eq}
 use Rattle.m51_cells.specs.declared.kind.Kind.{Kind}
 use Rattle.m51_expr.specs.declared.value.Part.TheVariants.{Whole}
@@ -42,3 +42,13 @@ given_by g how = g.expression
 abbrev pub given_or : Giving → List Brief → List ℕ → Option Located → Option Located
 given_or g [] name kept = kept
 given_or g (d ∷ more) name kept = if bytes_eq name d.0 then given_by g d.1 else given_or g more name kept
+
+-- an external of a line has a number up to 255, by how many are declared above the line
+abbrev pub HasNumber : ℕ → How → Type 0
+HasNumber above (how.External kind number) = above + number < 255
+HasNumber above how = Unit {0}
+
+-- the externals among these definitions have one
+abbrev pub HaveNumbers : ℕ → List Brief → Type 0
+HaveNumbers above [] = Unit {0}
+HaveNumbers above (d ∷ more) = HasNumber above d.1 × HaveNumbers above more

@@ -1,4 +1,4 @@
--- What names stand for with the label of a line: by it the form of the line's own JMP or CALL is told.
+-- What names mean with the label of a line, from which the form of the line's own JMP or CALL follows.
 use Rattle.std.specs.Prelude.{◌≡◌, ℕ, false, if◌then◌else◌, List, Option, Some, None, slice_get}
 use Rattle.std.specs.Str.{bytes_eq}
 use Rattle.m51_expr.specs.declared.value.Value.{Value}
@@ -8,7 +8,7 @@ use Rattle.m51_asm.specs.Assignment.{Assignment, above}
 use Rattle.m51_asm.specs.Fitting.{form_by, Fits}
 use Rattle.m51_asm.specs.Repeats.{is_repeated}
 
--- a name that is the label stands for the place of the line
+-- a name that is the label means the place of the line
 abbrev pub or_label : Meanings → Option (List ℕ) → List ℕ → Option Value
 or_label names None name = names.value name
 or_label names (Some label) name = if bytes_eq name label then Some names.here else names.value name
@@ -22,8 +22,7 @@ with_label names label = record {
   bitaddressable = names.bitaddressable;
 }
 
--- A JMP or CALL of a line that repeats nothing has the form that is told by the lines above and by the line's own
--- label.
+-- The form of a JMP or CALL of a line that repeats nothing follows from the lines above and the line's own label.
 abbrev pub FormIsTold : Type 0
 FormIsTold =
     (lines : List LineTree) (a : Assignment) → Fits lines a → (k : ℕ) (line : LineTree) → slice_get lines k ≡ Some line

@@ -27,6 +27,7 @@ pub mod OpenSegments
 pub mod LabelledNames
 pub mod Filled
 pub mod GivenValues
+pub mod Operands
 pub mod Placing
 pub mod FirstFault
 pub mod ValidTexts

@@ -1,4 +1,4 @@
--- The fault of an operand by what a line is told of the lines above it.
+-- The fault of an operand by the lines above it, as the code finds it.
 use Rattle.std.specs.Prelude.{◌≡◌, List, ℕ, ◌||◌, Bool, if◌then◌else◌, Option, Some, None, is_some}
 use Rattle.m51_cells.specs.declared.fault.TheConstants.{UNKNOWN_NAME, OUT_OF_RANGE}
 use Rattle.m51_cells.specs.declared.kind.Kind.{Kind}
@@ -36,7 +36,7 @@ operand_fault_by names is_segment (Using e) = bank_fault (numbered names e)
 operand_fault_by names is_segment (Rseg name) = segment_fault_by is_segment (is_some (names.value name))
 operand_fault_by names is_segment body = None
 
--- The fault of an operand can be told by whether the name of an RSEG is a segment declared above.
+-- The fault of an operand follows from whether the name of an RSEG is a segment declared above.
 abbrev pub OperandIsTold : Type 0
 OperandIsTold =
     (lines : List LineTree) (names : Meanings) (k : ℕ) (body : BodyTree)

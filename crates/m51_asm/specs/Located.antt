@@ -1,5 +1,5 @@
--- Values over all segments of a text, and how an expression is evaluated over so many: the segments of its own names
--- are numbered only for it, in a table of their ids.
+-- Values over all segments of a text, and how an expression is evaluated over any number of segments: those of its own
+-- names are numbered only for it, in a table of their ids.
 use Rattle.std.specs.Prelude.{◌≡◌, ℕ, ◌-◌, Bool, true, List, [], ◌∷◌, ◌++◌, is_some, length, ◌≤◌, slice_get}
 use Rattle.std.specs.Prelude.{unwrap_or, Option, Some, None, option_map, Result, Ok, Err, if◌then◌else◌}
 use Rattle.m51_cells.specs.declared.kind.Base.{Base}
@@ -18,7 +18,7 @@ use Rattle.m51_asm.specs.declared.values.Located.{Located}
 use Rattle.m51_asm.specs.ObjectSegments.{place_in, local_number}
 use Rattle.m51_asm.specs.ObjectMeanings.{object_value}
 
--- the id stands in the table
+-- the id is in the table
 abbrev pub is_in : List ℕ → ℕ → Bool
 is_in table id = is_some (place_in table id)
 
@@ -50,7 +50,7 @@ abbrev pub if_there : List ℕ → Option Value → Option Value
 if_there table (Some v) = if has_base table v.base then Some v else None
 if_there table None = None
 
--- the names whose segments stand in the table
+-- the names whose segments are in the table
 abbrev pub restricted : Meanings → List ℕ → Meanings
 restricted names table = record {
   value = λ name. if_there table (names.value name);
@@ -76,7 +76,7 @@ abbrev pub global : List ℕ → Valued Value → Valued Value
 global table (Ok v) = Ok (global_value table v)
 global table (Err e) = Err e
 
--- each of these stands in the table
+-- each of these is in the table
 pub record AreIn (table ids : List ℕ) : Type 0 where
   pub each : (id : ℕ) → is_in ids id ≡ true → is_in table id ≡ true
 
@@ -87,7 +87,7 @@ pub record IsEnough (names : Meanings) (table : List ℕ) (e : Tree) : Type 0 wh
       → jump_form_of (local names table) verb (value_of (local names table) e)
       ≡ jump_form_of names verb (value_of names e)
 
--- A table in which the segments of an expression's names and of its statement stand is enough for it.
+-- A table with the segments of an expression's names and of its statement is enough for it.
 abbrev pub TablesAreEnough : Type 0
 TablesAreEnough =
     (names : Meanings) (table : List ℕ) (e : Tree) → AreIn table (base_ids names.here.base)

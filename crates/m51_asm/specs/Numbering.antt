@@ -29,7 +29,7 @@ abbrev pub as_list : Option Segment → List Segment
 as_list None = []
 as_list (Some s) = s ∷ []
 
--- the number of a segment that is added after so many
+-- the number of a segment that is added after this number of segments
 abbrev pub next_number : ℕ → Option Segment → ℕ
 next_number count None = 0
 next_number count (Some s) = suc count

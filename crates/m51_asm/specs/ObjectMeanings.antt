@@ -1,4 +1,4 @@
--- What names and places stand for where content is made: values that count from segments of the module. An absolute
+-- What names and places mean where content is made: values that count from segments of the module. An absolute
 -- segment that the module does not have has the number 0 there.
 use Rattle.std.specs.Prelude.{ℕ, Bool, true, false, List, Option, Some, None, option_map}
 use Rattle.m51_cells.specs.declared.kind.Base.{Base}
@@ -32,7 +32,7 @@ abbrev pub has_bits : Option Segment → Bool
 has_bits (Some s) = is_bitaddressable s.reloc
 has_bits None = false
 
--- what these values and this place stand for over segments of a module
+-- what names of these values and this place mean over segments of a module
 abbrev pub object_meanings : (List ℕ → Option Value) → Value → (ℕ → ℕ) → List Segment → Meanings
 object_meanings values here number segments = record {
   value = λ name. option_map (object_value number) (values name);
@@ -41,6 +41,6 @@ object_meanings values here number segments = record {
   bitaddressable = λ n. has_bits (numbered segments n);
 }
 
--- what the names of the text and the place of line k stand for over the segments of the module
+-- what the names of the text and the place of line k mean over the segments of the module
 unfoldable pub final : List LineTree → Assignment → ℕ → Meanings
 final lines a k = object_meanings (a.value k) (here_at a k) (segment_number lines a) (object_segments lines a)

@@ -1,4 +1,4 @@
--- What names and the place of a line stand for over the segments of the module, by what is kept for pass 2.
+-- What names and the place of a line mean over the segments of the module, by the state for pass 2.
 use Rattle.std.specs.Prelude.{◌≡◌, ℕ, List, Option, map}
 use Rattle.m51_expr.specs.declared.value.Value.{Value}
 use Rattle.m51_expr.specs.Meanings.{Meanings}
@@ -19,14 +19,14 @@ use Rattle.m51_asm.specs.Numbering.{number_at, IsNumbering}
 abbrev pub kept_value : ValuesAt → List ℕ → Option Value
 kept_value v name = value_at v.names.now v.kept.now v.set.now v.mod51 v.bank name
 
--- what names and a place stand for
+-- what names and a place mean
 abbrev pub object_names : ObjectNames → Meanings
 object_names n =
     object_meanings (kept_value n.values) (located_value n.place) (number_at n.numbering.now.numbers)
     n.numbering.now.segments
 
 -- What is kept of a text is what it gives under an assignment that fits it: its names, whether those of the 8052 are
--- predefined, where the lines stand and what all of them give, and the numbers of segments.
+-- predefined, the places of the lines and what all of them give, and the numbers of segments.
 pub record IsReady (lines : List LineTree) (a : Assignment) (t : PlacedText) : Type 0 where
   pub read : map line_tree t.text.lines.now ≡ lines
   pub fits : Fits lines a

@@ -64,7 +64,7 @@ OpenIsBehind =
     (named_by (λ name. declared lines name k) (body_at lines k)) (a.segment k) (body_at lines k)
     ≡ segment_behind lines a k
 
--- Whether a name is a declared segment can be told by its first definition.
+-- Whether a name is a declared segment follows from its first definition.
 abbrev pub DeclaredIsTold : Type 0
 DeclaredIsTold =
     (lines : List LineTree) (name : List ℕ) (k : ℕ)

@@ -1,4 +1,4 @@
--- What pass 1 tells of a text, by the assignment that fits it.
+-- The result of pass 1 over a text, by the assignment that fits it.
 use Rattle.std.specs.Prelude.{◌≡◌, ℕ, Bool, false, nat_le, List, length, slice_get, Option, Some, None}
 use Rattle.m51_text.specs.Answer.{LineTree}
 use Rattle.m51_asm.specs.declared.passing.Passed.{Passed}
@@ -30,7 +30,7 @@ pub record IsPassedTo (lines : List LineTree) (a : Assignment) (k : ℕ) (places
 abbrev pub IsPlaced : List LineTree → Assignment → List LinePlace → Placing → Type 0
 IsPlaced lines a places end = IsPassedTo lines a (length lines) places end
 
--- the first fault is told; or no line has one, and all are placed
+-- it is the first fault; or no line has one, and all are placed
 abbrev pub IsPassed : List LineTree → Assignment → Passed → Type 0
 IsPassed lines a (passed.Fault k number) = IsFirstFault lines a k number
 IsPassed lines a (passed.Stands places end) = IsPlaced lines a places end

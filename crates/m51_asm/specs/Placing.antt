@@ -1,5 +1,5 @@
--- What is kept of the lines above a line, and what is told of the line by it. The facts are those of the loop over the
--- lines of a text, by the assignment that fits it.
+-- The state after the lines above a line, and what follows for the line from it. The facts are those of the loop over
+-- the lines of a text, by the assignment that fits it.
 use Rattle.std.specs.Prelude.{◌≡◌, ℕ, suc, ◌+◌, ◌%◌, ◌==◌, ◌&&◌, ◌||◌, not, Bool, true, nat_lt, if◌then◌else◌, List}
 use Rattle.std.specs.Prelude.{Option}
 use Rattle.std.specs.Prelude.{Some, None, option_map}
@@ -14,22 +14,22 @@ use Rattle.m51_stmt.specs.Statement.{BodyTree, Segment}
 use Rattle.m51_text.specs.Answer.{LineTree}
 use Rattle.m51_asm.specs.declared.placing.Placing.{Placing}
 use Rattle.m51_asm.specs.declared.counts.Counts.{Counts}
-use Rattle.m51_asm.specs.declared.giving.Giving.{Giving}
 use Rattle.m51_asm.specs.declared.stepping.LinePlace.{LinePlace}
 use Rattle.m51_asm.specs.declared.stepping.LineOutcome.{LineOutcome}
 use Rattle.m51_asm.specs.declared.stepping.LineOutcome.TheVariants as outcome
 use Rattle.m51_asm.specs.declared.told.Told.{Told}
 use Rattle.m51_asm.specs.Definitions.{definition_of}
 use Rattle.m51_asm.specs.Assignment.{TextSegment, Assignment, body_at, here_at, above}
-use Rattle.m51_asm.specs.Fitting.{last_absolute, size_at, filled, bank_before, externals_before}
+use Rattle.m51_asm.specs.Fitting.{last_absolute, size_at, filled, bank_by, bank_before, externals_before}
 use Rattle.m51_asm.specs.PlacedFaults.{end_of, segments_before, operand_fault, placed_fault}
 use Rattle.m51_asm.specs.Table.{Table, first_in, first_of}
 use Rattle.m51_asm.specs.ValuesAbove.{value_above}
 use Rattle.m51_asm.specs.Located.{located_value}
 use Rattle.m51_asm.specs.Above.{value_in}
 use Rattle.m51_asm.specs.OpenSegments.{text_segment, last_in}
-use Rattle.m51_asm.specs.Filled.{size_in}
+use Rattle.m51_asm.specs.Filled.{size_in, saturated}
 use Rattle.m51_asm.specs.GivenValues.{expression_given}
+use Rattle.m51_asm.specs.Operands.{operand_number, IsOperand}
 
 -- the table has the first definitions of the text
 abbrev pub IsTableOf : List LineTree → Table → Type 0
@@ -45,7 +45,7 @@ pub record IsAt (lines : List LineTree) (a : Assignment) (k : ℕ) (s : Placing)
   pub numbered : s.segments ≡ segments_before lines a k
   pub declared : s.externals ≡ externals_before lines k
 
--- the place of a statement, as a value, where so much is given to its segment before
+-- the place of a statement, as a value, from the size of its segment before it
 abbrev pub here_of : TextSegment → ℕ → Value
 here_of s before = record {
   number = (s.base + before) % 65536;
@@ -54,31 +54,32 @@ here_of s before = record {
   part = Whole;
 }
 
--- what is told of line k is its form, its size, the segment that it leaves open, and the fault of its operand
+-- these are the place, the form and the size of line k, the segment that it leaves open, and its operand
 pub record IsTold (lines : List LineTree) (a : Assignment) (k : ℕ) (t : Told) : Type 0 where
+  pub here : located_value t.here ≡ here_at a k
   pub form : t.form ≡ a.form k
-  pub size : t.size ≡ size_at lines a k
+  pub size : t.size ≡ saturated (size_at lines a k)
   pub next : text_segment t.next ≡ a.segment (suc k)
-  pub operand : t.operand ≡ operand_fault lines (above lines a k) k (body_at lines k)
+  pub operand : IsOperand (operand_fault lines (above lines a k) k (body_at lines k))
+      (operand_number (above lines a k) (body_at lines k)) (expression_given (above lines a k) (body_at lines k))
+      (λ bank. bank_by (above lines a k) bank (body_at lines k)) t.operand
 
 -- the line numbers a segment: it declares one, or gives one that is absolute its first byte or bit
 abbrev pub numbers_one : TextSegment → ℕ → ℕ → BodyTree → Bool
 numbers_one s before size (Segment name kind reloc overlayable) = true
 numbers_one s before size body = is_absolute s.reloc && (before == 0 && not (size == 0))
 
--- what is counted down to line k: the sizes of its segment and of the one that it leaves open, segments with a number,
--- and externals
+-- what is counted down to line k: the size of the segment that it leaves open, segments with a number, and externals
 pub record IsCounted (lines : List LineTree) (a : Assignment) (k : ℕ) (c : Counts) : Type 0 where
-  pub own : c.own ≡ filled lines a (a.segment k).id (suc k)
-  pub next : c.next ≡ filled lines a (a.segment (suc k)).id (suc k)
+  pub next : c.next ≡ saturated (filled lines a (a.segment (suc k)).id (suc k))
   pub segments : c.segments ≡ segments_before lines a (suc k)
-  pub externals : c.externals ≡ externals_before lines (suc k)
+  pub externals : c.externals ≡ saturated (externals_before lines (suc k))
 
--- so much in a segment is past the end of its kind, or too much
+-- a segment of this size passes the end of its kind or 65,535 bytes
 abbrev pub passes : TextSegment → ℕ → Bool
 passes s size = nat_lt (end_of s.kind) (s.base + size) || nat_lt 65535 size
 
--- so many segments or externals are too many
+-- these are too many segments or externals
 abbrev pub are_too_many : ℕ → ℕ → Bool
 are_too_many segments externals = nat_lt MOST_MODULE_SEGMENTS segments || nat_lt MOST_EXTERNALS externals
 
@@ -91,17 +92,8 @@ fault_by past misplaced many operand =
     else if many then Some TOO_MANY
     else operand
 
--- what the values of line k follow from, and the bank after it
-pub record IsGiving (lines : List LineTree) (a : Assignment) (k : ℕ) (body : BodyTree) (g : Giving) (after : ℕ)
-    : Type 0 where
-  pub here : located_value g.here ≡ here_at a k
-  pub expression : option_map located_value g.expression ≡ expression_given (above lines a k) body
-  pub line : g.line ≡ k
-  pub externals : g.externals ≡ externals_before lines k
-  pub selected : after ≡ bank_before lines a (suc k)
-
--- where line k stands: its segment, the one that it leaves open, how much is given to its own before, its form, the
--- banks before and after it, and the value of its expression where that defines a name
+-- the place of line k: its segment, the one that it leaves open, the size of its own before it, its form, the banks
+-- before and after it, and the value of its expression where that defines a name
 pub record IsPlaceOf (lines : List LineTree) (a : Assignment) (k : ℕ) (p : LinePlace) : Type 0 where
   pub segment : text_segment p.segment ≡ a.segment k
   pub next : text_segment p.next ≡ a.segment (suc k)
@@ -111,7 +103,7 @@ pub record IsPlaceOf (lines : List LineTree) (a : Assignment) (k : ℕ) (p : Lin
   pub selected : p.selected ≡ bank_before lines a (suc k)
   pub given : option_map located_value p.given ≡ expression_given (above lines a k) (body_at lines k)
 
--- what a line comes to: its fault; or none, its place, and what is kept down to it
+-- the outcome of a line: its fault; or none, the state after it, and its place
 abbrev pub IsLineOutcome : List LineTree → Assignment → ℕ → LineOutcome → Type 0
 IsLineOutcome lines a k (outcome.Fault number) = placed_fault lines a k ≡ Some number
 IsLineOutcome lines a k (outcome.Stands placing place) =

@@ -13,7 +13,7 @@ use Rattle.m51_asm.specs.ContentFaults.{content_faults}
 use Rattle.m51_asm.specs.Answer.{first_fault, Gives, IsAnswer}
 use Rattle.m51_asm.specs.Parts.{parts}
 
--- The lines are those of a text, the assignment fits them, and no line has a fault by what stands above it or in its
+-- The lines are those of a text, the assignment fits them, and no line has a fault, by the lines above it or in its
 -- content.
 pub record IsFaultless (lines : List LineTree) (a : Assignment) : Type 0 where
   pub source : SourceFile

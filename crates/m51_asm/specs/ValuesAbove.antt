@@ -27,7 +27,7 @@ abbrev pub or_kept : List LineTree → Assignment → ℕ → Option Definition 
 or_kept lines a k (Some definition) kept = line_value lines a k definition
 or_kept lines a k None kept = kept
 
--- Behind a line that repeats nothing a name has the value that the line gives it, or else the one that it had.
+-- After a line that repeats nothing a name has the value that the line gives it, or else the one that it had.
 abbrev pub ValuesGrow : Type 0
 ValuesGrow =
     (lines : List LineTree) (a : Assignment) (k : ℕ) (line : LineTree) (name : List ℕ)
@@ -41,8 +41,7 @@ abbrev pub seen_value : ℕ → Option Value → Option Value → Option (ℕ ×
 seen_value k above undefined None = undefined
 seen_value k above undefined (Some d) = if nat_lt d.0 k then above else None
 
--- The values of names defined above, and those of names that the text does not define, are what names stand for at a
--- line.
+-- The values of names defined above, and those of names that the text does not define, are what names mean at a line.
 abbrev pub ValuesAreSeen : Type 0
 ValuesAreSeen =
     (lines : List LineTree) (a : Assignment) → Fits lines a → (k : ℕ) (name : List ℕ)

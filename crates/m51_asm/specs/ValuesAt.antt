@@ -1,4 +1,4 @@
--- What the names of a text stand for at a line, as pass 2 keeps it: what the text gives to all names but those of SET,
+-- What the names of a text mean at a line, as pass 2 keeps it: what the text gives to all names but those of SET,
 -- and what the SET statements above the line gave.
 use Rattle.std.specs.Prelude.{◌≡◌, ℕ, Bool, false, if◌then◌else◌, List, length, Option, Some, None, option_map}
 use Rattle.std.specs.Str.{bytes_eq}

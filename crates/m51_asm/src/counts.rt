@@ -1,42 +1,30 @@
 //! What is counted down to a line, and the fault that follows from it.
-ghost use Rattle.std.specs.Prelude.{◌≡◌, ◌+◌, ◌&&◌, ◌||◌, not, ◌==◌, nat_lt, if◌then◌else◌, IfOk};
+ghost use Rattle.std.specs.Prelude.{◌≡◌, ◌+◌, ◌&&◌, ◌||◌, not, ◌==◌, nat_lt, if◌then◌else◌};
 ghost use Rattle.m51_cells.specs.Kinds.{is_absolute};
 ghost use Rattle.m51_stmt.specs.Statement.{body_tree};
 ghost use Rattle.m51_asm.specs.Fitting.{given_to, externals_in};
 ghost use Rattle.m51_asm.specs.PlacedFaults.{end_of, is_misplaced};
 ghost use Rattle.m51_asm.specs.OpenSegments.{text_segment};
-ghost use Rattle.m51_asm.specs.Filled.{size_in};
+ghost use Rattle.m51_asm.specs.Filled.{size_in, saturated};
 ghost use Rattle.m51_asm.specs.Placing.{numbers_one, passes, are_too_many, fault_by};
 
 use crate::filled::Filled;
 use crate::segments::OpenSegment;
 use m51_cells::{
-    BAD_FORM, Kind, MOST_EXTERNALS, MOST_MODULE_SEGMENTS, NoMemory, PAST_THE_END, TOO_MANY,
-    is_absolute, same_kind,
+    BAD_FORM, Kind, MOST_EXTERNALS, MOST_MODULE_SEGMENTS, PAST_THE_END, TOO_MANY, is_absolute,
+    same_kind,
 };
 use m51_stmt::Body;
 
 /// What is counted down to a line.
 #[derive(Clone, Copy)]
 pub(crate) struct Counts {
-    /// How much lines give to its segment, with it.
-    pub(crate) own: u64,
-    /// How much they give to the segment that it leaves open.
+    /// The size of the segment that it leaves open.
     pub(crate) next: u64,
     /// How many segments have a number.
     pub(crate) segments: u64,
     /// How many externals are declared.
     pub(crate) externals: u64,
-}
-
-/// A sum; one past 64 bits, which no text has, is answered like out of memory.
-pub(crate) fn sum(a: u64, b: u64) -> Result<u64, NoMemory>
-    ensures { IfOk result (λ sum. sum ≡ a + b) }
-{
-    match a.checked_add(b) {
-        Some(sum) => Ok(sum),
-        None => Err(NoMemory),
-    }
 }
 
 // What a line of a segment gives to a segment.
@@ -46,22 +34,15 @@ fn given_to(id: usize, segment: OpenSegment, size: u64) -> u64
     if segment.id == id { size } else { 0 }
 }
 
-// How much lines give to a segment, with one more.
-fn size_after(filled: &Filled, id: usize, segment: OpenSegment, size: u64) -> Result<u64, NoMemory>
-    ensures { IfOk result (λ sum. sum ≡ size_in filled.now id + given_to id (text_segment segment) size) }
-{
-    sum(filled.of(id), given_to(id, segment, size))
-}
-
 // Whether a segment gets its first byte or bit.
-fn begins(segment: OpenSegment, before: u64, size: u64) -> bool
+fn begins(segment: OpenSegment, before: u16, size: u64) -> bool
     ensures { result ≡ (is_absolute segment.reloc && ((before == 0) && not (size == 0))) }
 {
     is_absolute(segment.reloc) && (before == 0 && !(size == 0))
 }
 
 // Whether a line numbers a segment.
-fn numbers_one(segment: OpenSegment, before: u64, size: u64, body: &Body) -> bool
+fn numbers_one(segment: OpenSegment, before: u16, size: u64, body: &Body) -> bool
     ensures { result ≡ numbers_one (text_segment segment) before size (body_tree body.now) }
 {
     match body {
@@ -70,7 +51,7 @@ fn numbers_one(segment: OpenSegment, before: u64, size: u64, body: &Body) -> boo
     }
 }
 
-fn one_if(test: bool) -> u64
+fn one_if(test: bool) -> u8
     ensures { result ≡ (if test then 1 else 0) }
 {
     if test { 1 } else { 0 }
@@ -86,34 +67,30 @@ fn externals_in(body: &Body) -> u64
     }
 }
 
-/// What is counted down to a line of this size, where so many segments and externals are counted above it.
+/// The counts after a line of this size, from the counts of segments and externals above it. A sum past 64 bits, which
+/// is a fault in any case, counts as the greatest number of 64 bits.
 pub(crate) fn count(
     filled: &Filled,
-    segments: u64,
-    externals: u64,
+    segments: u8,
+    externals: u8,
     segment: OpenSegment,
     next: OpenSegment,
     size: u64,
     body: &Body,
-) -> Result<Counts, NoMemory>
-    ensures own { IfOk result (λ c. c.own
-        ≡ size_in filled.now segment.id + given_to segment.id (text_segment segment) size) }
-    ensures next { IfOk result (λ c. c.next
-        ≡ size_in filled.now next.id + given_to next.id (text_segment segment) size) }
-    ensures segments { IfOk result (λ c. c.segments ≡ segments
+) -> Counts
+    ensures next { result.next
+        ≡ saturated (size_in filled.now next.id + given_to next.id (text_segment segment) size) }
+    ensures segments { result.segments ≡ segments
         + (if numbers_one (text_segment segment) (size_in filled.now segment.id) size (body_tree body.now)
-        then 1 else 0)) }
-    ensures externals { IfOk result (λ c. c.externals ≡ externals + externals_in (body_tree body.now)) }
+        then 1 else 0) }
+    ensures externals { result.externals ≡ saturated (externals + externals_in (body_tree body.now)) }
 {
-    let own = size_after(filled, segment.id, segment, size)?;
-    let after = size_after(filled, next.id, segment, size)?;
     let one = one_if(numbers_one(segment, filled.of(segment.id), size, body));
-    Ok(Counts {
-        own,
-        next: after,
-        segments: sum(segments, one)?,
-        externals: sum(externals, externals_in(body))?,
-    })
+    Counts {
+        next: u64::from(filled.of(next.id)).saturating_add(given_to(next.id, segment, size)),
+        segments: u64::from(segments) + u64::from(one),
+        externals: u64::from(externals).saturating_add(externals_in(body)),
+    }
 }
 
 // How far the places of a kind go.
@@ -127,7 +104,7 @@ fn end_of(kind: Kind) -> u128
     }
 }
 
-/// Whether so much in a segment is past the end of its kind, or too much.
+/// Whether a segment of this size passes the end of its memory or 65,535 bytes.
 pub(crate) fn passes(segment: OpenSegment, size: u64) -> bool
     ensures { result ≡ passes (text_segment segment) size }
 {
@@ -147,7 +124,7 @@ pub(crate) fn is_misplaced(segment: OpenSegment, body: &Body) -> bool
     }
 }
 
-/// Whether so many segments or externals are too many.
+/// Whether these are too many segments or externals.
 pub(crate) fn are_too_many(segments: u64, externals: u64) -> bool
     ensures { result ≡ are_too_many segments externals }
 {

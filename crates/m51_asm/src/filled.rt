@@ -9,7 +9,7 @@ use std::marker::Model;
 /// For each segment, by its id, how many bytes lines give to it, in BIT bits. Contracts see it as a list.
 #[derive(Drop)]
 pub(crate) struct Filled {
-    sizes: Vec<u64>,
+    sizes: Vec<u16>,
 }
 
 impl Model for Filled {
@@ -21,7 +21,7 @@ impl Model for Filled {
 }
 
 // Makes room for an id.
-fn reach(sizes: &mut Vec<u64>, id: usize) -> Result<(), NoMemory>
+fn reach(sizes: &mut Vec<u16>, id: usize) -> Result<(), NoMemory>
     ensures same { OnOk result (SameSizes sizes.old.items sizes.new.items) }
     ensures room { OnOk result (id < length sizes.new.items) }
 {
@@ -32,7 +32,7 @@ fn reach(sizes: &mut Vec<u64>, id: usize) -> Result<(), NoMemory>
 }
 
 // Stores the size of an id.
-fn store(sizes: &mut Vec<u64>, id: usize, size: u64)
+fn store(sizes: &mut Vec<u16>, id: usize, size: u16)
     requires { id < length sizes.old.items }
     ensures { sizes.new.items ≡ slice_set sizes.old.items id size }
 {
@@ -50,7 +50,7 @@ impl Filled {
     }
 
     /// How much is given to a segment.
-    pub(crate) fn of(&self, id: usize) -> u64
+    pub(crate) fn of(&self, id: usize) -> u16
         ensures { result ≡ size_in self.now id }
     {
         match self.sizes.get(id) {
@@ -59,8 +59,8 @@ impl Filled {
         }
     }
 
-    /// Says how much is given to a segment now. The only error is out of memory.
-    pub(crate) fn set(&mut self, id: usize, size: u64) -> Result<(), NoMemory>
+    /// Sets the size of a segment. The only error is out of memory.
+    pub(crate) fn set(&mut self, id: usize, size: u16) -> Result<(), NoMemory>
         ensures { OnOk result (Sets self.old self.new id size) }
     {
         reach(&mut self.sizes, id)?;

@@ -15,7 +15,7 @@ use m51_emit::{EmittedContent, ModuleContent, SegmentContent, gather};
 use m51_module::Segment;
 use std::alloc::Global;
 
-// So many segments, before the first line.
+// This number of segments, before the first line.
 fn nothing_gathered(alloc: Global, count: usize) -> Result<Vec<SegmentContent>, NoMemory>
     requires { count ≤ 254 }
     ensures { IfOk result (λ all. all.items ≡ nothing_gathered count) }
@@ -27,8 +27,8 @@ fn nothing_gathered(alloc: Global, count: usize) -> Result<Vec<SegmentContent>, 
     Ok(all)
 }
 
-// What is gathered with the content of a line more, which its segment has at this place. The number of the segment is 0
-// where the module does not have it.
+// Adds the content of one more line, which its segment has at this offset. The number of the segment is 0 where the
+// module does not have it.
 fn add_line(
     alloc: Global,
     gathered: &mut Vec<SegmentContent>,

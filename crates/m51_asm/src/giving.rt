@@ -1,43 +1,26 @@
 //! The values that a line gives to the names which it defines.
-ghost use Rattle.std.specs.Prelude.{◌≡◌, ◌+◌, ◌<◌, ◌≤◌, ℕ, List, option_map, IfOk, OnOk};
-ghost use Rattle.m51_stmt.specs.Statement.{body_tree};
+ghost use Rattle.std.specs.Prelude.{◌≡◌, ◌+◌, ◌<◌, ℕ, List, OnOk};
 ghost use Rattle.m51_asm.specs.Above.{value_in};
-ghost use Rattle.m51_asm.specs.GivenValues.{expression_given, segment_given, external_given, given_by, given_or};
-ghost use Rattle.m51_asm.specs.Located.{located_value};
+ghost use Rattle.m51_asm.specs.GivenValues.{segment_given, external_given, given_by, given_or, HasNumber, HaveNumbers};
 
 use crate::definitions::How;
-use crate::line_values::{address_value, expression_value};
 use crate::valuation::Values;
-use crate::values::{Located, Origin, Places};
+use crate::values::{Located, Origin};
 use m51_cells::{Kind, Name, NoMemory};
 use m51_expr::Part;
-use m51_stmt::Body;
 use std::alloc::Global;
 
-/// From what a line gives values: its place, the value of its expression, its number in the text, and how many
-/// externals are declared above.
+/// What the values of a line's names are computed from.
 #[derive(Clone, Copy)]
 pub(crate) struct Giving {
+    /// The place of the line.
     pub(crate) here: Located,
+    /// The value of its expression.
     pub(crate) expression: Option<Located>,
+    /// Its number in the text.
     pub(crate) line: usize,
-    pub(crate) externals: u64,
-}
-
-/// The value of the expression of a definition or an address statement, if it has one. The only error is out of memory.
-pub(crate) fn expression_given<P: Places>(
-    alloc: Global,
-    names: &P,
-    body: &Body,
-) -> Result<Option<Located>, NoMemory>
-    ensures { IfOk result (λ value. option_map located_value value
-        ≡ expression_given (P.meanings names.now) (body_tree body.now)) }
-{
-    match body {
-        Body::Equ(_, e) | Body::Set(_, e) => expression_value(alloc, names, e),
-        Body::Address(_, kind, e) => address_value(alloc, names, *kind, e),
-        _ => Ok(None),
-    }
+    /// How many externals are declared above it.
+    pub(crate) externals: u8,
 }
 
 // A segment that a line declares.
@@ -53,48 +36,34 @@ fn segment_given(kind: Kind, line: usize) -> Located
     }
 }
 
-// An external of this number, counted from 1. A number over 255, which E19 excludes, is answered like out of memory.
-fn external_given(kind: Kind, number: u64) -> Result<Located, NoMemory>
-    ensures { IfOk result (λ value. value ≡ external_given kind number) }
+// An external of a line, by how many externals are declared above it and its number in the line, counted from 0.
+fn external_given(kind: Kind, above: u8, number: usize) -> Located
+    requires { above + number < 255 }
+    ensures { result ≡ external_given kind (above + number + 1) }
 {
-    if number > 255 {
-        return Err(NoMemory);
-    }
-    Ok(Located {
+    Located {
         number: 0,
         class: kind,
-        origin: Origin::External(number as u8),
+        origin: Origin::External(above + number as u8 + 1),
         part: Part::Whole,
-    })
-}
-
-// The number of an external, where so many are declared above the line, and it is that one of the line.
-fn external_number(above: u64, number: usize) -> Result<u64, NoMemory>
-    ensures { IfOk result (λ counted. counted ≡ above + number + 1) }
-{
-    if above > 255 || number > 255 {
-        return Err(NoMemory);
     }
-    Ok(above + number as u64 + 1)
 }
 
-// What a line gives to a name that it defines so.
-fn given_by(giving: &Giving, how: How) -> Result<Option<Located>, NoMemory>
-    requires { giving.now.line < 65536 }
-    ensures { IfOk result (λ value. value ≡ given_by giving.now how) }
+// The value that a line gives a name which it defines so.
+fn given_by(giving: &Giving, how: How) -> Option<Located>
+    requires line { giving.now.line < 65536 }
+    requires number { HasNumber giving.now.externals how }
+    ensures { result ≡ given_by giving.now how }
 {
     match how {
-        How::Label => Ok(Some(giving.here)),
-        How::Segment(kind) => Ok(Some(segment_given(kind, giving.line))),
-        How::External(kind, number) => {
-            let number = external_number(giving.externals, number)?;
-            Ok(Some(external_given(kind, number)?))
-        }
-        How::Equ | How::Set | How::Address(_) => Ok(giving.expression),
+        How::Label => Some(giving.here),
+        How::Segment(kind) => Some(segment_given(kind, giving.line)),
+        How::External(kind, number) => Some(external_given(kind, giving.externals, number)),
+        How::Equ | How::Set | How::Address(_) => giving.expression,
     }
 }
 
-/// Takes in the values of the definitions of a line, of which the first one of a name counts. The only error is out of
+/// Adds the values of the definitions of a line, of which the first one of a name counts. The only error is out of
 /// memory.
 pub(crate) fn take_in(
     alloc: Global,
@@ -102,7 +71,8 @@ pub(crate) fn take_in(
     giving: &Giving,
     defined: &[(Name, How)],
 ) -> Result<(), NoMemory>
-    requires { giving.now.line < 65536 }
+    requires line { giving.now.line < 65536 }
+    requires numbers { HaveNumbers giving.now.externals defined.now }
     ensures { OnOk result ((name : List ℕ)
         → value_in values.new name ≡ given_or giving.now defined.now name (value_in values.old name)) }
 {
@@ -110,8 +80,7 @@ pub(crate) fn take_in(
         [first, rest @ ..] => {
             take_in(alloc, values, giving, rest)?;
             let (name, how) = first;
-            let value = given_by(giving, *how)?;
-            values.put(alloc, name, value)
+            values.put(alloc, name, given_by(giving, *how))
         }
         [] => Ok(()),
     }

@@ -1,6 +1,6 @@
 //! The segments of the module of a text, and their numbers.
-ghost use Rattle.std.specs.Prelude.{◌≡◌, ◌<◌, ◌≤◌, ◌+◌, ◌==◌, ◌++◌, ◌∷◌, [], None, if◌then◌else◌};
-ghost use Rattle.std.specs.Prelude.{length, map, IfOk, OnOk};
+ghost use Rattle.std.specs.Prelude.{◌≡◌, ◌<◌, ◌+◌, ◌==◌, ◌++◌, ◌∷◌, [], None, if◌then◌else◌};
+ghost use Rattle.std.specs.Prelude.{◌≤◌, length, map, IfOk, OnOk};
 ghost use Rattle.m51_stmt.specs.Statement.{body_tree};
 ghost use Rattle.m51_text.specs.Answer.{line_tree};
 ghost use Rattle.m51_asm.specs.Assignment.{Assignment};
@@ -8,6 +8,7 @@ ghost use Rattle.m51_asm.specs.Fitting.{Fits};
 ghost use Rattle.m51_asm.specs.ObjectSegments.{relocatable, absolute_of};
 ghost use Rattle.m51_asm.specs.OpenSegments.{text_segment};
 ghost use Rattle.m51_asm.specs.Filled.{size_in};
+ghost use Rattle.m51_asm.specs.Gathering.{IsText};
 ghost use Rattle.m51_asm.specs.Passing.{IsPlaced};
 ghost use Rattle.m51_asm.specs.Numbering.{number_at, segment_filled, segment_added, as_list, next_number, IsNumbering};
 
@@ -15,7 +16,7 @@ use crate::filled::Filled;
 use crate::placing::Placing;
 use crate::segments::{OPENING, OpenSegment};
 use crate::stepping::LinePlace;
-use m51_cells::{Bytes, Kind, ListOf, MOST_MODULE_SEGMENTS, Name, NoMemory, Reloc, same_kind};
+use m51_cells::{Bytes, Kind, ListOf, Name, NoMemory, Reloc, same_kind};
 use m51_module::{Segment, Segments, is_argument_name};
 use m51_stmt::Body;
 use m51_text::Line;
@@ -80,64 +81,40 @@ fn segment_filled(segment: OpenSegment, size: u16) -> Option<Segment>
     }
 }
 
-// The size of a segment. One of over 65,535, which E15 excludes, is answered like out of memory.
-fn size_of(filled: &Filled, id: usize) -> Result<u16, NoMemory>
-    ensures { IfOk result (λ size. size ≡ size_in filled.now id) }
-{
-    let size = filled.of(id);
-    if size > 65535 {
-        return Err(NoMemory);
-    }
-    Ok(size as u16)
-}
-
 // The segment that line k begins, if it is absolute and has a byte or a bit.
-fn segment_begun(filled: &Filled, k: usize, next: OpenSegment) -> Result<Option<Segment>, NoMemory>
+fn segment_begun(filled: &Filled, k: usize, next: OpenSegment) -> Option<Segment>
     requires { k < 65536 }
-    ensures { IfOk result (λ segment. segment
-        ≡ (if next.id == k + 2 then segment_filled (text_segment next) (size_in filled.now next.id) else None)) }
+    ensures { result
+        ≡ (if next.id == k + 2 then segment_filled (text_segment next) (size_in filled.now next.id) else None) }
 {
     if next.id == k + 2 {
-        let size = size_of(filled, next.id)?;
-        Ok(segment_filled(next, size))
+        segment_filled(next, filled.of(next.id))
     } else {
-        Ok(None)
+        None
     }
 }
 
 // The segment of the module that line k declares or begins.
-fn segment_added(
-    filled: &Filled,
-    k: usize,
-    next: OpenSegment,
-    body: &Body,
-) -> Result<Option<Segment>, NoMemory>
+fn segment_added(filled: &Filled, k: usize, next: OpenSegment, body: &Body) -> Option<Segment>
     requires { k < 65536 }
-    ensures { IfOk result (λ segment. segment
-        ≡ segment_added (size_in filled.now) k (text_segment next) (body_tree body.now)) }
+    ensures { result ≡ segment_added (size_in filled.now) k (text_segment next) (body_tree body.now) }
 {
     match body {
         Body::Segment(name, kind, reloc, overlay) => {
-            let size = size_of(filled, k + 2)?;
-            Ok(Some(relocatable(name, *kind, *reloc, *overlay, size)))
+            Some(relocatable(name, *kind, *reloc, *overlay, filled.of(k + 2)))
         }
         _ => segment_begun(filled, k, next),
     }
 }
 
-// The number of a segment that is added after so many. One over 254, which E19 excludes, is answered like out of
-// memory.
-fn next_number(count: usize, segment: &Option<Segment>) -> Result<u8, NoMemory>
-    ensures { IfOk result (λ number. number ≡ next_number count segment.now) }
+// The number of a segment that is added after this number of segments.
+fn next_number(count: usize, segment: &Option<Segment>) -> u8
+    requires { count + length (as_list segment.now) ≤ 254 }
+    ensures { result ≡ next_number count segment.now }
 {
     match segment {
-        Some(_) => {
-            if count >= MOST_MODULE_SEGMENTS {
-                return Err(NoMemory);
-            }
-            Ok(count as u8 + 1)
-        }
-        None => Ok(0),
+        Some(_) => count as u8 + 1,
+        None => 0,
     }
 }
 
@@ -156,10 +133,11 @@ fn add(
     numbers: &mut Bytes,
     segment: Option<Segment>,
 ) -> Result<(), NoMemory>
+    requires { length segments.old + length (as_list segment) ≤ 254 }
     ensures segments { OnOk result (segments.new ≡ segments.old ++ as_list segment) }
     ensures numbers { OnOk result (numbers.new ≡ numbers.old ++ next_number (length segments.old) segment ∷ []) }
 {
-    let number = next_number(segments.len(), &segment)?;
+    let number = next_number(segments.len(), &segment);
     push_if(segments, segment)?;
     numbers.push(number)?;
     Ok(())
@@ -172,19 +150,22 @@ pub(crate) fn number_segments(
     places: &[LinePlace],
     end: &Placing,
 ) -> Result<Numbering, NoMemory>
+    requires text { IsText (map line_tree lines.now) }
     requires few { length lines.now ≤ 65536 }
     requires counted { length places.now ≡ length lines.now }
+    requires placed { (a : Assignment) → Fits (map line_tree lines.now) a
+        → IsPlaced (map line_tree lines.now) a places.now end.now }
     ensures { IfOk result (λ n. (a : Assignment) → Fits (map line_tree lines.now) a
-        → IsPlaced (map line_tree lines.now) a places.now end.now → IsNumbering (map line_tree lines.now) a n) }
+        → IsNumbering (map line_tree lines.now) a n) }
 {
     let filled = &end.filled;
     let mut segments = ListOf::new(alloc);
     let mut numbers = ListOf::new(alloc);
     numbers.push(0)?;
-    let first = segment_filled(OPENING, size_of(filled, OPENING.id)?);
+    let first = segment_filled(OPENING, filled.of(OPENING.id));
     add(&mut segments, &mut numbers, first)?;
     for (k, line) in lines.iter().enumerate() {
-        let added = segment_added(filled, k, places[k].next, &line.stmt.body)?;
+        let added = segment_added(filled, k, places[k].next, &line.stmt.body);
         add(&mut segments, &mut numbers, added)?;
     }
     Ok(Numbering { segments, numbers })

@@ -142,7 +142,7 @@ pub(crate) fn or_next(first: Option<u8>, next: Option<u8>) -> Option<u8>
     }
 }
 
-// Takes in a public, or tells its fault.
+// Adds a public, or returns its fault.
 fn push_or_fault(publics: &mut Publics, public: Result<Public, u8>) -> Result<Option<u8>, NoMemory>
     ensures publics { OnOk result (publics.new ≡ publics.old ++ if_public public []) }
     ensures fault { IfOk result (λ fault. fault ≡ fault_of_public public) }

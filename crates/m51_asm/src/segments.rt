@@ -1,29 +1,27 @@
 //! The segments of a text, and the one that a line leaves open.
-ghost use Rattle.std.specs.Prelude.{◌≡◌, ◌<◌, ◌&&◌, ◌+◌, map, option_map, unwrap_or, None, IfOk};
+ghost use Rattle.std.specs.Prelude.{◌≡◌, ◌<◌, ◌&&◌, ◌+◌, map, option_map, unwrap_or, None};
 ghost use Rattle.m51_cells.specs.declared.kind.Kind.{Kind};
 ghost use Rattle.m51_cells.specs.Kinds.{is_absolute};
-ghost use Rattle.m51_expr.specs.Tree.{tree_of};
+ghost use Rattle.m51_expr.specs.Meanings.{Meanings};
 ghost use Rattle.m51_stmt.specs.Statement.{body_tree};
 ghost use Rattle.m51_text.specs.Answer.{line_tree};
 ghost use Rattle.m51_asm.specs.Assignment.{absolute};
 ghost use Rattle.m51_asm.specs.Fitting.{is_absolute_of, declared_in};
 ghost use Rattle.m51_asm.specs.OpenSegments.{text_segment, declared_how, declared_first, last_with, last_in};
 ghost use Rattle.m51_asm.specs.OpenSegments.{open_behind};
+ghost use Rattle.m51_asm.specs.Operands.{operand_number};
 
 use crate::above::reloc_at;
 use crate::definitions::How;
 use crate::names::FirstDefinition;
-use crate::sizes::number_of;
-use crate::values::Places;
-use m51_cells::{Kind, NoMemory, Reloc, is_absolute, same_kind};
+use m51_cells::{Kind, Reloc, is_absolute, same_kind};
 use m51_stmt::Body;
 use m51_text::Line;
-use std::alloc::Global;
 
 /// A segment of the text.
 #[derive(Clone, Copy, Debug, PartialEq, Eq)]
 pub(crate) struct OpenSegment {
-    /// That of line k, which declares or begins it, is k + 2; that of the opening one is 1.
+    /// 1 for the one open at the start, k + 2 for one that line k declares or begins.
     pub(crate) id: usize,
     pub(crate) kind: Kind,
     pub(crate) reloc: Reloc,
@@ -95,34 +93,33 @@ fn or_segment(segment: Option<OpenSegment>, other: OpenSegment) -> OpenSegment
     }
 }
 
-/// The segment that line k leaves open. The last absolute one of the kind of a CSEG or the like, and the segment that
-/// RSEG names, are arguments.
-pub(crate) fn open_behind<P: Places>(
-    alloc: Global,
+/// The segment that line k leaves open. The last absolute one of the kind of a CSEG or the like, the segment that RSEG
+/// names, and the number of the operand of AT or ORG are arguments.
+pub(crate) fn open_behind(
     k: usize,
-    names: &P,
     last: &LastAbsolute,
     named: Option<OpenSegment>,
     segment: OpenSegment,
+    number: u16,
     body: &Body,
-) -> Result<OpenSegment, NoMemory>
+) -> OpenSegment
     requires { k < 65536 }
-    ensures { IfOk result (λ s. text_segment s
-        ≡ open_behind k (P.meanings names.now) (last_in last.now) (option_map text_segment named)
-        (text_segment segment) (body_tree body.now)) }
+    ensures { (names : Meanings) → number ≡ operand_number names (body_tree body.now)
+        → text_segment result ≡ open_behind k names (last_in last.now) (option_map text_segment named)
+        (text_segment segment) (body_tree body.now) }
 {
     match body {
-        Body::Rseg(_) => Ok(or_segment(named, segment)),
-        Body::Select(kind, Some(e)) => Ok(absolute(k + 2, *kind, number_of(alloc, names, e)?)),
-        Body::Select(kind, None) => Ok(or_segment(last.of(*kind), absolute(k + 2, *kind, 0))),
-        Body::Org(e) => {
+        Body::Rseg(_) => or_segment(named, segment),
+        Body::Select(kind, Some(_)) => absolute(k + 2, *kind, number),
+        Body::Select(kind, None) => or_segment(last.of(*kind), absolute(k + 2, *kind, 0)),
+        Body::Org(_) => {
             if is_absolute(segment.reloc) {
-                Ok(absolute(k + 2, segment.kind, number_of(alloc, names, e)?))
+                absolute(k + 2, segment.kind, number)
             } else {
-                Ok(segment)
+                segment
             }
         }
-        _ => Ok(segment),
+        _ => segment,
     }
 }
 

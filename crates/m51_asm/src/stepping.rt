@@ -1,4 +1,4 @@
-//! What a line comes to in pass 1: its fault, or where it is and what is kept down to it.
+//! The outcome of a line in pass 1: its fault, or its place and the state after it.
 ghost use Rattle.std.specs.Prelude.{◌≡◌, ◌<◌, suc, Some, false, map, slice_get, IfOk};
 ghost use Rattle.m51_stmt.specs.Statement.{body_tree};
 ghost use Rattle.m51_text.specs.Answer.{line_tree};
@@ -7,10 +7,11 @@ ghost use Rattle.m51_asm.specs.Fitting.{Fits, mod51};
 ghost use Rattle.m51_asm.specs.PlacedFaults.{is_misplaced};
 ghost use Rattle.m51_asm.specs.Repeats.{is_repeated};
 ghost use Rattle.m51_asm.specs.OpenSegments.{text_segment};
+ghost use Rattle.m51_asm.specs.Operands.{fault_of};
 ghost use Rattle.m51_asm.specs.Placing.{IsTableOf, IsAt, IsLineOutcome, passes, are_too_many, fault_by};
 
 use crate::counts::{Counts, are_too_many, count, fault_by, is_misplaced, passes};
-use crate::placing::{NamedText, Placing, giving_of, told_of};
+use crate::placing::{NamedText, Placing, told_of};
 use crate::segments::OpenSegment;
 use crate::told::Told;
 use crate::values::Located;
@@ -26,8 +27,8 @@ pub(crate) struct LinePlace {
     pub(crate) segment: OpenSegment,
     /// The segment that it leaves open.
     pub(crate) next: OpenSegment,
-    /// How much lines above give to the segment.
-    pub(crate) offset: u64,
+    /// The size of the segment above the line.
+    pub(crate) offset: u16,
     /// The form of its JMP or CALL.
     pub(crate) form: Jump,
     /// The bank of the last USING above.
@@ -38,12 +39,12 @@ pub(crate) struct LinePlace {
     pub(crate) given: Option<Located>,
 }
 
-/// What a line comes to.
+/// The outcome of a line.
 #[derive(Drop)]
 pub(crate) enum LineOutcome {
     /// The number of its fault.
     Fault(u8),
-    /// It has none: what is kept down to it, and where it is.
+    /// It has none: the state after it, and its place.
     Stands(Placing, LinePlace),
 }
 
@@ -51,16 +52,16 @@ pub(crate) enum LineOutcome {
 fn fault_of(segment: OpenSegment, told: &Told, counts: &Counts, body: &Body) -> Option<u8>
     ensures { result ≡ fault_by (passes (text_segment told.now.next) counts.now.next)
         (is_misplaced (text_segment segment) (body_tree body.now))
-        (are_too_many counts.now.segments counts.now.externals) told.now.operand }
+        (are_too_many counts.now.segments counts.now.externals) (fault_of told.now.operand) }
 {
     let past = passes(told.next, counts.next);
     let misplaced = is_misplaced(segment, body);
     let many = are_too_many(counts.segments, counts.externals);
-    fault_by(past, misplaced, many, told.operand)
+    fault_by(past, misplaced, many, told.operand.fault())
 }
 
-/// What line k comes to, where it repeats nothing, by what is kept of the lines above it. The only error is out of
-/// memory.
+/// The outcome of line k, from the state after the lines above. The line defines no name a second time. The only error
+/// is out of memory.
 pub(crate) fn step(
     alloc: Global,
     text: &NamedText<'_>,
@@ -88,22 +89,21 @@ pub(crate) fn step(
         told.next,
         told.size,
         body,
-    )?;
+    );
     let fault = fault_of(segment, &told, &counts, body);
     match fault {
         Some(number) => Ok(LineOutcome::Fault(number)),
         None => {
-            let given = giving_of(alloc, text, k, &placing, body)?;
             let place = LinePlace {
                 segment,
                 next: told.next,
                 offset: placing.filled.of(segment.id),
                 form: told.form,
                 bank: placing.bank,
-                selected: given.1,
-                given: given.0.expression,
+                selected: told.operand.bank(placing.bank),
+                given: told.operand.given(),
             };
-            let next = placing.after(alloc, line, &told, &counts, &given.0, given.1)?;
+            let next = placing.after(alloc, k, line, &told, &counts)?;
             Ok(LineOutcome::Stands(next, place))
         }
     }

@@ -101,7 +101,7 @@ fn global_value(table: &[usize], value: Value) -> Located
     }
 }
 
-// The value by the numbers of a table, if its segment is there.
+// The value by the numbers of a table, if its segment is in it.
 fn value_if_there(table: &[usize], value: Option<Located>) -> Option<Value>
     requires { length table.now ≤ 255 }
     ensures { result

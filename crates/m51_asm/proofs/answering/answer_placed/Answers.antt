@@ -15,7 +15,7 @@ returns-then-not-is_empty c = λ a f.
     let lines = map line_tree c.args.named.now.lines.now in
     let placed = c.requires.placed a f in
     let h : IsGivenTo lines a (length lines) c.in_ok-contents.contents =
-    c.in_ok-contents.ensures lines a (record { read = refl; fits = f; names = c.requires.names; predefined = c.requires.predefined; placed = placed; numbered = c.in_ok-numbering.ensures a f placed }) in
+    c.in_ok-contents.ensures lines a (record { read = refl; fits = f; names = c.requires.names; predefined = c.requires.predefined; placed = placed; numbered = c.in_ok-numbering.ensures a f }) in
     faults_answer c.args.file.now lines a placed.free c.in_ok-contents.contents.faults (all_faults lines a c.in_ok-contents.contents h)
     (sym c.is_empty.ensures ∙ c.if-not-is_empty.true)
 
@@ -25,7 +25,7 @@ gather_lines-requires-clause-counted c =
     let a = fitting lines in
     let placed = c.requires.placed a (fits lines) in
     let h : IsGivenTo lines a (length lines) c.in_ok-contents.contents =
-    c.in_ok-contents.ensures lines a (record { read = refl; fits = fits lines; names = c.requires.names; predefined = c.requires.predefined; placed = placed; numbered = c.in_ok-numbering.ensures a (fits lines) placed }) in
+    c.in_ok-contents.ensures lines a (record { read = refl; fits = fits lines; names = c.requires.names; predefined = c.requires.predefined; placed = placed; numbered = c.in_ok-numbering.ensures a (fits lines) }) in
     ap length c.as_slice.ensures ∙ h.counted ∙ length-map c.args.named.now.lines.now line_tree
 
 pub gather_lines-requires-clause-given : goal.gather_lines-requires-clause-given
@@ -33,9 +33,9 @@ gather_lines-requires-clause-given c = λ a f.
     let lines = map line_tree c.args.named.now.lines.now in
     let placed = c.requires.placed a f in
     let h : IsGivenTo lines a (length lines) c.in_ok-contents.contents =
-    c.in_ok-contents.ensures lines a (record { read = refl; fits = f; names = c.requires.names; predefined = c.requires.predefined; placed = placed; numbered = c.in_ok-numbering.ensures a f placed }) in
+    c.in_ok-contents.ensures lines a (record { read = refl; fits = f; names = c.requires.names; predefined = c.requires.predefined; placed = placed; numbered = c.in_ok-numbering.ensures a f }) in
     record {
-      ready = record { read = refl; fits = f; names = c.requires.names; predefined = c.requires.predefined; placed = placed; numbered = c.in_ok-numbering.ensures a f placed };
+      ready = record { read = refl; fits = f; names = c.requires.names; predefined = c.requires.predefined; placed = placed; numbered = c.in_ok-numbering.ensures a f };
       content = all_faults lines a c.in_ok-contents.contents h ∙ is_nothing c.in_ok-contents.contents.faults (sym c.is_empty.ensures ∙ c.if-not-is_empty.false);
       each = subst (AreContents lines a) (sym c.as_slice.ensures) h.each;
     }
@@ -46,7 +46,7 @@ make-requires c =
     let a = fitting lines in
     let f = fits lines in
     let placed = c.requires.placed a f in
-    let numbered = c.in_ok-numbering.ensures a f placed in
+    let numbered = c.in_ok-numbering.ensures a f in
     let h : IsGivenTo lines a (length lines) c.in_ok-contents.contents =
     c.in_ok-contents.ensures lines a (record { read = refl; fits = f; names = c.requires.names; predefined = c.requires.predefined; placed = placed; numbered = numbered }) in
     let none : content_faults lines a ≡ [] = all_faults lines a c.in_ok-contents.contents h ∙ is_nothing c.in_ok-contents.contents.faults (sym c.is_empty.ensures ∙ c.if-not-is_empty.false) in
@@ -58,7 +58,7 @@ pub returns : goal.returns
 returns c = λ a f.
     let lines = map line_tree c.args.named.now.lines.now in
     let placed = c.requires.placed a f in
-    let numbered = c.in_ok-numbering.ensures a f placed in
+    let numbered = c.in_ok-numbering.ensures a f in
     let h : IsGivenTo lines a (length lines) c.in_ok-contents.contents =
     c.in_ok-contents.ensures lines a (record { read = refl; fits = f; names = c.requires.names; predefined = c.requires.predefined; placed = placed; numbered = numbered }) in
     let none : content_faults lines a ≡ [] = all_faults lines a c.in_ok-contents.contents h ∙ is_nothing c.in_ok-contents.contents.faults (sym c.is_empty.ensures ∙ c.if-not-is_empty.false) in

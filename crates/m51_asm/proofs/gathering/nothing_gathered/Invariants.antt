@@ -2,6 +2,6 @@ use Rattle.std.proofs.Common.{◌≡◌}
 use Rattle.m51_asm.specs.Gathering.{nothing_gathered}
 use Rattle.m51_asm.proofs.gathering.nothing_gathered.Given as goal
 
--- so many segments so far
+-- the segments so far
 abbrev pub invariant-loop-index : goal.invariant-loop-index
 invariant-loop-index l = l.all.items ≡ nothing_gathered l.index

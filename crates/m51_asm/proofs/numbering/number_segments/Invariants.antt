@@ -2,7 +2,6 @@ use Rattle.std.proofs.Common.{map}
 use Rattle.m51_text.specs.Answer.{line_tree}
 use Rattle.m51_asm.specs.Assignment.{Assignment}
 use Rattle.m51_asm.specs.Fitting.{Fits}
-use Rattle.m51_asm.specs.Passing.{IsPlaced}
 use Rattle.m51_asm.specs.Numbering.{IsNumberedTo}
 use Rattle.m51_asm.proofs.numbering.number_segments.Given as goal
 
@@ -10,5 +9,4 @@ use Rattle.m51_asm.proofs.numbering.number_segments.Given as goal
 abbrev pub invariant-loop-k : goal.invariant-loop-k
 invariant-loop-k l =
     (a : Assignment) → Fits (map line_tree l.lines) a
-    → IsPlaced (map line_tree l.lines) a l.fn.places l.fn.end
     → IsNumberedTo (map line_tree l.lines) a l.k l.segments l.numbers

@@ -1,19 +1,14 @@
-use Rattle.std.proofs.Common.{◌≡◌, ap, map, sym, ◌∙◌}
+use Rattle.std.proofs.Common.{◌≡◌, ap, map, sym, ◌∙◌, None}
 use Rattle.m51_stmt.specs.Statement.{body_tree}
 use Rattle.m51_text.specs.Answer.{line_tree}
-use Rattle.m51_asm.specs.Assignment.{body_of, body_at, above}
-use Rattle.m51_asm.specs.Fitting.{filled}
-use Rattle.m51_asm.specs.GivenValues.{expression_given}
+use Rattle.m51_asm.specs.Assignment.{body_of, body_at}
+use Rattle.m51_asm.specs.Fitting.{filled, externals_in}
+use Rattle.m51_asm.specs.PlacedFaults.{placed_fault}
+use Rattle.m51_asm.specs.OpenSegments.{text_segment}
 use Rattle.m51_asm.specs.Placing.{IsTold, IsCounted}
-use Rattle.m51_asm.proofs.PlacedLines.{counted, fault_told}
+use Rattle.m51_asm.proofs.GoodLines.{free}
+use Rattle.m51_asm.proofs.PlacedLines.{counted, fault_told, small_counts, small_sum_is, bank_after}
 use Rattle.m51_asm.proofs.stepping.step.Goals as goal
-
-pub giving_of-requires : goal.giving_of-requires
-giving_of-requires c = record {
-  names = c.requires.names;
-  predefined = c.requires.predefined;
-  said = ap body_of (sym c.requires.line);
-}
 
 pub returns-in-Some : goal.returns-in-Some
 returns-in-Some c = λ a f at.
@@ -21,13 +16,27 @@ returns-in-Some c = λ a f at.
     let k = c.args.k in
     let s = c.args.placing in
     let t = c.in_ok-told.told in
-    let n = c.in_ok-counts.counts in
+    let n = c.count-counts.result in
     let body = body_tree c.args.line.now.stmt.body in
     let is : body ≡ body_at lines k = ap body_of (sym c.requires.line) in
     let told : IsTold lines a k t = c.in_ok-told.ensures a f c.requires.once at in
     let counts : IsCounted lines a k n =
-    counted lines a k s t n body at told is c.in_ok-counts.ensures.own c.in_ok-counts.ensures.next c.in_ok-counts.ensures.segments c.in_ok-counts.ensures.externals in
+    counted lines a k s t n body at told is c.count-counts.ensures.next c.count-counts.ensures.segments c.count-counts.ensures.externals in
     sym (fault_told lines a k s t n body f at told counts is c.requires.once) ∙ sym c.fault_of-fault.ensures ∙ c.in-Some.is
+
+pub after-requires-clause-next : goal.after-requires-clause-next
+after-requires-clause-next c = (small_counts (text_segment c.in_ok-told.told.next) c.count-counts.result _ _ (sym c.fault_of-fault.ensures ∙ c.in-None.is)).next
+
+pub after-requires-clause-segments : goal.after-requires-clause-segments
+after-requires-clause-segments c = (small_counts (text_segment c.in_ok-told.told.next) c.count-counts.result _ _ (sym c.fault_of-fault.ensures ∙ c.in-None.is)).segments
+
+pub after-requires-clause-externals : goal.after-requires-clause-externals
+after-requires-clause-externals c = (small_counts (text_segment c.in_ok-told.told.next) c.count-counts.result _ _ (sym c.fault_of-fault.ensures ∙ c.in-None.is)).externals
+
+pub after-requires-clause-declared : goal.after-requires-clause-declared
+after-requires-clause-declared c =
+    small_sum_is c.args.placing.externals (externals_in (body_tree c.args.line.now.stmt.body)) c.count-counts.result.externals
+    c.count-counts.ensures.externals (small_counts (text_segment c.in_ok-told.told.next) c.count-counts.result _ _ (sym c.fault_of-fault.ensures ∙ c.in-None.is)).externals
 
 pub returns-in_ok-next-in-None : goal.returns-in_ok-next-in-None
 returns-in_ok-next-in-None c = λ a f at.
@@ -35,22 +44,24 @@ returns-in_ok-next-in-None c = λ a f at.
     let k = c.args.k in
     let s = c.args.placing in
     let t = c.in_ok-told.told in
-    let n = c.in_ok-counts.counts in
+    let n = c.count-counts.result in
     let body = body_tree c.args.line.now.stmt.body in
     let is : body ≡ body_at lines k = ap body_of (sym c.requires.line) in
     let told : IsTold lines a k t = c.in_ok-told.ensures a f c.requires.once at in
     let counts : IsCounted lines a k n =
-    counted lines a k s t n body at told is c.in_ok-counts.ensures.own c.in_ok-counts.ensures.next c.in_ok-counts.ensures.segments c.in_ok-counts.ensures.externals in
-    let gives = c.in_ok-given-in-None.ensures.gives a f at in (
-      sym (fault_told lines a k s t n body f at told counts is c.requires.once) ∙ sym c.fault_of-fault.ensures ∙ c.in-None.is,
-      c.in_ok-next-in-None.ensures lines a k c.requires.line c.requires.once at told counts gives,
+    counted lines a k s t n body at told is c.count-counts.ensures.next c.count-counts.ensures.segments c.count-counts.ensures.externals in
+    let none : placed_fault lines a k ≡ None =
+    sym (fault_told lines a k s t n body f at told counts is c.requires.once) ∙ sym c.fault_of-fault.ensures ∙ c.in-None.is in
+    let is_free = free lines a k none in (
+      none,
+      c.in_ok-next-in-None.ensures lines a f c.requires.line none at told counts,
       record {
         segment = at.segment;
         next = told.next;
         offset = c.of.ensures ∙ at.sizes s.segment.id ∙ ap (λ x. filled lines a x.id k) at.segment;
         form = told.form;
         bank = at.selected;
-        selected = gives.selected;
-        given = gives.expression ∙ ap (expression_given (above lines a k)) is;
+        selected = c.bank.ensures ∙ bank_after lines a k is_free s at t told;
+        given = c.given.ensures ∙ told.operand.given_is is_free.operand;
       },
     )

@@ -1,4 +1,4 @@
--- The one memory goes on standing for the separate stores, after a put and after segments turned live or died.
+-- The one memory still represents the separate stores after a put, and after segments became live or dead.
 use Rattle.std.proofs.Common.{◌≡◌, ◌≢◌, ◌⊎◌, inl, inr, ℕ, Bool, true, false, ◌&&◌, Option, Some, None, refl, sym, ap, subst, ◌∙◌}
 use Rattle.std.proofs.lemmas.Bool.{and_right}
 use Rattle.std.specs.Prelude.{slice_get, if◌then◌else◌}

@@ -13,7 +13,7 @@ use Rattle.m51_cells.specs.Cells.{IsDataCell, cells_in}
 use Rattle.m51_monitor.specs.Masks.{IsCellAt, Mask, flag_in, flag_of, IsMarked}
 use Rattle.m51_monitor.specs.Rows.{AreSet}
 
--- a number lies in a row, or beside it
+-- a number is one of consecutive ones, or beside them
 pub between_or_beside : (first count i : ℕ) → ((first ≤ i) × (i < first + count)) ⊎ ((i < first) ⊎ (first + count ≤ i))
 between_or_beside first count i = elim (cases_lt i first) as (λ d. ((first ≤ i) × (i < first + count)) ⊎ ((i < first) ⊎ (first + count ≤ i))) [
   | inl p ↦ inr (inl p)
@@ -37,7 +37,7 @@ all_set ram xram value r x c h = by_space c.space c.at h
 pub ends_inside : (e : Extent) → IsInside e → e.len ≢ 0 → e.first + e.len ≤ cells_in e.space
 ends_inside e inside some = inside_end e inside (omega (arith, some))
 
--- the cell stands beside the row of the extent
+-- the cell is before or after those of the extent
 beside : (e : Extent) (c : Cell) → c.space ≡ e.space → (Covers e c → ⊥) → (c.at < e.first) ⊎ (e.first + e.len ≤ c.at)
 beside e c same out = ⊎_elim
     (λ (h : (e.first ≤ c.at) × (c.at < e.first + e.len)). absurd (out (record { space = same; from = h.0; below = h.1 })))

@@ -135,7 +135,7 @@ is_start l fill root old new h layout units stands same entered keeps =
     let kept = subst (StandsFor new.layout (live_by new.layout new.units) new.store) (ap (unset_dead (live_by new.layout new.units)) alike ∙ filled_unset new.layout new.units fill ∙ sym alike) now in
     record { layout = lay; root = root; is_root = h; records = ap (λ us. records_of [] us) us; stores = kept }
 
--- the memory stands for some stores, and answers as they do
+-- the memory represents some stores, and answers as they do
 pub stands_for : (frames : List Frame) (a : Activity) → (s : Stores) × StandsFor a.layout (live_by a.layout a.units) a.store s → (s : Stores) × MonitorStandsFor (monitored frames a) s
 stands_for frames a h = (h.0, subst (λ us. StandsFor a.layout (live_by a.layout us) a.store h.0) (sym (units_are frames a.units)) h.1)
 

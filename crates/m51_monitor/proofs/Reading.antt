@@ -26,7 +26,7 @@ by_space P r x c Ram n = r n
 by_space P r x c Xram n = x n
 by_space P r x c Code n = c n
 
--- no flag stands past the end
+-- no flag is set past the end
 pub none_behind : (flags : List Bool) (n : ℕ) → length flags ≤ n → slice_index_or flags n false ≡ false
 none_behind [] n h = refl
 none_behind (b ∷ flags) zero h = absurd (omega (arith, h))

@@ -1,4 +1,4 @@
--- What stands, is related.
+-- The units that the records name are related.
 use Rattle.std.proofs.Common.{◌≡◌, ◌≢◌, ◌⊎◌, inl, inr, ℕ, List, [], ◌∷◌, ◌++◌, refl, sym, ap, subst, ◌∙◌}
 use Rattle.std.specs.List.{Contains}
 use Rattle.m51_cells.proofs.Small.{contains_first}
@@ -38,7 +38,7 @@ turned l a b (UnderTwo x y ne p q) = UnderTwo y x (λ e. ne (sym e)) q p
 other_root : (w x : ℕ) (ws : List ℕ) → (Contains ws w → ⊥) → Contains ws x → w ≢ x
 other_root w x ws fresh h e = fresh (subst (Contains ws) (sym e) h)
 
--- the unit that an edge leads to from the current one, and any that stood
+-- the unit that an edge leads to from the current one, and any that was named before
 new_related : (l : LayoutParts) (w c v : ℕ) (ws : List ℕ) (b : ℕ) → (Contains ws w → ⊥) → UnitLiesUnder l w v → HasEdge l.edges c v → Stood l w c ws b → UnitsRelated l v b
 new_related l w c v ws b fresh under h (Here p q) = After (lead_on l.edges b c v q h)
 new_related l w c v ws b fresh under h (Elsewhere x q p) = UnderTwo w x (other_root w x ws fresh q) under p
@@ -94,7 +94,7 @@ fine_above l w c v r ws us f h fresh =
       pairs = λ a b j k. pairs_more l r us (λ b k. UnderTwo v (below b k).0 (other_root v (below b k).0 (w ∷ ws) fresh (below b k).1) under (below b k).2) f.pairs a b (contains_cases a r us j) (contains_cases b r us k);
     }
 
--- what stands: busy are the vectors of the roots that run, us the units that are named
+-- the records: `busy` are the vectors of the roots that run, `us` the units that are named
 record Stacked (l : LayoutParts) (busy us : List ℕ) : Type 0 where
   w : ℕ
   ws : List ℕ

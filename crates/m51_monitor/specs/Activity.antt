@@ -11,13 +11,13 @@ use Rattle.m51_monitor.specs.Related.{AreRelatedAll}
 use Rattle.m51_monitor.specs.Shared.{Shared}
 use Rattle.m51_monitor.specs.Stores.{Stores, StandsFor, has_cell, live_by, unset_dead}
 
--- the units that are active stand the last first, and one of them stands there once for each record that names it
+-- the units that are active, the last first, each once for each record that names it
 pub record Activity : Type 0 where
   pub layout : LayoutParts
   pub units : List ℕ
   pub store : Shared
 
--- how often the number stands there
+-- how often the list has the number
 abbrev pub times : List ℕ → ℕ → ℕ
 times [] u = 0
 times (v ∷ vs) u = one_more_where (nat_eq v u) (times vs u)
@@ -28,7 +28,7 @@ pub record AreTimes (l : LayoutParts) (units numbers : List ℕ) : Type 0 where
   pub number : (u : ℕ) → u < length l.units → slice_index numbers u ≡ times units u
   pub below : (u : ℕ) → Contains units u → u < length l.units
 
--- how many of these units, one for each time that it stands there, own the segment
+-- how many of these units own the segment, each counted as often as the list has it
 abbrev pub holding : LayoutParts → List ℕ → ℕ → ℕ
 holding l [] t = 0
 holding l (u ∷ us) t = one_more_where (is_among (owners_of l.owners t) u) (holding l us t)
@@ -51,7 +51,7 @@ pub record MayEnter (l : LayoutParts) (units : List ℕ) (unit : ℕ) : Type 0 w
   pub few : times units unit < 3
   pub related : AreRelatedAll l (unit ∷ units)
 
--- Whichever separate stores the memory stands for, it stands for them after the change, where dead segments are unset.
+-- If the memory represents some separate stores, it represents them after the change, with dead segments unset.
 abbrev pub KeepsStores : Activity → Activity → Type 0
 KeepsStores old new = (s : Stores) → StandsFor old.layout (live_by old.layout old.units) old.store s
     → StandsFor new.layout (live_by new.layout new.units) new.store (unset_dead (live_by new.layout new.units) s)

@@ -30,13 +30,13 @@ abbrev pub OneAnswer : Type 0
 OneAnswer = (l : LayoutParts) (a : Records) (s : Stores) (c : Cell) (x y : CellState) → IsSound l → AreWalks l a
     → Resolves l (live_by l (units_named a)) s c x → Resolves l (live_by l (units_named a)) s c y → x ≡ y
 
--- records that a run may have are such after each move that the table allows, where an interrupt comes over at most one
+-- records that a run may have are such after each move that the table allows, where an interrupt interrupts at most one
 abbrev pub MovesAreKept : Type 0
 MovesAreKept = (m : Monitored) (cpu : Cpu) (e : Effect) (step : Move) → latch e.cpu sp < 256 → HasLevel m step
     → Judges m.layout m.records cpu e (Ok step)
     → AreActivations m.layout m.records → AreActivations m.layout (moved m.records e step)
 
--- a memory stands for one state of the separate stores
+-- a memory represents one state of the separate stores
 abbrev pub OneState : Type 0
 OneState = (l : LayoutParts) (a : Records) (m : Shared) (s t : Stores) → IsSound l → AreWalks l a
     → StandsFor l (live_by l (units_named a)) m s → StandsFor l (live_by l (units_named a)) m t → s ≡ t

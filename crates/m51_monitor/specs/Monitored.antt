@@ -25,7 +25,8 @@ pub record Monitored : Type 0 where
 abbrev pub live_in : LayoutParts → Records → Live
 live_in l a = live_by l (units_named a)
 
--- Records that a run may have: they stand, SP rises from each to the next, and two interrupts are in progress at most.
+-- Records that a run may have: they form walks, SP rises from each to the next, and at most two interrupts are in
+-- progress.
 pub record AreActivations (l : LayoutParts) (a : Records) : Type 0 where
   pub stand : AreWalks l a
   pub heights : HeightsRise a.returns
@@ -39,11 +40,11 @@ stores_changed l b s = unset_dead (live_in l b) s
 abbrev pub stores_after : LayoutParts → Records → Records → Effect → Stores → Stores
 stores_after l a b e s = stores_changed l b (put_into l (live_in l a) e.second (put_into l (live_in l a) e.first s))
 
--- the monitor's memory stands for the stores
+-- the monitor's memory represents the stores
 abbrev pub MonitorStandsFor : Monitored → Stores → Type 0
 MonitorStandsFor m s = StandsFor m.layout (live_in m.layout m.records) m.store s
 
--- whichever stores the memory stands for, it stands afterwards for them after the change
+-- if the memory represents some stores before, it represents those stores with the change afterwards
 abbrev pub StandsAfter : (Stores → Stores) → Monitored → Monitored → Type 0
 StandsAfter change old new = (s : Stores) → MonitorStandsFor old s → MonitorStandsFor new (change s)
 

@@ -14,7 +14,7 @@ use Rattle.m51_monitor.specs.Related.{OneLive}
 use Rattle.m51_monitor.specs.Rising.{HeightsRise}
 use Rattle.m51_monitor.specs.Transfers.{Judges, moved}
 
--- The records at the reset, and those after each move that the table allows, where an interrupt comes over at most one
+-- The records at the reset, and those after each move that the table allows, where an interrupt interrupts at most one
 -- other.
 pub data IsReached (l : LayoutParts) : Records → Type 0 where
   AtReset : (root : ℕ) → IsRootAt l 0 root → IsReached l (started root)
@@ -22,8 +22,8 @@ pub data IsReached (l : LayoutParts) : Records → Type 0 where
       → latch e.cpu sp < 256 → HasLevel m step → Judges m.layout m.records cpu e (Ok step)
       → IsReached l (moved m.records e step)
 
--- at most one live segment covers a cell, there are at most so many return records, and SP of each is a byte that is at
--- least two above that of the one below
+-- at most one live segment covers a cell, there are no more return records than the limit, and SP of each is a byte
+-- that is at least two above that of the one below
 pub record IsBounded (l : LayoutParts) (a : Records) : Type 0 where
   pub one_live : OneLive l (live_in l a)
   pub few : length a.returns ≤ MOST_RETURN_RECORDS

@@ -68,13 +68,13 @@ BeginsAt l vector [] = ⊥
 BeginsAt l vector (u ∷ []) = IsRootAt l vector u
 BeginsAt l vector (v ∷ u ∷ us) = HasEdge l.edges u v × BeginsAt l vector (u ∷ us)
 
--- Units, the last first, that go on from a unit along edges.
+-- Units, the last first, that continue a walk from a unit along edges.
 abbrev pub WalksOn : Edges → ℕ → List ℕ → Type 0
 WalksOn edges u [] = Unit {0}
 WalksOn edges u (v ∷ vs) = HasEdge edges (first_or vs u) v × WalksOn edges u vs
 
--- The units of a call's record go on from the unit that was current; those of an interrupt's begin at its root, which
--- was not running.
+-- The units of a call's record continue the walk from the unit that was current; those of an interrupt's begin at its
+-- root, which was not running.
 abbrev pub IsWalkAbove : LayoutParts → List ℕ → List ℕ → Cause → List ℕ → Type 0
 IsWalkAbove l below busy Call units = WalksOn l.edges (first_or below 0) units
 IsWalkAbove l below busy (Interrupt source) units =

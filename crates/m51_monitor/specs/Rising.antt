@@ -9,7 +9,7 @@ use Rattle.m51_monitor.specs.declared.step.Move.{Move}
 use Rattle.m51_monitor.specs.declared.step.Move.TheVariants.{Return, Interrupt as InterruptTo}
 use Rattle.m51_monitor.specs.Records.{ReturnRecord, Records}
 
--- SP is at least so much above that of the topmost record
+-- SP is above that of the topmost record by at least this number
 abbrev pub IsAbove : List ReturnRecord → ℕ → ℕ → Type 0
 IsAbove [] more sp = Unit {0}
 IsAbove (r ∷ rs) more sp = r.sp + more ≤ sp

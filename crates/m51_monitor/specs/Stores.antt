@@ -154,7 +154,7 @@ pub record AreStores (l : LayoutParts) (live : Live) (s : Stores) : Type 0 where
       → IsSet (s.segment t c)
   pub common : (c : Cell) → is_common l c ≡ true → IsSet (s.common c)
 
--- The one memory stands for the separate stores: each of its cells holds what the cell resolves to. So the live mask
+-- The one memory represents the separate stores: each of its cells holds what the cell resolves to. So the live mask
 -- has the common cells and those that a live segment covers, the written mask has those of them whose resolved value is
 -- set, and on these the memory has that value.
 pub record StandsFor (l : LayoutParts) (live : Live) (m : Shared) (s : Stores) : Type 0 where

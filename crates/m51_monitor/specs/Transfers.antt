@@ -32,7 +32,7 @@ abbrev pub unless : Bool → Why → Result Move Why → Result Move Why
 unless true why rest = Err why
 unless false why rest = rest
 
--- SP is less than that of the topmost return record plus so much
+-- SP is less than that of the topmost return record plus this number
 abbrev pub is_sp_below : List ReturnRecord → ℕ → ℕ → Bool
 is_sp_below [] more sp_after = false
 is_sp_below (r ∷ rs) more sp_after = nat_lt sp_after (r.sp + more)
@@ -84,7 +84,7 @@ abbrev pub returns_from : Frame → Bool → ℕ → ℕ → Bool → Result Mov
 returns_from f call sp_before to inside =
     unless (not (is_by call f.cause)) NotCalled (returns_to f.sp f.return_address sp_before to inside)
 
--- a record of the root at the vector is there
+-- the record is of the root at the vector
 abbrev pub is_of_root : ℕ → Cause → Bool
 is_of_root vector ByCall = false
 is_of_root vector (ByInterrupt source) = nat_eq (vector_of source) vector
@@ -159,7 +159,7 @@ abbrev pub jumped : List ℕ → List ReturnRecord → ℕ → Records
 jumped reset [] u = record { reset = u ∷ reset; returns = [] }
 jumped reset (r ∷ rs) u = record { reset = reset; returns = record r { units = u ∷ r.units } ∷ rs }
 
--- a record more, on top
+-- one more record, on top
 abbrev pub pushed : Records → Cause → ℕ → ℕ → List ℕ → Records
 pushed a cause return_address sp_after units = record {
   reset = a.reset;

@@ -33,7 +33,7 @@ pub record IsLocalAmong (holders locals : List ℕ) (count t : ℕ) : Type 0 whe
   pub is : slice_index locals place ≡ t
   pub free : slice_index holders t ≡ 0
 
--- an overlaid segment among the first so many
+-- an overlaid segment among the first ones, of this count
 pub record IsOverlaidAmong (l : LayoutParts) (count t : ℕ) : Type 0 where
   pub below : t < count
   pub overlaid : IsOverlaid l t

@@ -148,7 +148,7 @@ fn release(holders: &mut Vec<u16>, layout: &Layout, unit: u16)
     count_less(holders, layout.locals(unit));
 }
 
-// Turns the first so many segments outside where they are overlaid.
+// Turns the segment outside if it is overlaid.
 #[tactic(auto, using(crate::proofs::Starting::overlaid_turned, crate::proofs::Starting::plain_stays))]
 fn turn_if_overlaid(store: &mut SharedRam, layout: &Layout, segment: usize)
     requires { segment < length layout.now.placed }
@@ -298,7 +298,7 @@ impl Activity {
         self.units[self.units.len() - 1]
     }
 
-    /// The unit that was last when so many were named.
+    /// The unit that was last when this number of units was named.
     #[tactic(auto, using(crate::proofs::Numbers::unit_is))]
     pub(crate) fn unit(&self, count: usize) -> u16
         requires some { 0 < count }
@@ -322,7 +322,7 @@ impl Activity {
         self.store.put(put);
     }
 
-    /// A record more names the unit.
+    /// One more record names the unit.
     pub(crate) fn enter(&mut self, unit: u16)
         requires { MayEnter self.old.layout self.old.units unit }
         ensures layout { self.new.layout ≡ self.old.layout }
@@ -353,7 +353,7 @@ impl Activity {
         }
     }
 
-    /// Only the first so many units stay named.
+    /// Only the first units, up to this count, stay named.
     pub(crate) fn leave_to(&mut self, count: usize)
         requires { count ≤ length self.old.units }
         ensures layout { self.new.layout ≡ self.old.layout }

@@ -18,14 +18,14 @@ pub fn one_answer()
 {}
 
 /// The units of the records form walks, SP rises from record to record, and at most two interrupts are in progress: so
-/// it is after each move that the table allows, if it was so before and an interrupt comes over at most one other.
+/// it is after each move that the table allows, if it was so before and an interrupt interrupts at most one other.
 ///
 /// Source: own choice ("Activations").
 pub fn moves_are_kept()
     ensures { MovesAreKept }
 {}
 
-/// Of all records that a run over a sound layout can reach, where an interrupt comes over at most one other: at most
+/// Of all records that a run over a sound layout can reach, where an interrupt interrupts at most one other: at most
 /// one live segment covers a cell, arguments with several owners included; there are 128 return records at most; SP of
 /// each is at least two above that of the one below.
 ///

@@ -119,7 +119,7 @@ impl Monitor {
     {
         match layout.root(0) {
             Some(root) => Monitor::start_at(alloc, layout, fill, root),
-            // A root is there.
+            // There always is a root.
             None => unreachable!(),
         }
     }

@@ -48,7 +48,7 @@ fn ram_cell(at: usize) -> Cell
     }
 }
 
-// So many cells of a memory, from the first.
+// The cells of a memory from the first on, of this count.
 fn row(space: Space, first: u32, len: u32) -> Extent
     requires { first + len ≤ cells_in space }
     ensures value { result ≡ extent space first len }
@@ -148,7 +148,7 @@ impl SharedRam {
         self.first_dead(8 * usize::from(address), 8)
     }
 
-    // The lowest of so many cells of internal RAM that is not live.
+    // The lowest of these cells of internal RAM, from the first on, that is not live.
     #[tactic(auto, using(crate::proofs::Reading::barred_at, crate::proofs::Reading::barred_none))]
     #[inline(always)]
     fn first_dead(&self, first: usize, count: usize) -> Option<Cell>

@@ -14,7 +14,7 @@ use m51_cells::{Event, Why};
 use m51_flat::{Cpu, Effect, Source, Transfer};
 
 impl Monitor {
-    // SP is less than that of the top record plus so much.
+    // SP is less than that of the top record plus this number.
     fn is_sp_below(&self, more: u8, sp_after: u8) -> bool
         ensures { result ≡ is_sp_below self.now.records.returns more sp_after }
     {
@@ -54,7 +54,7 @@ impl Monitor {
         }
     }
 
-    // A record of the root at the vector is there.
+    // Whether a record is of the root at the vector.
     fn is_busy(&self, vector: u16) -> bool
         ensures { result ≡ is_busy self.now.records.returns vector }
     {

@@ -4,6 +4,7 @@ use Rattle.std.specs.List.{Contains, cons_option}
 use Rattle.std.proofs.lemmas.List.{get_or-set_same, get_or-set_other, length-set}
 use Rattle.std.proofs.lemmas.List.{take_more}
 use Rattle.std.proofs.lemmas.List.Elements.{filter_map-append, Contains-push, Contains-push_cases, Contains-append_left}
+use Rattle.std.proofs.lemmas.List.Sorted.{Contains-permutation, IsPermutation-sym}
 use Rattle.std.proofs.lemmas.Option.{same_Some}
 use Rattle.m51_cells.proofs.Small.{contains_after, first_or_after, none_in_empty}
 use Rattle.m51_module.specs.declared.parts.LayoutParts.{LayoutParts}
@@ -13,7 +14,7 @@ use Rattle.m51_module.specs.Kept.{AreEmptyRows}
 use Rattle.m51_module.proofs.Units.{same_or_not}
 use Rattle.m51_stackbound.specs.declared.calls.Call.{Call}
 use Rattle.m51_stackbound.specs.declared.point.Point.{Point}
-use Rattle.m51_stackbound.specs.Callers.{AreCallRows, AreRowsOf, call_from, calls_of, IsCalled, row_of, with_call}
+use Rattle.m51_stackbound.specs.Callers.{AreCallRows, AreCallsOf, AreRowsOf, call_from, calls_of, IsCalled, row_of, with_call}
 use Rattle.m51_stackbound.specs.Climb.{AreCalls}
 use Rattle.m51_stackbound.specs.Depths.{CallsAt}
 use Rattle.m51_stackbound.specs.Points.{call_of, IsPoint}
@@ -70,18 +71,25 @@ module _ (l : LayoutParts) (image : List ℕ) where
       → calls_of l image (take (i + 1) points) ≡ calls_of l image (take i points) ++ cons_option (call_from (get_or points i d) (call_of l image (get_or points i d))) []
   calls_more points i d below = ap (calls_of l image) (take_more points i d below) ∙ filter_map-append (λ p. call_from p (call_of l image p)) (take i points) (get_or points i d ∷ [])
 
+  -- the list has these calls and no others
+  pub calls_in : (points : List Point) (calls : List Call) (c : Call) → AreCallsOf l image points calls → Contains (calls_of l image points) c → Contains calls c
+  calls_in points calls c is k = Contains-permutation (calls_of l image points) calls c is k
+
+  pub are_calls : (points : List Point) (calls : List Call) → AreCallsOf l image points calls → ((p : Point) → Contains points p → IsPoint l image p) → AreCalls l image calls
+  are_calls points calls is only c k = calls_only points only c (Contains-permutation calls (calls_of l image points) c (IsPermutation-sym (calls_of l image points) calls is) k)
+
   -- the rows of the calls of all points
-  pub rows_are : (points : List Point) (calls : List Call) (rows : List (List ℕ)) → ArePoints l image points → calls ≡ calls_of l image points → AreRowsOf calls rows → AreCallRows l image rows
+  pub rows_are : (points : List Point) (calls : List Call) (rows : List (List ℕ)) → ArePoints l image points → AreCallsOf l image points calls → AreRowsOf calls rows → AreCallRows l image rows
   rows_are points calls rows are is r = record {
     only = λ from to k.
         let d = r.only from to k in
-        let c = calls_only points are.only d.call (subst (λ (cs : List Call). Contains cs d.call) is d.listed) in
+        let c = are_calls points calls is are.only d.call d.listed in
         (d.call.height, subst (λ n. CallsAt l image (At from) d.call.height n) d.to_is (subst (λ s. CallsAt l image s d.call.height d.call.to) d.from_is c));
     all = λ from to k.
         let g = k.1 in
         r.all from to (record {
           call = record { from = g.point.start; height = g.point.height; to = to };
-          listed = subst (λ (cs : List Call). Contains cs (record { from = g.point.start; height = g.point.height; to = to })) (sym is) (calls_all points g.point to (are.all g.point g.is_point) g.calls);
+          listed = calls_in points calls (record { from = g.point.start; height = g.point.height; to = to }) is (calls_all points g.point to (are.all g.point g.is_point) g.calls);
           from_is = g.start_is;
           to_is = refl;
         });

@@ -16,14 +16,14 @@ use Rattle.m51_stackbound.specs.declared.point.Point.{Point}
 use Rattle.m51_module.specs.declared.start.Start.{Start}
 use Rattle.m51_module.specs.declared.start.Start.TheVariants.{Reset, At}
 use Rattle.m51_stackbound.specs.Bounds.{IsCyclic}
-use Rattle.m51_stackbound.specs.Callers.{calls_of}
+use Rattle.m51_stackbound.specs.Callers.{AreCallsOf}
 use Rattle.m51_stackbound.specs.Climb.{cap, depth_in, depth_by, IsTaken, AreTaken, IsBlank, IsClimbing, Raises, IsRaised, AreSettled, SaysDepth}
 use Rattle.m51_stackbound.specs.Depths.{Calls, CallsAt, CallsThrough, Direct, Through, HasHeight, Takes, Own, Call}
 use Rattle.m51_stackbound.specs.Instructions.{is_call, next_of, target_of}
 use Rattle.m51_stackbound.specs.Points.{after_call, call_by, call_of, called, ends_at, entry_at, follow_by, instruction, pops_below, pushes_above, sets_stack, IsPoint, After}
 use Rattle.m51_stackbound.specs.Rules.{rank}
 use Rattle.m51_stackbound.specs.Search.{ArePoints}
-use Rattle.m51_stackbound.proofs.CallRows.{calls_all}
+use Rattle.m51_stackbound.proofs.CallRows.{calls_all, calls_in}
 use Rattle.m51_stackbound.proofs.Leasts.{front_cases}
 
 pub blank : (count : ℕ) (depths : List ℕ) → count ≡ 65537 → depths ≡ replicate count 0 → IsBlank depths
@@ -231,12 +231,12 @@ module _ (l : LayoutParts) (image : List ℕ) where
   })
 
   -- where no call raises a depth, the table is settled
-  pub climbed : (points : List Point) (calls : List StartCall) (old new : List ℕ) → calls ≡ calls_of l image points → IsClimbing l image points old → IsRaised l image calls old new false
+  pub climbed : (points : List Point) (calls : List StartCall) (old new : List ℕ) → AreCallsOf l image points calls → IsClimbing l image points old → IsRaised l image calls old new false
       → AreSettled l image points new
   climbed points calls old new is h r = record {
     are = r.are;
     own = λ p k. let low = h.own p k in let more = r.grown p.start in omega (arith, low, more);
-    calls = λ c k. r.high refl c (subst (λ (cs : List StartCall). Contains cs c) (sym is) k);
+    calls = λ c k. r.high refl c (calls_in l image points calls c is k);
   }
 
   module _ (points : List Point) (depths : List ℕ) (are : ArePoints l image points) (s : AreSettled l image points depths) where

@@ -2,6 +2,7 @@
 use Rattle.std.specs.Prelude.{◌≡◌, ◌⊎◌, ℕ, ◌+◌, Bool, true, false, if◌then◌else◌, List, [], ◌∷◌, ◌++◌, length}
 use Rattle.std.specs.Prelude.{slice_index_or, slice_set, Option, Some, None}
 use Rattle.std.specs.List.{Contains, filter_map, sum_by}
+use Rattle.std.specs.List.Sorted.{IsPermutation}
 use Rattle.m51_module.specs.declared.parts.LayoutParts.{LayoutParts}
 use Rattle.m51_module.specs.declared.start.Start.{Start}
 use Rattle.m51_module.specs.declared.start.Start.TheVariants.{Reset, At}
@@ -18,6 +19,10 @@ call_from p (Some to) = Some (record { from = p.start; height = p.height; to = t
 -- the calls that points give, in the order of the points
 abbrev pub calls_of : LayoutParts → List ℕ → List Point → List Call
 calls_of l image points = filter_map (λ p. call_from p (call_of l image p)) points
+
+-- these calls, in whatever order
+abbrev pub AreCallsOf : LayoutParts → List ℕ → List Point → List Call → Type 0
+AreCallsOf l image points calls = IsPermutation (calls_of l image points) calls
 
 -- the row of a start: whom it calls
 abbrev pub row_of : List (List ℕ) → ℕ → List ℕ

@@ -5,7 +5,7 @@ ghost use Rattle.m51_module.specs.Sound.{IsSound};
 ghost use Rattle.m51_stackbound.specs.Above.{AreLow, HasLists, IsAbove, IsTangle};
 ghost use Rattle.m51_stackbound.specs.Bounds.{Answers, Breaks, HasTwoHeights, IsBreach, KeepsApart, KeepsHeights};
 ghost use Rattle.m51_stackbound.specs.Bounds.{KeepsRules};
-ghost use Rattle.m51_stackbound.specs.Callers.{calls_of};
+ghost use Rattle.m51_stackbound.specs.Callers.{AreCallsOf};
 ghost use Rattle.m51_stackbound.specs.Climb.{AreSettled};
 ghost use Rattle.m51_stackbound.specs.Rules.{IsLeast};
 ghost use Rattle.m51_stackbound.specs.Search.{ArePoints};
@@ -174,7 +174,7 @@ fn tangle(
     depths: &[u16],
 ) -> Result<Option<StackError>, NoMemory>
     requires points { ArePoints layout.now image.now points.now }
-    requires calls { calls.now ≡ calls_of layout.now image.now points.now }
+    requires calls { AreCallsOf layout.now image.now points.now calls.now }
     requires depths { AreSettled layout.now image.now points.now depths.now }
     requires rules { KeepsRules layout.now image.now }
     ensures { IfOk result (IsTangle layout.now image.now) }

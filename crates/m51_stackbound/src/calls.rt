@@ -2,7 +2,7 @@
 ghost use Rattle.std.specs.Prelude.{◌≡◌, ◌<◌, ℕ, length, IfOk, OnOk};
 ghost use Rattle.m51_module.specs.Kept.{AreEmptyRows};
 ghost use Rattle.m51_module.specs.declared.start.Start.TheVariants.{At};
-ghost use Rattle.m51_stackbound.specs.Callers.{AreRowsOf, call_from, calls_of, with_call};
+ghost use Rattle.m51_stackbound.specs.Callers.{AreCallsOf, AreRowsOf, call_from, calls_of, with_call};
 
 use crate::following::call_of;
 use crate::marks::ADDRESSES;
@@ -43,8 +43,8 @@ fn call_from(point: &Point, called: Option<u16>) -> Option<Call>
     }
 }
 
-/// The calls that points give, in the order of the points.
-pub(crate) fn calls_of(
+// The calls that points give, in the order of the points.
+fn calls_in_order(
     alloc: Global,
     layout: &Layout,
     image: &Image,
@@ -59,6 +59,21 @@ pub(crate) fn calls_of(
             None => {}
         }
     }
+    Ok(calls)
+}
+
+/// The calls that points give, the last one first: a search finds a start before those that it calls, and depths rise
+/// from these.
+pub(crate) fn calls_of(
+    alloc: Global,
+    layout: &Layout,
+    image: &Image,
+    points: &[Point],
+) -> Result<Vec<Call>, NoMemory>
+    ensures { IfOk result (λ calls. AreCallsOf layout.now image.now points.now calls.items) }
+{
+    let mut calls = calls_in_order(alloc, layout, image, points)?;
+    calls.reverse();
     Ok(calls)
 }
 

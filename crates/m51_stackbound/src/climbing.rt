@@ -1,7 +1,7 @@
 //! Depths: how many bytes of stack a start and what it calls take at most.
 ghost use Rattle.std.specs.Prelude.{◌≡◌, ◌<◌, ◌≤◌, ℕ, length, nat_lt, slice_index, IfOk};
 ghost use Rattle.std.specs.List.{Contains, list_any};
-ghost use Rattle.m51_stackbound.specs.Callers.{calls_of};
+ghost use Rattle.m51_stackbound.specs.Callers.{AreCallsOf};
 ghost use Rattle.m51_stackbound.specs.Climb.{depth_in, depth_by, AreCalls, AreTaken, AreSettled, IsBlank, IsClimbing};
 ghost use Rattle.m51_stackbound.specs.Climb.{IsRaised, Raises};
 ghost use Rattle.m51_stackbound.specs.Points.{IsPoint};
@@ -97,7 +97,7 @@ fn raise_all(layout: &Layout, image: &Image, calls: &[Call], depths: &mut [u16])
 // Raises depths until they are settled: once by all points, and then by calls.
 fn settle(layout: &Layout, image: &Image, points: &[Point], calls: &[Call], depths: &mut [u16])
     requires points { ArePoints layout.now image.now points.now }
-    requires calls { calls.now ≡ calls_of layout.now image.now points.now }
+    requires calls { AreCallsOf layout.now image.now points.now calls.now }
     requires depths { AreTaken layout.now image.now depths.old }
     ensures { AreSettled layout.now image.now points.now depths.new }
 {
@@ -123,7 +123,7 @@ pub(crate) fn depths_of(
     calls: &[Call],
 ) -> Result<Vec<u16>, NoMemory>
     requires points { ArePoints layout.now image.now points.now }
-    requires calls { calls.now ≡ calls_of layout.now image.now points.now }
+    requires calls { AreCallsOf layout.now image.now points.now calls.now }
     ensures { IfOk result (λ depths. AreSettled layout.now image.now points.now depths.items) }
 {
     let mut depths = blank_depths(alloc, STARTS)?;

@@ -1,7 +1,7 @@
 //! Starts that call themselves, directly or through others.
 ghost use Rattle.std.specs.Prelude.{◌≡◌, ◌↔◌, IfOk, IsTrue, length};
 ghost use Rattle.m51_stackbound.specs.Bounds.{HasFirstCyclic};
-ghost use Rattle.m51_stackbound.specs.Callers.{AreCleared, Leads, calls_of};
+ghost use Rattle.m51_stackbound.specs.Callers.{AreCallsOf, AreCleared, Leads};
 ghost use Rattle.m51_stackbound.specs.Climb.{AreSettled};
 ghost use Rattle.m51_stackbound.specs.Search.{ArePoints};
 
@@ -37,7 +37,7 @@ pub(crate) fn first_cyclic(
     depths: &[u16],
 ) -> Result<Option<Start>, NoMemory>
     requires points { ArePoints layout.now image.now points.now }
-    requires calls { calls.now ≡ calls_of layout.now image.now points.now }
+    requires calls { AreCallsOf layout.now image.now points.now calls.now }
     requires depths { AreSettled layout.now image.now points.now depths.now }
     ensures { IfOk result (HasFirstCyclic layout.now image.now) }
 {

@@ -7,8 +7,8 @@ use Rattle.m51_stackbound.specs.declared.point.Point.{Point}
 use Rattle.m51_stackbound.specs.Callers.{call_from, calls_of}
 use Rattle.m51_stackbound.specs.Points.{call_of, point_at}
 use Rattle.m51_stackbound.proofs.CallRows.{calls_more}
-use Rattle.m51_stackbound.proofs.calls.calls_of.Goals as goal
-use Rattle.m51_stackbound.proofs.calls.calls_of.Goals.{in-Some+in_ok-push-in-Some, in-None}
+use Rattle.m51_stackbound.proofs.calls.calls_in_order.Goals as goal
+use Rattle.m51_stackbound.proofs.calls.calls_in_order.Goals.{in-Some+in_ok-push-in-Some, in-None}
 
 pub loop-point-preserved : goal.loop-point-preserved
 loop-point-preserved c =

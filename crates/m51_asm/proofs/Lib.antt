@@ -7,6 +7,7 @@ pub mod DefinedLines
 pub mod RenumberedValues
 pub mod OneAnswer
 pub mod LocatedValues
+pub mod FewNames
 pub mod GrowingValues
 pub mod SeenValues
 pub mod KeptMeanings

@@ -20,6 +20,7 @@ pub mod AnswerRows
 pub mod Answer
 pub mod AnswerLaws
 pub mod Located
+pub mod FewNames
 pub mod LineFaults
 pub mod ValuesAbove
 pub mod Above

@@ -1,11 +1,12 @@
 //! What operands count as where they may have no base but an absolute one.
-ghost use Rattle.std.specs.Prelude.{◌≡◌, IfOk};
+ghost use Rattle.std.specs.Prelude.{◌≡◌, ◌≤◌, IfOk};
 ghost use Rattle.m51_expr.specs.Tree.{tree_of};
 ghost use Rattle.m51_expr.specs.Evaluation.{value_of};
 ghost use Rattle.m51_expr.specs.Value.{counted};
 ghost use Rattle.m51_cells.specs.Outcome.{and_then};
 ghost use Rattle.m51_expr.specs.Meanings.{is_unplaced, as_number};
 ghost use Rattle.m51_asm.specs.Assignment.{numbered};
+ghost use Rattle.m51_asm.specs.FewNames.{names_in};
 ghost use Rattle.m51_asm.specs.Located.{origin_base, located_value, located};
 
 use crate::tables::evaluate;
@@ -63,6 +64,7 @@ pub(crate) fn numbered<P: Places>(
     names: &P,
     e: &Expr,
 ) -> Result<Result<u16, ExprError>, NoMemory>
+    requires { names_in (tree_of e.now) ≤ 254 }
     ensures { IfOk result (λ number. number ≡ numbered (P.meanings names.now) (tree_of e.now)) }
 {
     let value = evaluate(alloc, names, e)?;

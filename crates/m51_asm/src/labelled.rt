@@ -1,8 +1,9 @@
 //! What names mean with the label of a line, and the form of its JMP or CALL.
-ghost use Rattle.std.specs.Prelude.{◌≡◌, option_map, IfOk};
+ghost use Rattle.std.specs.Prelude.{◌≡◌, ◌≤◌, option_map, IfOk};
 ghost use Rattle.std.specs.Str.{bytes_eq};
 ghost use Rattle.m51_expr.specs.Tree.{tree_of};
 ghost use Rattle.m51_stmt.specs.Statement.{body_tree};
+ghost use Rattle.m51_asm.specs.FewNames.{names_in, HasFewNames};
 ghost use Rattle.m51_asm.specs.Fitting.{verb_of, form_by};
 ghost use Rattle.m51_asm.specs.Fitting as word;
 ghost use Rattle.m51_asm.specs.LabelledNames.{or_label};
@@ -88,6 +89,7 @@ fn form_of_verb<P: Places>(
     verb: Option<Verb>,
     target: &Expr,
 ) -> Result<Jump, NoMemory>
+    requires { names_in (tree_of target.now) ≤ 254 }
     ensures { IfOk result (λ form. form ≡ word.form_to (P.meanings names.now) verb (tree_of target.now)) }
 {
     match verb {
@@ -98,6 +100,7 @@ fn form_of_verb<P: Places>(
 
 /// The form of the JMP or CALL of a line; any other line counts as long. The only error is out of memory.
 pub(crate) fn form_of<P: Places>(alloc: Global, names: &P, body: &Body) -> Result<Jump, NoMemory>
+    requires { HasFewNames (body_tree body.now) }
     ensures { IfOk result (λ form. form ≡ form_by (P.meanings names.now) (body_tree body.now)) }
 {
     match body {

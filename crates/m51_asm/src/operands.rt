@@ -5,6 +5,7 @@ ghost use Rattle.m51_expr.specs.Tree.{tree_of};
 ghost use Rattle.m51_expr.specs.Evaluation.{value_of};
 ghost use Rattle.m51_stmt.specs.Statement.{body_tree};
 ghost use Rattle.m51_asm.specs.Assignment.{value_or_none};
+ghost use Rattle.m51_asm.specs.FewNames.{HasFewNames};
 ghost use Rattle.m51_asm.specs.Fitting.{bank_by, with_class};
 ghost use Rattle.m51_asm.specs.PlacedFaults.{is_short, is_address, fault_in, address_fault, bank_fault};
 ghost use Rattle.m51_asm.specs.GivenValues.{expression_given};
@@ -189,6 +190,7 @@ pub(crate) fn evaluate_operand<P: Places>(
     is_segment: bool,
     body: &Body,
 ) -> Result<Evaluated, NoMemory>
+    requires { HasFewNames (body_tree body.now) }
     ensures { IfOk result (λ o. IsOperand
         (operand_fault_by (P.meanings names.now) is_segment (body_tree body.now))
         (operand_number (P.meanings names.now) (body_tree body.now))

@@ -2,6 +2,7 @@
 ghost use Rattle.std.specs.Prelude.{◌≡◌, ◌<◌, ◌≤◌, ◌+◌, ℕ, suc, None, Some, List, false, map, slice_get, IfOk};
 ghost use Rattle.m51_stmt.specs.Statement.{body_tree};
 ghost use Rattle.m51_text.specs.Answer.{LineTree, line_tree};
+ghost use Rattle.m51_asm.specs.FewNames.{HasFewNames};
 ghost use Rattle.m51_asm.specs.Assignment.{Assignment, body_at};
 ghost use Rattle.m51_asm.specs.Fitting.{externals_in, Fits, mod51};
 ghost use Rattle.m51_asm.specs.Repeats.{is_repeated};
@@ -74,6 +75,7 @@ pub(crate) fn told_of(
 ) -> Result<Told, NoMemory>
     requires within { k < 65536 }
     requires line { slice_get (map line_tree text.now.lines.now) k ≡ Some (line_tree line.now) }
+    requires few { HasFewNames (body_tree line.now.stmt.body) }
     requires names { IsTableOf (map line_tree text.now.lines.now) text.now.names.now }
     requires predefined { text.now.mod51 ≡ mod51 (map line_tree text.now.lines.now) }
     ensures { IfOk result (λ t. (a : Assignment) → Fits (map line_tree text.now.lines.now) a

@@ -2,6 +2,7 @@
 ghost use Rattle.std.specs.Prelude.{◌≡◌, ◌<◌, suc, Some, false, map, slice_get, IfOk};
 ghost use Rattle.m51_stmt.specs.Statement.{body_tree};
 ghost use Rattle.m51_text.specs.Answer.{line_tree};
+ghost use Rattle.m51_asm.specs.FewNames.{HasFewNames};
 ghost use Rattle.m51_asm.specs.Assignment.{Assignment};
 ghost use Rattle.m51_asm.specs.Fitting.{Fits, mod51};
 ghost use Rattle.m51_asm.specs.PlacedFaults.{is_misplaced};
@@ -71,6 +72,7 @@ pub(crate) fn step(
 ) -> Result<LineOutcome, NoMemory>
     requires within { k < 65536 }
     requires line { slice_get (map line_tree text.now.lines.now) k ≡ Some (line_tree line.now) }
+    requires few { HasFewNames (body_tree line.now.stmt.body) }
     requires names { IsTableOf (map line_tree text.now.lines.now) text.now.names.now }
     requires predefined { text.now.mod51 ≡ mod51 (map line_tree text.now.lines.now) }
     requires once { is_repeated (map line_tree text.now.lines.now) k ≡ false }

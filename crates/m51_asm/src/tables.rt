@@ -6,6 +6,7 @@ ghost use Rattle.m51_expr.specs.Evaluation.{value_of};
 ghost use Rattle.m51_asm.specs.ObjectSegments.{place_in, local_number};
 ghost use Rattle.m51_asm.specs.Located.{id_at, ids_in, base_ids, value_ids, if_there, has_base};
 ghost use Rattle.m51_asm.specs.Located.{origin_base, located_value, located, local, global, global_value, IsTable};
+ghost use Rattle.m51_asm.specs.FewNames.{names_in};
 ghost use Rattle.m51_asm.specs.ObjectMeanings.{object_base, object_value};
 ghost use Rattle.m51_encode.specs.JumpForm.{jump_form_of};
 
@@ -224,40 +225,35 @@ fn global(table: &[usize], value: Result<Value, ExprError>) -> Result<Located, E
     }
 }
 
-/// The value of an expression over all segments of a text, or its fault.
-///
-/// An expression of a line names at most 127 segments; one of more than 254 names is answered as out of memory.
+/// The value of an expression of at most 254 names over all segments of a text, or its fault. The only error is out of
+/// memory.
 pub(crate) fn evaluate<P: Places>(
     alloc: Global,
     names: &P,
     e: &Expr,
 ) -> Result<Result<Located, ExprError>, NoMemory>
+    requires { names_in (tree_of e.now) ≤ 254 }
     ensures { IfOk result (λ value. located value ≡ value_of (P.meanings names.now) (tree_of e.now)) }
 {
     let origins = origins_of(alloc, names, e)?;
     let table = origins.as_slice();
-    if table.len() > 255 {
-        return Err(NoMemory);
-    }
     let value = value_of(e, &Local { names, table });
     Ok(global(front(table), value))
 }
 
-/// The form of a JMP or CALL to an expression.
+/// The form of a JMP or CALL to an expression of at most 254 names.
 pub(crate) fn form_to<P: Places>(
     alloc: Global,
     names: &P,
     verb: Verb,
     target: &Expr,
 ) -> Result<Jump, NoMemory>
+    requires { names_in (tree_of target.now) ≤ 254 }
     ensures { IfOk result (λ form. form
         ≡ jump_form_of (P.meanings names.now) verb (value_of (P.meanings names.now) (tree_of target.now))) }
 {
     let origins = origins_of(alloc, names, target)?;
     let table = origins.as_slice();
-    if table.len() > 255 {
-        return Err(NoMemory);
-    }
     let local = Local { names, table };
     Ok(jump_form(&local, verb, value_of(target, &local)))
 }

@@ -3,6 +3,7 @@
 ghost use Rattle.std.specs.Prelude.{◌≡◌, ◌<◌, map, is_some, option_map, IfOk};
 ghost use Rattle.m51_stmt.specs.Statement.{body_tree};
 ghost use Rattle.m51_text.specs.Answer.{line_tree};
+ghost use Rattle.m51_asm.specs.FewNames.{HasFewNames};
 ghost use Rattle.m51_asm.specs.Filled.{saturated};
 ghost use Rattle.m51_asm.specs.Fitting.{form_by, size_by, bank_by};
 ghost use Rattle.m51_asm.specs.GivenValues.{expression_given};
@@ -64,7 +65,8 @@ pub(crate) fn tell<P: Places>(
     segment: OpenSegment,
     body: &Body,
 ) -> Result<Told, NoMemory>
-    requires { k < 65536 }
+    requires within { k < 65536 }
+    requires few { HasFewNames (body_tree body.now) }
     ensures form { IfOk result (λ t. t.form ≡ form_by (with_label (P.meanings names.now) label) (body_tree body.now)) }
     ensures here { IfOk result (λ t. located_value t.here ≡ (P.meanings names.now).here) }
     ensures size { IfOk result (λ t. t.size ≡ saturated (size_by (P.meanings names.now) t.form (body_tree body.now))) }

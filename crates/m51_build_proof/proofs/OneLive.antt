@@ -6,7 +6,7 @@ use Rattle.m51_isa.specs.declared.instr.Instr.{Instr}
 use Rattle.m51_isa.specs.Table.{length_of}
 use Rattle.m51_flat.specs.declared.state.Cpu.{Cpu}
 use Rattle.m51_flat.specs.declared.state.Effect.{Effect}
-use Rattle.m51_flat.specs.Outcome.{Outcome as StepOutcome}
+use Rattle.m51_flat.specs.declared.state.Outcome.{Outcome as StepOutcome}
 use Rattle.m51_flat.specs.declared.state.Pins.{Pins}
 use Rattle.m51_flat.specs.declared.state.Source.{Source}
 use Rattle.m51_flat.specs.declared.state.Transfer.{Transfer}

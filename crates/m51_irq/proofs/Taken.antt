@@ -3,7 +3,8 @@ use Rattle.std.proofs.Common.{◌≡◌, ℕ, ◌+◌, ◌/◌, ◌%◌, Bool, f
 use Rattle.m51_cells.specs.declared.cell.Cell.{Cell}
 use Rattle.m51_flat.specs.declared.state.Cpu.{Cpu}
 use Rattle.m51_flat.specs.declared.state.Effect.{Effect}
-use Rattle.m51_flat.specs.Outcome.{Outcome, Done}
+use Rattle.m51_flat.specs.declared.state.Outcome.{Outcome}
+use Rattle.m51_flat.specs.declared.state.Outcome.TheVariants.{Done}
 use Rattle.m51_flat.specs.declared.state.Put.TheVariants.{Byte}
 use Rattle.m51_flat.specs.declared.state.Source.{Source}
 use Rattle.m51_flat.specs.DeviceLaws.{IsStacked}

@@ -1,7 +1,8 @@
 //! Taking an interrupt.
 ghost use Rattle.std.specs.Prelude.{◌≡◌, ◌<◌, false, length};
 ghost use Rattle.m51_cells.specs.declared.cell.Cell.{Cell};
-ghost use Rattle.m51_flat.specs.Outcome.{Done, outcome_by};
+ghost use Rattle.m51_flat.specs.declared.state.Outcome.TheVariants.{Done};
+ghost use Rattle.m51_flat.specs.Outcome.{outcome_by};
 ghost use Rattle.m51_flat.specs.Causes.{IsCause};
 ghost use Rattle.m51_flat.specs.Laws.{HasParity, IfDone};
 ghost use Rattle.m51_irq.specs.Vectoring.{IsVectoring, acknowledged, cleared, edge_cleared, entered, interrupted};

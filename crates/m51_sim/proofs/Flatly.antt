@@ -5,7 +5,7 @@ use Rattle.m51_isa.specs.declared.instr.Instr.{Instr}
 use Rattle.m51_flat.specs.declared.state.Cpu.{Cpu}
 use Rattle.m51_flat.specs.declared.state.Pins.{Pins}
 use Rattle.m51_flat.specs.declared.state.Effect.{Effect}
-use Rattle.m51_flat.specs.Outcome.{Done, PowerDown}
+use Rattle.m51_flat.specs.declared.state.Outcome.TheVariants.{Done, PowerDown}
 use Rattle.m51_flat.specs.Causes.{unless_down}
 use Rattle.m51_flat.specs.Flat.{FlatBytes, filled_cells, flat_cells}
 use Rattle.m51_flat.specs.Reads.{CellMap, result_over}

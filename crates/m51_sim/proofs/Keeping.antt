@@ -12,8 +12,8 @@ use Rattle.m51_module.specs.declared.parts.LayoutParts.{LayoutParts}
 use Rattle.m51_module.specs.Sound.{IsSound}
 use Rattle.m51_flat.specs.declared.state.Cpu.{Cpu}
 use Rattle.m51_flat.specs.declared.state.Effect.{Effect}
-use Rattle.m51_flat.specs.Outcome.{Outcome}
-use Rattle.m51_flat.specs.Outcome as outcome
+use Rattle.m51_flat.specs.declared.state.Outcome.{Outcome}
+use Rattle.m51_flat.specs.declared.state.Outcome.TheVariants as outcome
 use Rattle.m51_flat.specs.declared.state.Pins.{Pins}
 use Rattle.m51_flat.specs.Meaning.{plan_of, unless_shut}
 use Rattle.m51_flat.specs.Flags.{pd}

@@ -4,8 +4,8 @@ use Rattle.m51_cells.specs.declared.cell.Cell.{Cell}
 use Rattle.m51_cells.specs.Cells.{IsDataCell}
 use Rattle.m51_flat.specs.declared.state.Cpu.{Cpu}
 use Rattle.m51_flat.specs.declared.state.Effect.{Effect}
-use Rattle.m51_flat.specs.Outcome.{Outcome}
-use Rattle.m51_flat.specs.Outcome as outcome
+use Rattle.m51_flat.specs.declared.state.Outcome.{Outcome}
+use Rattle.m51_flat.specs.declared.state.Outcome.TheVariants as outcome
 use Rattle.m51_flat.specs.declared.state.Transfer.{Transfer}
 use Rattle.m51_flat.specs.declared.state.Transfer.TheVariants.{Call, Vector}
 use Rattle.m51_flat.specs.Laws.{IfDone}

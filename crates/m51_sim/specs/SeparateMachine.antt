@@ -11,8 +11,8 @@ use Rattle.m51_module.specs.declared.parts.LayoutParts.{LayoutParts}
 use Rattle.m51_flat.specs.declared.state.Cpu.{Cpu}
 use Rattle.m51_flat.specs.declared.state.Pins.{Pins}
 use Rattle.m51_flat.specs.declared.state.Effect.{Effect}
-use Rattle.m51_flat.specs.Outcome.{Outcome}
-use Rattle.m51_flat.specs.Outcome as outcome
+use Rattle.m51_flat.specs.declared.state.Outcome.{Outcome}
+use Rattle.m51_flat.specs.declared.state.Outcome.TheVariants as outcome
 use Rattle.m51_flat.specs.Meaning.{outcome_of}
 use Rattle.m51_flat.specs.States.{States}
 use Rattle.m51_irq.specs.Vectoring.{vectored}

@@ -1,6 +1,8 @@
 use Rattle.std.proofs.Common.{◌≡◌, ◌<◌, map, length, ap, sym, subst, ◌∙◌, add-one, arith}
 use Rattle.std.proofs.lemmas.List.{length-map}
 use Rattle.m51_text.specs.Answer.{line_tree}
+use Rattle.m51_asm.specs.Assignment.{body_of}
+use Rattle.m51_asm.specs.FewNames.{HasFewNames}
 use Rattle.m51_asm.specs.Placing.{IsLineOutcome}
 use Rattle.m51_asm.specs.Passing.{ArePlaces, IsPassedTo}
 use Rattle.m51_asm.proofs.ReadLines.{line_at}
@@ -26,6 +28,12 @@ pub step-requires-clause-line : goal.step-requires-clause-line
 step-requires-clause-line c =
     let within : c.loop-k.k < length c.args.text.now.lines.now = omega arith in
     line_at c.args.text.now.lines.now c.loop-k.k c.index-lines-k.result within c.index-lines-k.is
+
+pub step-requires-clause-few : goal.step-requires-clause-few
+step-requires-clause-few c =
+    let within : c.loop-k.k < length c.args.text.now.lines.now = omega arith in
+    subst HasFewNames (ap body_of (line_at c.args.text.now.lines.now c.loop-k.k c.index-lines-k.result within c.index-lines-k.is))
+    (c.requires.named c.loop-k.k)
 
 pub loop-k-preserved : goal.loop-k-preserved
 loop-k-preserved c = λ a f.

@@ -1,8 +1,9 @@
-use Rattle.std.proofs.Common.{rules, ◌≡◌, ◌++◌, take, ℕ, List, ap, ◌∙◌, arith}
+use Rattle.std.proofs.Common.{rules, ◌≡◌, ◌++◌, take, ℕ, List, ap, ◌∙◌}
 use Rattle.m51_expr.specs.Tree.{Tree, tree_of}
 use Rattle.m51_expr.specs.Meanings.{Meanings}
 use Rattle.m51_encode.specs.JumpForm.{jump_form_of}
 use Rattle.m51_asm.specs.Located.{ids_in, base_ids, local, IsEnough}
+use Rattle.m51_asm.proofs.FewNames.{table_few}
 use Rattle.m51_asm.proofs.LocatedValues.{front_enough}
 use Rattle.m51_asm.proofs.tables.form_to.Goals as goal
 
@@ -12,6 +13,5 @@ returns g c =
     let e : Tree = tree_of c.args.target.now in
     let table : List ℕ = c.as_slice-table.result.now in
     let is : table ≡ base_ids names.here.base ++ ids_in names e = search rules in
-    let h = c.if-table-gt255.false in
-    let enough : IsEnough names (take 255 table) e = front_enough names table e is (omega (arith, h)) in
+    let enough : IsEnough names (take 255 table) e = front_enough names table e is (table_few names e table is c.requires) in
     c.jump_form.ensures ∙ ap (jump_form_of (local names (take 255 table)) c.args.verb) c.value_of.ensures ∙ enough.form c.args.verb

@@ -1,5 +1,1 @@
-mod Counted
 mod OneUnitSound
-mod Sound
-mod SoundTests
-mod ThreeRoots

@@ -1,6 +1,6 @@
 use Rattle.std.proofs.Common.{◌∙◌, arith, sym}
-use Rattle.m51_machine_cases.proofs.Counted.{counted}
-use Rattle.m51_machine_cases.proofs.monitor_run.taken_after.Goals as goal
+use Rattle.m51_cases.proofs.Counted.{counted}
+use Rattle.m51_cases.proofs.monitor_run.taken_after.Goals as goal
 
 pub taken_by-requires : goal.taken_by-requires
 taken_by-requires c = omega (arith, c.depth-depth.ensures.records.levels, c.requires.counted)

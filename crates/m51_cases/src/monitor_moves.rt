@@ -1,6 +1,6 @@
 //! Lists of moves over a layout with three roots, and what is live and written after each. All of it is worked by hand.
 use crate::monitor_run::{Act, Run, Spot};
-use crate::rows::{at, byte, digit};
+use m51_cells::digit_value;
 use m51_flat::Source;
 use m51_monitor::Move;
 use std::alloc::Global;
@@ -79,9 +79,19 @@ fn spot(letter: u8) -> Spot {
     Spot { pc, sp }
 }
 
+// The byte of a row.
+fn at(row: &[u8], index: usize) -> u8 {
+    row.get(index).copied().unwrap_or(0)
+}
+
+// The digit of a table's row.
+fn digit(row: &[u8], index: usize) -> u8 {
+    digit_value(at(row, index)).unwrap_or(0)
+}
+
 // What the step of a row does.
 fn act(row: &[u8]) -> Act {
-    let address = byte(row, 3);
+    let address = digit(row, 3).wrapping_mul(16).wrapping_add(digit(row, 4));
     match at(row, 2) {
         b'c' => Act::Call,
         b'j' => Act::Jump,

@@ -1,7 +1,6 @@
 //! Transfers of control for which two or three rules of the table fail, and which of them comes first.
 use crate::monitor_run::{Act, Run, Spot};
-use crate::rows::{at, byte};
-use m51_cells::{Event, NoMemory, Why};
+use m51_cells::{Event, NoMemory, Why, digit_value};
 use m51_flat::Source;
 use std::alloc::Global;
 
@@ -37,6 +36,18 @@ I 03 42 reti 90 40 WrongAddress PastEnd
 C 50 42 lost 1B 43 NoHandler SpBelow
 I 03 42 lost 1B 43 NoHandler SpBelow
 I 03 42 tick 03 43 RootBusy SpBelow";
+
+// The byte of a row.
+fn at(row: &[u8], index: usize) -> u8 {
+    row.get(index).copied().unwrap_or(0)
+}
+
+// The byte of two digits of a table's row.
+fn byte(row: &[u8], index: usize) -> u8 {
+    let high = digit_value(at(row, index)).unwrap_or(0);
+    let low = digit_value(at(row, index.saturating_add(1))).unwrap_or(0);
+    high.wrapping_mul(16).wrapping_add(low)
+}
 
 // An address and SP of a table's row.
 fn spot(row: &[u8], index: usize) -> Spot {

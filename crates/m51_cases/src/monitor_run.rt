@@ -3,7 +3,7 @@ ghost use Rattle.std.specs.Prelude.{◌≡◌, ◌<◌, ◌≤◌, ℕ, true};
 ghost use Rattle.m51_monitor.specs.Monitored.{HasAddress, HasLevel, Monitored, WasJudged};
 ghost use Rattle.m51_monitor.specs.Rising.{interrupts};
 ghost use Rattle.m51_monitor.specs.Transfers.{moved};
-ghost use Rattle.m51_machine_cases.specs.Taken.{taken_by};
+ghost use Rattle.m51_cases.specs.Taken.{taken_by};
 
 use crate::monitor_layout::monitor;
 use m51_cells::{Cell, Event, NoMemory, Space};

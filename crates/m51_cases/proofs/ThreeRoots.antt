@@ -2,8 +2,8 @@
 use Rattle.std.proofs.Common.{◌≡◌, ℕ, refl, arith}
 use Rattle.m51_module.specs.Plan.{IsRootAt}
 use Rattle.m51_module.specs.Sound.{IsSound}
-use Rattle.m51_machine_cases.specs.Layouts.{root, three_roots, vectors_of_units}
-use Rattle.m51_machine_cases.proofs.Sound.{sound_by_tests}
+use Rattle.m51_cases.specs.Layouts.{root, three_roots, vectors_of_units}
+use Rattle.m51_cases.proofs.Sound.{sound_by_tests}
 
 pub three_roots_root : IsRootAt three_roots 0 0
 three_roots_root = record {

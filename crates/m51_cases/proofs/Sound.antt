@@ -30,7 +30,7 @@ use Rattle.m51_module.proofs.Reach.{reach_edge}
 use Rattle.m51_monitor.specs.Found.{is_absolute, passes}
 use Rattle.m51_monitor.specs.Stores.{is_in, is_overlaid_at, is_overlaid_mark, is_segment}
 use Rattle.m51_module.proofs.EdgeTests.{edge_tells}
-use Rattle.m51_machine_cases.proofs.SoundTests.{apart_at, are_apart, are_siblings, each_below, each_of, ends_inside, fits, has_owners, is_code_segment, is_leaf, is_no_late_code, is_number, is_owner, is_root_in_place, is_unit_in_order, leads_up, may_share, may_stand, one_or_two}
+use Rattle.m51_cases.proofs.SoundTests.{apart_at, are_apart, are_siblings, each_below, each_of, ends_inside, fits, has_owners, is_code_segment, is_leaf, is_no_late_code, is_number, is_owner, is_root_in_place, is_unit_in_order, leads_up, may_share, may_stand, one_or_two}
 
 or_cases : (a b : Bool) → (a || b) ≡ true → (a ≡ true) ⊎ (b ≡ true)
 or_cases true b e = inl refl

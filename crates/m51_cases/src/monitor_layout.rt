@@ -1,6 +1,6 @@
 //! A layout with three roots.
 ghost use Rattle.std.specs.Prelude.{◌≡◌, [], IfOk};
-ghost use Rattle.m51_machine_cases.specs.Layouts.{local, root, three_roots, unit};
+ghost use Rattle.m51_cases.specs.Layouts.{local, root, three_roots, unit};
 
 use m51_cells::{Kind, ListOf, Name, NoMemory, Reloc};
 use m51_module::{Layout, LayoutParts, Mark, Placed};

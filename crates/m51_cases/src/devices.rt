@@ -1,5 +1,5 @@
 //! Tables of the devices and of interrupts, with values from the family manual.
-use crate::rows::byte;
+use m51_cells::digit_value;
 use m51_flat::{Cpu, Pins, Source, reset};
 use m51_irq::choose;
 use m51_sfr::addresses::{
@@ -99,13 +99,24 @@ const EXTERNALS: &str = "01 FF FB 03
 00 FF F7 08
 08 F7 FF 00";
 
-// Which of timer 0 and the serial port is chosen, which both ask: bit 0 of the index is ET0, bit 1 ES, bit 2 EA,
+// What is taken of timer 0 and the serial port, which both ask: bit 0 of the index is ET0, bit 1 ES, bit 2 EA,
 // bit 3 PT0, bit 4 PS, and bit 5 the low level in progress.
 const CHOICES: &[u8] = b"-----TST-----TST-----TSS-----TST-------------T-T------SS-----TST";
 
-// The byte of that index of a table's row, in which each byte is two hexadecimal digits with a blank after them.
+// The value of the digit at a place of a row; 0 where there is none.
+fn digit(row: &[u8], place: usize) -> u8 {
+    match row.get(place) {
+        Some(byte) => digit_value(*byte).unwrap_or(0),
+        None => 0,
+    }
+}
+
+// The byte of that number in a row, in which each byte is two hexadecimal digits with a blank after them.
 fn at(row: &[u8], index: usize) -> u8 {
-    byte(row, index.saturating_mul(3))
+    let place = index.saturating_mul(3);
+    let high = digit(row, place);
+    let low = digit(row, place.saturating_add(1));
+    high.wrapping_mul(16).wrapping_add(low)
 }
 
 // The levels of the ports, where all pins but these are high.
@@ -274,7 +285,7 @@ fn a_byte_takes_its_bit_times_at_each_rate(rt: HostRuntime) {
     }
 }
 
-// Which of two sources that ask is chosen, by the bits of the index.
+// What is taken of two sources that ask, by the bits of the index.
 fn choice_of(index: u8) -> u8 {
     let enables = (if index & 0x01 != 0 { 0x02 } else { 0 })
         | (if index & 0x02 != 0 { 0x10 } else { 0 });

@@ -9,7 +9,7 @@ use Rattle.m51_monitor.specs.Monitored.{Monitored, WasJudged}
 use Rattle.m51_monitor.specs.Rising.{interrupts}
 use Rattle.m51_monitor.specs.Transfers.{moved}
 use Rattle.m51_monitor.proofs.Levels.{interrupts_are_counted}
-use Rattle.m51_machine_cases.specs.Taken.{taken_by}
+use Rattle.m51_cases.specs.Taken.{taken_by}
 
 by_transfer : (t : Transfer) (taken after : ℕ) → CountsInterrupts t taken after → taken_by t taken ≡ after
 by_transfer Next taken after e = sym e

@@ -1,0 +1,4 @@
+pub mod Counted
+pub mod Sound
+pub mod SoundTests
+pub mod ThreeRoots

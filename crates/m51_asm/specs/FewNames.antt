@@ -1,8 +1,9 @@
--- How many names the expressions of a line have that pass 1 evaluates. Each names a segment at most, so that a table of
--- 255 segments is enough for it.
+-- How many names the expressions of a line have that pass 1 evaluates. Each names at most one segment, so a table of 255
+-- segments is enough for it.
 use Rattle.std.specs.Prelude.{ℕ, ◌+◌, ◌≤◌, List, [], ◌∷◌, Some}
 use Rattle.m51_expr.specs.Tree.{Tree, Name, One, Two}
-use Rattle.m51_stmt.specs.Statement.{BodyTree, OperandTree, Plain, Code, Ds, Dbit, Org, Using, Select, Equ, Set, Address}
+use Rattle.m51_stmt.specs.Statement.{BodyTree, OperandTree, Plain, Code, Ds, Dbit, Org, Using, Select, Equ, Set}
+use Rattle.m51_stmt.specs.Statement.{Address}
 
 abbrev pub names_in : Tree → ℕ
 names_in (Name name) = 1

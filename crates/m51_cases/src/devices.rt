@@ -99,7 +99,7 @@ const EXTERNALS: &str = "01 FF FB 03
 00 FF F7 08
 08 F7 FF 00";
 
-// What is taken of timer 0 and the serial port, which both ask: bit 0 of the index is ET0, bit 1 ES, bit 2 EA,
+// Which of timer 0 and the serial port is chosen, which both ask: bit 0 of the index is ET0, bit 1 ES, bit 2 EA,
 // bit 3 PT0, bit 4 PS, and bit 5 the low level in progress.
 const CHOICES: &[u8] = b"-----TST-----TST-----TSS-----TST-------------T-T------SS-----TST";
 
@@ -111,7 +111,7 @@ fn digit(row: &[u8], place: usize) -> u8 {
     }
 }
 
-// The byte of that number in a row, in which each byte is two hexadecimal digits with a blank after them.
+// The byte of that index of a table's row, in which each byte is two hexadecimal digits with a blank after them.
 fn at(row: &[u8], index: usize) -> u8 {
     let place = index.saturating_mul(3);
     let high = digit(row, place);
@@ -285,7 +285,7 @@ fn a_byte_takes_its_bit_times_at_each_rate(rt: HostRuntime) {
     }
 }
 
-// What is taken of two sources that ask, by the bits of the index.
+// Which of two sources that ask is chosen, by the bits of the index.
 fn choice_of(index: u8) -> u8 {
     let enables = (if index & 0x01 != 0 { 0x02 } else { 0 })
         | (if index & 0x02 != 0 { 0x10 } else { 0 });

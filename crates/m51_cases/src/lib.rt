@@ -1,9 +1,7 @@
-//! Tests of what no verb reaches: devices by the tables of the manual, the monitor and files of the system. It is no part
-//! of the product.
+//! Tests of what no verb reaches of devices and of the monitor: devices by the tables of the manual, moves and
+//! transfers. It is no part of the product.
 #![tactic(auto)]
 
-#[cfg(test)]
-mod calls;
 #[cfg(test)]
 mod devices;
 #[cfg(test)]
@@ -14,7 +12,3 @@ mod monitor_moves;
 mod monitor_run;
 #[cfg(test)]
 mod monitor_table;
-#[cfg(test)]
-mod sure_calls;
-#[cfg(test)]
-mod system_files;

@@ -66,8 +66,8 @@ fn layout_parts(alloc: Global) -> Result<LayoutParts, NoMemory>
 }
 
 /// A layout of three units: one that begins at the reset's vector, and two that it calls, whose locals share the byte
-/// at 08H. The byte at 09H is an argument of the second unit, and belongs to the first one too. Error: out of
-/// memory.
+/// at 08H. The byte at 09H is an argument of the second unit, and belongs to the first one too. The only error is out
+/// of memory.
 ///
 /// Source: own choice ("Samples").
 pub(crate) fn layout(alloc: Global) -> Result<Layout, NoMemory>
@@ -77,7 +77,7 @@ pub(crate) fn layout(alloc: Global) -> Result<Layout, NoMemory>
     Layout::make(alloc, parts)
 }
 
-/// The name that the text writes, in upper case. The text must be a name.
+/// The name that the text writes, in upper case.
 ///
 /// Source: own choice ("Samples").
 pub(crate) fn name(text: &[u8]) -> Name
@@ -165,8 +165,7 @@ pub(crate) fn module(alloc: Global) -> Result<Module, NoMemory>
     Ok(Module::make(parts))
 }
 
-/// A module in version 1 without segments, with one public, the number 0. Both names must be such
-/// as a text can write. The only error is out of memory.
+/// A module in version 1 without segments, with one public, the number 0. The only error is out of memory.
 ///
 /// Source: own choice ("Samples").
 pub(crate) fn module_with(alloc: Global, name: Name, public: Name) -> Result<Module, NoMemory>

@@ -1,122 +1,106 @@
 //! The cases that have a folder each: `args`, `data/`, `status`, `stdout`, `kept/`, and `fails`.
-use crate::answering::answer;
+use crate::answering::{Answer, run};
 use crate::failing::Failure;
-use crate::files::{contents_of, files_in, names_in, text_of};
+use crate::files::{contents_of, files_in, joined, names_in};
 use crate::report::Report;
-use crate::texts::{not_in_form, number};
-use std::alloc::{AllocError, Global};
-use std::{fs, io};
-
-// The words of a text, a line each.
-fn lines_of(alloc: Global, text: &str) -> Result<Vec<String>, AllocError> {
-    let mut words = Vec::new(alloc);
-    for word in text.lines() {
-        words.push(String::from_str(alloc, word)?)?;
-    }
-    Ok(words)
-}
+use crate::texts::{before, cut, is_row, not_in_form, number, parts_of, words_of};
+use std::io;
 
 // The answer that the case in this folder has, where this goes wrong.
-fn answer_of(rt: &HostRuntime, folder: &str, failure: Failure) -> io::Result<Vec<u8>> {
-    let args = format!(in rt.alloc(); "{folder}/args")?;
-    let args = fs::read_to_string(rt, args.as_str())?;
-    let words = lines_of(rt.alloc(), args.as_str())?;
-    let data = format!(in rt.alloc(); "{folder}/data")?;
-    answer(rt.alloc(), &words, files_in(rt, data.as_str())?, failure)
+fn answer_of(rt: &HostRuntime, folder: &str, failure: Failure) -> io::Result<Answer> {
+    let args = contents_of(rt, folder, "args")?;
+    let words = words_of(rt.alloc(), &args, b"\n")?;
+    run(rt.alloc(), &words, files_in(rt, folder, "data")?, failure)
 }
 
 // The first lines of a text.
 fn first_lines(text: &[u8], count: u32) -> &[u8] {
-    let mut lines = 0u32;
-    for (index, byte) in text.iter().enumerate() {
-        if lines >= count {
-            return text.get(..index).unwrap_or(text);
-        }
-        if *byte == b'\n' {
-            lines = lines.saturating_add(1);
-        }
+    let mut rest = text;
+    for _ in 0..count {
+        let Some((_, more)) = cut(rest, b"\n") else {
+            return text;
+        };
+        rest = more;
     }
-    text
+    text.strip_suffix(rest).unwrap_or(text)
 }
 
-// The answer of this status, after so many lines of the text that the case wants, with the files that it keeps.
-fn wanted_after(rt: &HostRuntime, folder: &str, status: &[u8], lines: u32) -> io::Result<Vec<u8>> {
-    let kept = format!(in rt.alloc(); "{folder}/kept")?;
-    let names = names_in(rt, kept.as_str())?;
-    let mut wanted = status.trim_ascii_end().to_vec(rt.alloc())?;
-    for name in names.iter() {
-        wanted.extend_from_slice(b" > ")?;
-        wanted.extend_from_slice(name.as_bytes())?;
-    }
-    wanted.push(b'\n')?;
-    wanted.extend_from_slice(first_lines(&contents_of(rt, folder, "stdout")?, lines))?;
-    for name in names.iter() {
-        wanted.extend_from_slice(&contents_of(rt, kept.as_str(), name.as_str())?)?;
-    }
-    Ok(wanted)
+// Whether an answer has this status, the first lines of the case's text, and the files that the case keeps.
+fn ends_after(
+    rt: &HostRuntime,
+    folder: &str,
+    answer: &Answer,
+    status: &[u8],
+    lines: u32,
+) -> io::Result<bool> {
+    let kept = files_in(rt, folder, "kept")?;
+    let text = contents_of(rt, folder, "stdout")?;
+    Ok(answer.is(status, first_lines(&text, lines), &kept))
 }
 
-// The answer that the case wants.
-fn wanted_of(rt: &HostRuntime, folder: &str) -> io::Result<Vec<u8>> {
-    let status = contents_of(rt, folder, "status")?;
-    wanted_after(rt, folder, &status, u32::MAX)
+// Whether an answer is the one of the case.
+fn is_wanted(rt: &HostRuntime, folder: &str, answer: &Answer) -> io::Result<bool> {
+    let text = contents_of(rt, folder, "status")?;
+    ends_after(rt, folder, answer, before(&text, b"\n"), u32::MAX)
 }
 
-// The answer of a refusal such as `8 READ FAULT a.a51`.
-fn refusal_of(alloc: Global, status: &str, text: &str) -> Result<Vec<u8>, AllocError> {
-    Ok(format!(in alloc; "{status}\n{text}\n")?.into_bytes())
-}
-
-// The answer that a line of `fails` wants: `same`, a refusal, or `9 after 2 lines`.
-fn wanted_where(rt: &HostRuntime, folder: &str, answer: &str) -> io::Result<Vec<u8>> {
-    let Some((status, text)) = answer.split_once(' ') else {
-        return wanted_of(rt, folder);
+// Whether an answer is the one of a line of `fails`: `same`, a refusal, or `9 after 2 lines`.
+fn is_told(rt: &HostRuntime, folder: &str, answer: &Answer, told: &[u8]) -> io::Result<bool> {
+    let Some((status, text)) = cut(told, b" ") else {
+        return is_wanted(rt, folder, answer);
     };
     match text
-        .strip_prefix("after ")
-        .and_then(|text| text.strip_suffix(" lines"))
+        .strip_prefix(b"after ")
+        .and_then(|text| text.strip_suffix(b" lines"))
     {
         Some(lines) => {
-            let lines = number(lines).unwrap_or(u32::MAX);
-            wanted_after(rt, folder, status.as_bytes(), lines)
+            let lines = number(lines, 10).unwrap_or(u32::MAX);
+            ends_after(rt, folder, answer, status, lines)
         }
-        None => Ok(refusal_of(rt.alloc(), status, text)?),
+        None => Ok(answer.refuses(status, text)),
     }
 }
 
 // Whether the case is answered as its line of `fails` says.
-fn fails_so(rt: &HostRuntime, folder: &str, line: &str) -> io::Result<bool> {
-    let Some((answer, text)) = line.split_once(" = ") else {
+fn fails_so(rt: &HostRuntime, folder: &str, line: &[u8]) -> io::Result<bool> {
+    let Some((told, text)) = cut(line, b" = ") else {
         return Err(not_in_form());
     };
     let Some(failure) = Failure::of(text) else {
         return Err(not_in_form());
     };
-    Ok(answer_of(rt, folder, failure)? == wanted_where(rt, folder, answer)?)
+    let answer = answer_of(rt, folder, failure)?;
+    is_told(rt, folder, &answer, told)
 }
 
 // Runs the lines of `fails` of a case.
 fn run_failing(rt: &HostRuntime, name: &str, folder: &str, report: &mut Report) -> io::Result<()> {
-    let lines = text_of(rt, folder, "fails")?;
-    for line in lines.as_str().lines() {
-        let passed = fails_so(rt, folder, line)?;
-        let name = format!(in rt.alloc(); "{name}, {line}")?;
-        report.count(rt, name.as_str(), passed)?;
+    let text = contents_of(rt, folder, "fails")?;
+    for line in parts_of(rt.alloc(), &text, b"\n")?.iter() {
+        if is_row(*line) {
+            let passed = fails_so(rt, folder, *line)?;
+            report.count(rt, *line, passed)?;
+        }
     }
     Ok(())
+}
+
+// Runs a case, and prints its name if it passed.
+fn run_case(rt: &HostRuntime, name: &str, report: &mut Report) -> io::Result<()> {
+    let folder = joined(rt.alloc(), "cases", "/", name)?;
+    let answer = answer_of(rt, folder.as_str(), Failure::None)?;
+    let passed = is_wanted(rt, folder.as_str(), &answer)?;
+    if passed {
+        println!(rt; "{name}: passed")?;
+    }
+    report.count(rt, name.as_bytes(), passed)?;
+    run_failing(rt, name, folder.as_str(), report)
 }
 
 /// Runs all of them, and prints the name of each that passed.
 pub(crate) fn run_all(rt: &HostRuntime, report: &mut Report) -> io::Result<()> {
     for name in names_in(rt, "cases")? {
-        let folder = format!(in rt.alloc(); "cases/{name}")?;
-        let answer = answer_of(rt, folder.as_str(), Failure::None)?;
-        let passed = answer == wanted_of(rt, folder.as_str())?;
-        if passed {
-            println!(rt; "{name}: passed")?;
-        }
-        report.count(rt, name.as_str(), passed)?;
-        run_failing(rt, name.as_str(), folder.as_str(), report)?;
+        run_case(rt, name.as_str(), report)?;
     }
     Ok(())
 }

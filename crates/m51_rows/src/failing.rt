@@ -1,5 +1,5 @@
 //! What goes wrong in a run: a call of the shelf or of the sink that fails, or pieces of a few bytes.
-use crate::texts::number;
+use crate::texts::{after, before, number};
 use m51_cells::NoMemory;
 use m51_shelf::{MemSink, ShelfCall};
 use std::alloc::{AllocError, Global};
@@ -24,13 +24,12 @@ pub(crate) enum Failure {
 
 impl Failure {
     /// That of a line: `start 2`, `piece 5`, `keep 1`, `write 3`, `room 10`, or `short`.
-    pub(crate) fn of(line: &str) -> Option<Failure> {
-        if line == "short" {
+    pub(crate) fn of(line: &[u8]) -> Option<Failure> {
+        if line == b"short".as_slice() {
             return Some(Failure::Short);
         }
-        let (kind, digits) = line.split_once(' ')?;
-        let number = number(digits)?;
-        match kind {
+        let number = number(after(line, b" "), 10)?;
+        match str::from_utf8(before(line, b" ")).ok()? {
             "start" => Some(Failure::Shelf(ShelfCall::Start, number)),
             "piece" => Some(Failure::Shelf(ShelfCall::Piece, number)),
             "keep" => Some(Failure::Shelf(ShelfCall::Keep, number)),

@@ -5,9 +5,11 @@ mod answering;
 mod cases;
 mod failing;
 mod files;
+mod image;
 mod pieces;
 mod report;
 mod sources;
+mod system;
 mod texts;
 mod words;
 
@@ -22,6 +24,7 @@ fn main(rt: HostRuntime) -> io::Result<()> {
     cases::run_all(&rt, &mut report)?;
     sources::run_all(&rt, &mut report)?;
     words::run_all(&rt, &mut report)?;
+    system::run_all(&rt, &mut report)?;
     let Report { passed, failed } = report;
     println!(rt; "{passed} passed, {failed} failed")?;
     if failed > 0 {

@@ -1,4 +1,4 @@
-//! A shelf in memory that hands out whole files, or 1 to 7 bytes in turn.
+//! A shelf in memory that returns whole files, or 1 to 7 bytes in turn.
 ghost use Rattle.std.specs.Prelude.{◌≤◌, None};
 
 use crate::failing::Failure;
@@ -25,7 +25,7 @@ enum Pieces {
 }
 
 impl Pieces {
-    // The most bytes of the next piece into so much room.
+    // The most bytes of the next piece into a slice of this length.
     fn next(&mut self, room: usize) -> usize
         ensures { result ≤ room }
     {

@@ -1,123 +1,88 @@
 //! The rows of `sources.txt`: a source, and its faults or bytes of its image.
-use crate::answering::answer;
+use crate::answering::{Answer, run};
 use crate::failing::Failure;
+use crate::files::contents_of;
 use crate::report::Report;
-use crate::texts::{byte, not_in_form, put_bytes, repeated};
+use crate::texts::{
+    after, before, braced, cut, has, is_row, not_in_form, number, parts_of, put_bytes, words_of,
+};
 use m51_cells::Bytes;
 use std::alloc::{AllocError, Global};
-use std::{fs, io};
+use std::io;
 
-// The answer that has the faults of a row, as `E14@2, E14@3`.
-fn faults_of(alloc: Global, faults: &str) -> Result<String, AllocError> {
-    let mut text = String::from_str(alloc, "3\n")?;
-    for fault in faults.split(", ") {
-        let (number, line) = fault.split_once('@').unwrap_or((fault, ""));
-        writeln!(text, "a.a51({line}): {number}")?;
+// Puts the line of a fault, as E14@2.
+fn put_fault(to: &mut Vec<u8>, fault: &[u8]) -> Result<(), AllocError> {
+    to.extend_from_slice(b"a.a51(")?;
+    to.extend_from_slice(after(fault, b"@"))?;
+    to.extend_from_slice(b"): ")?;
+    to.extend_from_slice(before(fault, b"@"))?;
+    to.extend_from_slice(b"\n")
+}
+
+// The text that has the faults of a row, as `E14@2, E14@3`.
+fn faults_of(alloc: Global, faults: &[u8]) -> Result<Vec<u8>, AllocError> {
+    let mut text = Vec::new(alloc);
+    for fault in parts_of(alloc, faults, b", ")?.iter() {
+        put_fault(&mut text, *fault)?;
     }
     Ok(text)
 }
 
-// The byte at an address, of the Intel HEX lines of a text.
-fn byte_at(text: &str, address: usize) -> Option<u8> {
-    for line in text.lines() {
-        if line.starts_with(':') {
-            let count = byte(line.get(1..3)?)?;
-            let first = usize::from_str_radix(line.get(3..7)?, 16).ok()?;
-            if first <= address && address - first < count as usize {
-                let at = 9 + 2 * (address - first);
-                return byte(line.get(at..at + 2)?);
-            }
-        }
+// Whether an answer is one of the row.
+fn is_right(alloc: Global, answer: &Answer, wanted: &[u8]) -> io::Result<bool> {
+    if has(wanted, b":") {
+        return answer.has_image(alloc, wanted);
     }
-    None
+    let text = faults_of(alloc, wanted)?;
+    Ok(answer.is(b"3", &text, &[]))
 }
 
-// Whether the lines have the bytes of a part such as 0000:7455.
-fn has_part(text: &str, part: &str) -> Option<bool> {
-    let (at, digits) = part.split_once(':')?;
-    let first = usize::from_str_radix(at, 16).ok()?;
-    if digits.is_empty() || digits.len() % 2 != 0 {
-        return None;
+// Puts a piece such as `32*A` as often as it says.
+fn put_piece(alloc: Global, to: &mut Vec<u8>, piece: &[u8]) -> Result<(), AllocError> {
+    let Some(count) = number(before(piece, b"*"), 10) else {
+        return Ok(());
+    };
+    for _ in 0..count {
+        put_bytes(alloc, to, after(piece, b"*"))?;
     }
-    for offset in 0..digits.len() / 2 {
-        let wanted = byte(digits.get(2 * offset..2 * offset + 2)?)?;
-        if byte_at(text, first.saturating_add(offset))? != wanted {
-            return Some(false);
-        }
-    }
-    Some(true)
+    Ok(())
 }
 
-/// Whether the HEX lines of a text have all parts such as 0000:7455, with commas between them.
-pub(crate) fn is_image(text: &str, parts: &str) -> bool {
-    for part in parts.split(',') {
-        if has_part(text, part) != Some(true) {
-            return false;
-        }
-    }
-    true
+// Puts a line that may have a piece in braces.
+fn put_line(alloc: Global, to: &mut Vec<u8>, line: &[u8]) -> Result<(), AllocError> {
+    put_bytes(alloc, to, before(line, b"{"))?;
+    put_piece(alloc, to, braced(line))?;
+    put_bytes(alloc, to, after(after(line, b"{"), b"}"))?;
+    to.extend_from_slice(b"\n")
 }
 
-// Whether a text is an answer that the row wants.
-fn is_right(alloc: Global, text: &str, wanted: &str) -> Result<bool, AllocError> {
-    if wanted.starts_with('E') {
-        return Ok(text == faults_of(alloc, wanted)?.as_str());
-    }
-    Ok(is_image(text, wanted))
-}
-
-// The lines of a source that are parted by ` / `.
-fn source_of(alloc: Global, text: &str) -> Result<Vec<u8>, AllocError> {
+// The source whose lines are parted by ` / `.
+fn source_of(alloc: Global, text: &[u8]) -> Result<Vec<u8>, AllocError> {
     let mut source = Vec::new(alloc);
-    for line in text.split(" / ") {
-        let (front, rest) = line
-            .split_at_checked(line.find('{').unwrap_or(0))
-            .unwrap_or((line, ""));
-        put_bytes(&mut source, front)?;
-        match repeated(rest) {
-            Some((count, piece, rest)) => {
-                for _ in 0..count {
-                    put_bytes(&mut source, piece)?;
-                }
-                put_bytes(&mut source, rest)?;
-            }
-            None => put_bytes(&mut source, rest)?,
-        }
-        source.push(b'\n')?;
+    for line in parts_of(alloc, text, b" / ")?.iter() {
+        put_line(alloc, &mut source, *line)?;
     }
     Ok(source)
 }
 
-// The answer to the words that build the source.
-fn answer_of(alloc: Global, text: &str) -> io::Result<Vec<u8>> {
-    let mut words = Vec::new(alloc);
-    for word in ["build", "--hex", "a.hex", "--steps", "1", "a.a51"] {
-        words.push(String::from_str(alloc, word)?)?;
-    }
-    let name = b"a.a51".to_vec(alloc)?;
-    let file = (Bytes::of(name), Bytes::of(source_of(alloc, text)?));
-    answer(alloc, &words, vec![in alloc; file]?, Failure::None)
-}
-
 // Whether a row is answered as it says.
-fn passes(alloc: Global, row: &str) -> io::Result<bool> {
-    let Some((wanted, text)) = row.split_once(" = ") else {
+fn passes(alloc: Global, row: &[u8]) -> io::Result<bool> {
+    let Some((wanted, text)) = cut(row, b" = ") else {
         return Err(not_in_form());
     };
-    let answer = answer_of(alloc, text)?;
-    match str::from_utf8(&answer) {
-        Ok(answer) => Ok(is_right(alloc, answer, wanted)?),
-        Err(_) => Ok(false),
-    }
+    let words = words_of(alloc, b"build --hex a.hex --steps 1 a.a51", b" ")?;
+    let source = Bytes::of(source_of(alloc, text)?);
+    let file = (Bytes::of(b"a.a51".to_vec(alloc)?), source);
+    let answer = run(alloc, &words, vec![in alloc; file]?, Failure::None)?;
+    is_right(alloc, &answer, wanted)
 }
 
 /// Runs all of them.
 pub(crate) fn run_all(rt: &HostRuntime, report: &mut Report) -> io::Result<()> {
-    let rows = fs::read_to_string(rt, "sources.txt")?;
-    for row in rows.lines() {
-        if !row.is_empty() && !row.starts_with('#') {
-            let passed = passes(rt.alloc(), row)?;
-            report.count(rt, row, passed)?;
+    let text = contents_of(rt, ".", "sources.txt")?;
+    for row in parts_of(rt.alloc(), &text, b"\n")?.iter() {
+        if is_row(*row) {
+            report.count(rt, *row, passes(rt.alloc(), *row)?)?;
         }
     }
     Ok(())

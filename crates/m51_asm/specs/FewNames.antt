@@ -1,5 +1,5 @@
--- How many names the expressions of a line have that pass 1 evaluates. Each names at most one segment, so a table of 255
--- segments is enough for it.
+-- How many names the expressions of a line have that pass 1 evaluates. Each names at most one segment, so a table of
+-- 255 segments is enough for it.
 use Rattle.std.specs.Prelude.{ℕ, ◌+◌, ◌≤◌, List, [], ◌∷◌, Some}
 use Rattle.m51_expr.specs.Tree.{Tree, Name, One, Two}
 use Rattle.m51_stmt.specs.Statement.{BodyTree, OperandTree, Plain, Code, Ds, Dbit, Org, Using, Select, Equ, Set}

@@ -4,6 +4,7 @@ use crate::failing::Failure;
 use crate::files::{contents_of, files_in, joined, names_in};
 use crate::report::Report;
 use crate::texts::{before, cut, is_row, not_in_form, number, parts_of, words_of};
+use std::alloc::{AllocError, Global};
 use std::io;
 
 // The answer that the case in this folder has, where this goes wrong.
@@ -73,13 +74,21 @@ fn fails_so(rt: &HostRuntime, folder: &str, line: &[u8]) -> io::Result<bool> {
     is_told(rt, folder, &answer, told)
 }
 
+// The name of a case, and a line of its `fails`.
+fn line_name(alloc: Global, name: &str, line: &[u8]) -> Result<Vec<u8>, AllocError> {
+    let mut text = name.as_bytes().to_vec(alloc)?;
+    text.extend_from_slice(b", ")?;
+    text.extend_from_slice(line)?;
+    Ok(text)
+}
+
 // Runs the lines of `fails` of a case.
 fn run_failing(rt: &HostRuntime, name: &str, folder: &str, report: &mut Report) -> io::Result<()> {
     let text = contents_of(rt, folder, "fails")?;
     for line in parts_of(rt.alloc(), &text, b"\n")?.iter() {
         if is_row(*line) {
             let passed = fails_so(rt, folder, *line)?;
-            report.count(rt, *line, passed)?;
+            report.count(rt, &line_name(rt.alloc(), name, *line)?, passed)?;
         }
     }
     Ok(())

@@ -26,7 +26,7 @@ fn is_same(one: &(Bytes, Bytes), two: &(Bytes, Bytes)) -> bool {
 impl Answer {
     // Whether it has this status.
     fn has_status(&self, status: &[u8]) -> bool {
-        number(status, 10) == Some(self.status)
+        number(status) == Some(self.status)
     }
 
     /// Whether it has this status and text, and keeps these files in this order. No run keeps more than one.

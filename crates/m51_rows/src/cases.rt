@@ -55,7 +55,7 @@ fn is_told(rt: &HostRuntime, folder: &str, answer: &Answer, told: &[u8]) -> io::
         .and_then(|text| text.strip_suffix(b" lines"))
     {
         Some(lines) => {
-            let lines = number(lines, 10).unwrap_or(u32::MAX);
+            let lines = number(lines).unwrap_or(u32::MAX);
             ends_after(rt, folder, answer, status, lines)
         }
         None => Ok(answer.refuses(status, text)),

@@ -28,7 +28,7 @@ impl Failure {
         if line == b"short".as_slice() {
             return Some(Failure::Short);
         }
-        let number = number(after(line, b" "), 10)?;
+        let number = number(after(line, b" "))?;
         match str::from_utf8(before(line, b" ")).ok()? {
             "start" => Some(Failure::Shelf(ShelfCall::Start, number)),
             "piece" => Some(Failure::Shelf(ShelfCall::Piece, number)),

@@ -57,7 +57,7 @@ pub(crate) fn files_in(
 /// The file of a line with its name, how many bytes it has, and the byte in hexadecimal.
 pub(crate) fn filled(alloc: Global, line: &[u8]) -> io::Result<(Bytes, Bytes)> {
     let rest = after(line, b" ");
-    let Some(count) = number(before(rest, b" "), 10) else {
+    let Some(count) = number(before(rest, b" ")) else {
         return Err(not_in_form());
     };
     let Some(byte) = byte(after(rest, b" ")) else {

@@ -1,18 +1,18 @@
 //! Bytes of an image in Intel HEX lines.
-use crate::texts::{cut, not_in_form, number, parts_of, put_digits};
+use crate::texts::{cut, hex_number, not_in_form, parts_of, put_digits};
 use std::alloc::Global;
 use std::io;
 
 // The byte at an address that a line holds.
 fn byte_in(line: &[u8], address: u32) -> Option<u32> {
     let digits = line.strip_prefix(b":")?;
-    let count = number(digits.get(..2)?, 16)?;
-    let offset = address.checked_sub(number(digits.get(2..6)?, 16)?)?;
+    let count = hex_number(digits.get(..2)?)?;
+    let offset = address.checked_sub(hex_number(digits.get(2..6)?)?)?;
     if offset >= count {
         return None;
     }
     let at = (offset as usize).saturating_mul(2).saturating_add(8);
-    number(digits.get(at..at.saturating_add(2))?, 16)
+    hex_number(digits.get(at..at.saturating_add(2))?)
 }
 
 // Whether a line holds this byte at an address.
@@ -32,7 +32,7 @@ fn has_part(alloc: Global, lines: &[&[u8]], part: &[u8]) -> io::Result<bool> {
     };
     let mut bytes = Vec::new(alloc);
     put_digits(&mut bytes, digits)?;
-    let Some(mut address) = number(at, 16) else {
+    let Some(mut address) = hex_number(at) else {
         return Err(not_in_form());
     };
     for byte in bytes.iter() {

@@ -39,7 +39,7 @@ fn is_right(alloc: Global, answer: &Answer, wanted: &[u8]) -> io::Result<bool> {
 
 // Puts a piece such as `32*A` as often as it says.
 fn put_piece(alloc: Global, to: &mut Vec<u8>, piece: &[u8]) -> Result<(), AllocError> {
-    let Some(count) = number(before(piece, b"*"), 10) else {
+    let Some(count) = number(before(piece, b"*")) else {
         return Ok(());
     };
     for _ in 0..count {

@@ -66,9 +66,14 @@ pub(crate) fn has(text: &[u8], mark: &[u8]) -> bool {
     }
 }
 
-/// The number of these digits to this base.
-pub(crate) fn number(digits: &[u8], base: u32) -> Option<u32> {
-    u32::from_str_radix(str::from_utf8(digits).ok()?, base).ok()
+/// The number of these decimal digits.
+pub(crate) fn number(digits: &[u8]) -> Option<u32> {
+    u32::from_str_radix(str::from_utf8(digits).ok()?, 10).ok()
+}
+
+/// The number of these hexadecimal digits.
+pub(crate) fn hex_number(digits: &[u8]) -> Option<u32> {
+    u32::from_str_radix(str::from_utf8(digits).ok()?, 16).ok()
 }
 
 /// The byte of these hexadecimal digits.
@@ -143,7 +148,7 @@ fn word_of(alloc: Global, text: &[u8]) -> io::Result<String> {
 // Puts one word, or the same word some times, to those before.
 fn put_words(alloc: Global, to: &mut Vec<String>, part: &[u8]) -> io::Result<()> {
     let piece = braced(part);
-    let Some(count) = number(before(piece, b"*"), 10) else {
+    let Some(count) = number(before(piece, b"*")) else {
         to.push(word_of(alloc, part)?)?;
         return Ok(());
     };

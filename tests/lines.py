@@ -102,7 +102,8 @@ def case(number):
 
 
 # What begins a line that has no expression in its form, and puts it out of its form.
-BEGINNINGS = ['END X', 'CSEG X', 'BSEG )', 'RSEG X Y', 'NAME X )', 'PUBLIC X Y', 'EXTRN DATA (X) )', 'S SEGMENT CODE X']
+BEGINNINGS = ['END X', 'CSEG X', 'BSEG )', 'RSEG X Y1', 'NAME X )', 'PUBLIC X Y1', 'EXTRN DATA (X) )',
+              'S SEGMENT CODE X']
 PREFIXES = ['+', '-', 'HIGH', 'LOW', 'NOT']
 INFIXES = [word for operators, stands_before in RANKS if not stands_before for word in operators.split()]
 OPERANDS = ['X', 'Y1', '$', '5', "'a'", "'ab'"]

@@ -17,7 +17,8 @@ mod work;
 
 pub use m51_generator::generate;
 pub use m51_shelf::{
-    DirShelf, Failed, MemShelf, MemSink, Shelf, ShelfCall, Sink, StdSink, SureShelf, SureSink,
+    DirShelf, Failed, MemShelf, MemSink, Shelf, ShelfCall as Call, Sink, StdSink, SureShelf,
+    SureSink,
 };
 pub use m51_verbs::{NOT_TEXT, Status};
 pub use top::chain;

@@ -1,5 +1,6 @@
 -- The answer of a text whose lines are placed: its faults, or its module and rows.
-use Rattle.std.proofs.Common.{◌≡◌, ℕ, suc, ◌≤◌, ◌==◌, false, List, [], ◌∷◌, ◌++◌, drop, take, length, Result, Ok, Err, IfOk, refl, ap, sym, ◌∙◌, arith}
+use Rattle.std.proofs.Common.{◌≡◌, ℕ, suc, ◌≤◌, ◌==◌, false, List, [], ◌∷◌, ◌++◌, drop, take, length, Result, Ok, Err}
+use Rattle.std.proofs.Common.{IfOk, refl, ap, sym, ◌∙◌, arith}
 use Rattle.std.proofs.lemmas.List.{append-nil, length-take}
 use Rattle.m51_module.specs.declared.parts.ModuleParts.{ModuleParts}
 use Rattle.m51_module.specs.declared.source.Fault.{Fault}
@@ -40,7 +41,8 @@ module _ (lines : List LineTree) (a : Assignment) (c : Contents) (h : IsGivenTo 
   -- the rows of all lines
   pub all_rows : c.rows ≡ rows lines a
   all_rows =
-      sym (append-nil c.rows) ∙ ap (λ ls. c.rows ++ rows_from lines a (length lines) ls) (sym (none_left lines)) ∙ h.rows
+      sym (append-nil c.rows) ∙ ap (λ ls. c.rows ++ rows_from lines a (length lines) ls) (sym (none_left lines))
+      ∙ h.rows
 
 module _ (file : List ℕ) (lines : List LineTree) (a : Assignment) (free : AreFree lines a (length lines)) where
   some_by : (faults : List Fault) → (length faults == 0) ≡ false → Faults faults ≡ content_or_faults file lines a faults
@@ -48,16 +50,21 @@ module _ (file : List ℕ) (lines : List LineTree) (a : Assignment) (free : AreF
   some_by (fault ∷ faults) some = refl
 
   -- where content has faults, they are the answer
-  pub faults_answer : (faults : List Fault) → content_faults lines a ≡ faults → (length faults == 0) ≡ false → Faults faults ≡ answer_of_lines file lines a
-  faults_answer faults e some = some_by faults some ∙ ap (content_or_faults file lines a) (sym e) ∙ sym (content_answer file lines a free)
+  pub faults_answer : (faults : List Fault) → content_faults lines a ≡ faults → (length faults == 0) ≡ false
+      → Faults faults ≡ answer_of_lines file lines a
+  faults_answer faults e some = some_by faults some ∙ ap (content_or_faults file lines a) (sym e)
+      ∙ sym (content_answer file lines a free)
 
   -- where it has none, the module and the rows are
-  pub module_answer : (m : ModuleParts) (listed : List Row) → content_faults lines a ≡ [] → m ≡ parts file lines a → listed ≡ rows lines a
+  pub module_answer : (m : ModuleParts) (listed : List Row) → content_faults lines a ≡ [] → m ≡ parts file lines a
+      → listed ≡ rows lines a
       → Gives m listed ≡ answer_of_lines file lines a
   module_answer m listed none made all =
-      (λ i. Gives (made i) (all i)) ∙ ap (content_or_faults file lines a) (sym none) ∙ sym (content_answer file lines a free)
+      (λ i. Gives (made i) (all i)) ∙ ap (content_or_faults file lines a) (sym none)
+      ∙ sym (content_answer file lines a free)
 
-with_few : (line : TextLine) (r : Result StmtTree ℕ) (more : List LineTree) (n : ℕ) → length more ≤ n → length (with_statement line r more) ≤ suc n
+with_few : (line : TextLine) (r : Result StmtTree ℕ) (more : List LineTree) (n : ℕ) → length more ≤ n
+    → length (with_statement line r more) ≤ suc n
 with_few line (Ok s) more n h = omega (arith, h)
 with_few line (Err e) more n h = omega (arith, h)
 

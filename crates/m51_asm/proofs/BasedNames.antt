@@ -1,5 +1,7 @@
 -- The values of the names of a text: an external in a base is one that the text declares, and no bit is above 7.
-use Rattle.std.proofs.Common.{◌≡◌, ◌⊎◌, inl, inr, ℕ, zero, suc, ◌+◌, ◌<◌, ◌≤◌, ◌-◌, nat_lt, Bool, true, false, cond, List, [], ◌∷◌, ◌++◌, length, Option, Some, None, option_map, Ok, Err, refl, sym, subst, arith}
+use Rattle.std.proofs.Common.{◌≡◌, ◌⊎◌, inl, inr, ℕ, zero, suc, ◌+◌, ◌<◌, ◌≤◌, ◌-◌, nat_lt, Bool, true, false, cond}
+use Rattle.std.proofs.Common.{List, [], ◌∷◌, ◌++◌, length, Option, Some, None, option_map, Ok, Err, refl, sym, subst}
+use Rattle.std.proofs.Common.{arith}
 use Rattle.std.specs.Str.{bytes_eq}
 use Rattle.std.proofs.lemmas.Bool.{ltb-true}
 use Rattle.m51_cells.specs.declared.kind.Base.{Base}
@@ -15,24 +17,33 @@ use Rattle.m51_sfr.specs.Registers.{address_in, bits, registers}
 use Rattle.m51_stmt.specs.Statement as body
 use Rattle.m51_stmt.specs.Statement.{BodyTree}
 use Rattle.m51_text.specs.Answer.{LineTree}
-use Rattle.m51_asm.specs.Definitions.{Definition, Label, SegmentOf, EquOf, SetOf, AddressOf, ExternOf, definitions_in, label_defined, defined_by, externals_from, found_in, definition_from, definition_of}
+use Rattle.m51_asm.specs.Definitions.{Definition, Label, SegmentOf, EquOf, SetOf, AddressOf, ExternOf, definitions_in}
+use Rattle.m51_asm.specs.Definitions.{label_defined, defined_by, externals_from, found_in, definition_from}
+use Rattle.m51_asm.specs.Definitions.{definition_of}
 use Rattle.m51_asm.specs.Assignment.{Assignment, body_at, line_definitions, here_at, if_before, above, value_or_none}
-use Rattle.m51_asm.specs.Fitting.{set_by, last_set, mod51, bank_before, register_or_predefined, undefined_value, externals_in, externals_before, with_class, segment_value, external_value, value_by, named_value, Fits}
+use Rattle.m51_asm.specs.Fitting.{set_by, last_set, mod51, bank_before, register_or_predefined, undefined_value}
+use Rattle.m51_asm.specs.Fitting.{externals_in, externals_before, with_class, segment_value, external_value, value_by}
+use Rattle.m51_asm.specs.Fitting.{named_value, Fits}
 use Rattle.m51_asm.proofs.KnownSegments.{found_if, later_is}
 use Rattle.m51_asm.proofs.BasedValues.{IsBased, IfBased, IfSomeBased, AreBased, no_bit, value_based}
 
 -- a definition of an external by what a body defines
-extern_number : (xs : List (List ℕ × Kind)) (n : ℕ) (name : List ℕ) (k : Kind) (m : ℕ) → found_in (externals_from n xs) name ≡ Some (ExternOf k m) → m < n + length xs
+extern_number : (xs : List (List ℕ × Kind)) (n : ℕ) (name : List ℕ) (k : Kind) (m : ℕ)
+    → found_in (externals_from n xs) name ≡ Some (ExternOf k m) → m < n + length xs
 extern_number [] n name k m h = absurd (cc h)
-extern_number (x ∷ xs) n name k m h = elim (found_if (bytes_eq name x.0) (ExternOf x.1 n) (ExternOf k m) (found_in (externals_from (suc n) xs) name) h) [
-  | inl e ↦ let same : n ≡ m = cc e in omega (arith, same)
-  | inr e ↦ let less = extern_number xs (suc n) name k m e in omega (arith, less)
-]
+extern_number (x ∷ xs) n name k m h =
+    elim (found_if (bytes_eq name x.0) (ExternOf x.1 n) (ExternOf k m) (found_in (externals_from (suc n) xs) name) h) [
+      | inl e ↦ let same : n ≡ m = cc e in omega (arith, same)
+      | inr e ↦ let less = extern_number xs (suc n) name k m e in omega (arith, less)
+    ]
 
-one_found : (t : List ℕ) (d : Definition) (name : List ℕ) (k : Kind) (m : ℕ) → found_in ((t, d) ∷ []) name ≡ Some (ExternOf k m) → d ≡ ExternOf k m
-one_found t d name k m h = elim (found_if (bytes_eq name t) d (ExternOf k m) None h) [ inl e ↦ e | inr e ↦ absurd (cc e) ]
+one_found : (t : List ℕ) (d : Definition) (name : List ℕ) (k : Kind) (m : ℕ)
+    → found_in ((t, d) ∷ []) name ≡ Some (ExternOf k m) → d ≡ ExternOf k m
+one_found t d name k m h =
+    elim (found_if (bytes_eq name t) d (ExternOf k m) None h) [ inl e ↦ e | inr e ↦ absurd (cc e) ]
 
-body_number : (b : BodyTree) (name : List ℕ) (k : Kind) (m : ℕ) → found_in (defined_by b) name ≡ Some (ExternOf k m) → m < externals_in b
+body_number : (b : BodyTree) (name : List ℕ) (k : Kind) (m : ℕ) → found_in (defined_by b) name ≡ Some (ExternOf k m)
+    → m < externals_in b
 body_number (body.Segment t j type overlayable) name k m h = absurd (cc (one_found t (SegmentOf j) name k m h))
 body_number (body.Equ t e) name k m h = absurd (cc (one_found t (EquOf e) name k m h))
 body_number (body.Set t e) name k m h = absurd (cc (one_found t (SetOf e) name k m h))
@@ -40,12 +51,14 @@ body_number (body.Address t j e) name k m h = absurd (cc (one_found t (AddressOf
 body_number (body.Extrn xs) name k m h = let less = extern_number xs 0 name k m h in omega (arith, less)
 body_number b name k m h = absurd (cc h)
 
-line_number : (label : Option (List ℕ)) (b : BodyTree) (name : List ℕ) (k : Kind) (m : ℕ) → found_in (label_defined label ++ defined_by b) name ≡ Some (ExternOf k m) → m < externals_in b
+line_number : (label : Option (List ℕ)) (b : BodyTree) (name : List ℕ) (k : Kind) (m : ℕ)
+    → found_in (label_defined label ++ defined_by b) name ≡ Some (ExternOf k m) → m < externals_in b
 line_number None b name k m h = body_number b name k m h
-line_number (Some t) b name k m h = elim (found_if (bytes_eq name t) Label (ExternOf k m) (found_in (defined_by b) name) h) [
-  | inl e ↦ absurd (cc e)
-  | inr e ↦ body_number b name k m e
-]
+line_number (Some t) b name k m h =
+    elim (found_if (bytes_eq name t) Label (ExternOf k m) (found_in (defined_by b) name) h) [
+      | inl e ↦ absurd (cc e)
+      | inr e ↦ body_number b name k m e
+    ]
 
 -- an external in a line of these
 record IsExternIn (ls : List LineTree) (n line number : ℕ) : Type 0 where
@@ -54,18 +67,32 @@ record IsExternIn (ls : List LineTree) (n line number : ℕ) : Type 0 where
   below : index < length ls
   among : number < externals_in (body_at ls index)
 
-declared_from : (ls : List LineTree) (n : ℕ) (name : List ℕ) (line : ℕ) (k : Kind) (m : ℕ) → definition_from n ls name ≡ Some (line, ExternOf k m) → IsExternIn ls n line m
+declared_from : (ls : List LineTree) (n : ℕ) (name : List ℕ) (line : ℕ) (k : Kind) (m : ℕ)
+    → definition_from n ls name ≡ Some (line, ExternOf k m) → IsExternIn ls n line m
 declared_from [] n name line k m h = absurd (cc h)
-declared_from (l ∷ ls) n name line k m h = elim (later_is n (found_in (definitions_in l.stmt) name) (definition_from (suc n) ls name) line (ExternOf k m) h) [
-  | inl p ↦ record { index = 0; at = omega (arith, p.0); below = omega arith; among = line_number l.stmt.label l.stmt.body name k m p.1 }
-  | inr e ↦
-      let r = declared_from ls (suc n) name line k m e in
-      record { index = suc r.index; at = let e2 = r.at in omega (arith, e2); below = let b = r.below in omega (arith, b); among = r.among }
-]
+declared_from (l ∷ ls) n name line k m h =
+    elim (later_is n (found_in (definitions_in l.stmt) name) (definition_from (suc n) ls name) line (ExternOf k m) h) [
+      | inl p ↦ record {
+        index = 0;
+        at = omega (arith, p.0);
+        below = omega arith;
+        among = line_number l.stmt.label l.stmt.body name k m p.1;
+      }
+      | inr e ↦
+          let r = declared_from ls (suc n) name line k m e in
+          record {
+            index = suc r.index;
+            at = let e2 = r.at in omega (arith, e2);
+            below = let b = r.below in
+                omega (arith, b);
+            among = r.among;
+          }
+    ]
 
 externals_up : (lines : List LineTree) (j k : ℕ) → externals_before lines j ≤ externals_before lines (j + k)
 unfolding externals_before
-externals_up lines j zero = let e : j + 0 ≡ j = omega arith in subst (λ n. externals_before lines j ≤ externals_before lines n) (sym e) (omega arith)
+externals_up lines j zero = let e : j + 0 ≡ j = omega arith in
+    subst (λ n. externals_before lines j ≤ externals_before lines n) (sym e) (omega arith)
 externals_up lines j (suc k) =
     let e : suc (j + k) ≡ j + suc k = omega arith in
     let more = externals_up lines j k in
@@ -76,7 +103,8 @@ abbrev pub IsDeclaredBase : List LineTree → Base → Type 0
 IsDeclaredBase lines (base.External e) = (1 ≤ e) × (e ≤ externals_before lines (length lines))
 IsDeclaredBase lines b = Unit {0}
 
-extern_declared : (lines : List LineTree) (name : List ℕ) (line : ℕ) (k : Kind) (m : ℕ) → definition_of lines name ≡ Some (line, ExternOf k m)
+extern_declared : (lines : List LineTree) (name : List ℕ) (line : ℕ) (k : Kind) (m : ℕ)
+    → definition_of lines name ≡ Some (line, ExternOf k m)
     → IsDeclaredBase lines (base.External (externals_before lines line + m + 1))
 unfolding definition_of externals_before
 extern_declared lines name line k m h =
@@ -85,8 +113,10 @@ extern_declared lines name line k m h =
     let below = r.below in
     let rest : suc line + (length lines - suc line) ≡ length lines = omega (arith, at, below) in
     let up : externals_before lines (suc line) ≤ externals_before lines (length lines) =
-    subst (λ n. externals_before lines (suc line) ≤ externals_before lines n) rest (externals_up lines (suc line) (length lines - suc line)) in
-    let few : m < externals_in (body_at lines line) = subst (λ n. m < externals_in (body_at lines n)) (sym at) r.among in
+    subst (λ n. externals_before lines (suc line) ≤ externals_before lines n) rest
+    (externals_up lines (suc line) (length lines - suc line)) in
+    let few : m < externals_in (body_at lines line) =
+    subst (λ n. m < externals_in (body_at lines n)) (sym at) r.among in
     (omega arith, omega (arith, up, few))
 
 module _ (lines : List LineTree) (a : Assignment) (f : Fits lines a) where
@@ -120,13 +150,15 @@ module _ (lines : List LineTree) (a : Assignment) (f : Fits lines a) where
 
   classed : (kind : Kind) (o : Option Value) → Good o → Good (option_map (with_class kind) o)
   classed kind None h = none_good
-  classed kind (Some v) h = let b = h.holds v refl in some_good (with_class kind v) (record { base_is = b.base_is; bit_is = b.bit_is })
+  classed kind (Some v) h = let b = h.holds v refl in
+      some_good (with_class kind v) (record { base_is = b.base_is; bit_is = b.bit_is })
 
   -- names above each line have such values
   AllAbove : ℕ → Type 0
   AllAbove k = (j : ℕ) → j < k → AreBased D (above lines a j)
 
-  set_good : (k : ℕ) (o : Option Definition) (last : Option Value) → AreBased D (above lines a k) → Good last → Good (set_by (above lines a k) last o)
+  set_good : (k : ℕ) (o : Option Definition) (last : Option Value) → AreBased D (above lines a k) → Good last
+      → Good (set_by (above lines a k) last o)
   set_good k (Some (SetOf e)) last are h = tree_good k e are
   set_good k o last are h = h
 
@@ -134,17 +166,23 @@ module _ (lines : List LineTree) (a : Assignment) (f : Fits lines a) where
   unfolding last_set AllAbove
   last_good name zero all = none_good
   last_good name (suc k) all =
-      set_good k (found_in (line_definitions lines k) name) (last_set lines a name k) (all k (omega arith)) (last_good name k (λ j less. all j (omega (arith, less))))
+      set_good k (found_in (line_definitions lines k) name) (last_set lines a name k) (all k (omega arith))
+      (last_good name k (λ j less. all j (omega (arith, less))))
 
-  defined_good : (k : ℕ) (name : List ℕ) (d : ℕ) (definition : Definition) → definition_of lines name ≡ Some (d, definition) → AllAbove k → AreBased D (above lines a d)
-      → Good (value_by (here_at a d) (above lines a d) (last_set lines a name k) (externals_before lines d) d definition)
+  defined_good : (k : ℕ) (name : List ℕ) (d : ℕ) (definition : Definition)
+      → definition_of lines name ≡ Some (d, definition) → AllAbove k → AreBased D (above lines a d)
+      → Good (value_by (here_at a d) (above lines a d) (last_set lines a name k) (externals_before lines d) d
+      definition)
   defined_good k name d Label is all are = some_good (here_at a d) (here_good d)
-  defined_good k name d (SegmentOf kind) is all are = some_good (segment_value kind d) (record { base_is = tt; bit_is = no_bit Whole (λ i e. cc e) })
+  defined_good k name d (SegmentOf kind) is all are =
+      some_good (segment_value kind d) (record { base_is = tt; bit_is = no_bit Whole (λ i e. cc e) })
   defined_good k name d (EquOf e) is all are = tree_good d e are
   defined_good k name d (SetOf e) is all are = last_good name k all
-  defined_good k name d (AddressOf kind e) is all are = classed kind (value_or_none (value_of (above lines a d) e)) (tree_good d e are)
+  defined_good k name d (AddressOf kind e) is all are =
+      classed kind (value_or_none (value_of (above lines a d) e)) (tree_good d e are)
   defined_good k name d (ExternOf kind m) is all are =
-      some_good (external_value kind (externals_before lines d + m + 1)) (record { base_is = extern_declared lines name d kind m is; bit_is = no_bit Whole (λ i e. cc e) })
+      some_good (external_value kind (externals_before lines d + m + 1))
+      (record { base_is = extern_declared lines name d kind m is; bit_is = no_bit Whole (λ i e. cc e) })
 
   predefined_good : (o p : Option ℕ) → Good (register_or_bit o p)
   predefined_good (Some n) p = some_good _ (plain_good n _)
@@ -160,13 +198,15 @@ module _ (lines : List LineTree) (a : Assignment) (f : Fits lines a) where
   unfolding undefined_value
   undefined_good k name = register_good (mod51 lines) (bank_before lines a k) name (absolute_register_of name)
 
-  before_by : (k : ℕ) (name : List ℕ) (d : ℕ) (definition : Definition) (b : Bool) → nat_lt d k ≡ b → definition_of lines name ≡ Some (d, definition) → AllAbove k
+  before_by : (k : ℕ) (name : List ℕ) (d : ℕ) (definition : Definition) (b : Bool) → nat_lt d k ≡ b
+      → definition_of lines name ≡ Some (d, definition) → AllAbove k
       → Good (cond b (named_value lines a k name (Some (d, definition))) None)
   unfolding AllAbove
   before_by k name d definition true test is all = defined_good k name d definition is all (all d (ltb-true d k test))
   before_by k name d definition false test is all = none_good
 
-  before_good : (k : ℕ) (name : List ℕ) (o : Option (ℕ × Definition)) → definition_of lines name ≡ o → AllAbove k → Good (if_before k (named_value lines a k name o) o)
+  before_good : (k : ℕ) (name : List ℕ) (o : Option (ℕ × Definition)) → definition_of lines name ≡ o → AllAbove k
+      → Good (if_before k (named_value lines a k name o) o)
   before_good k name None is all = undefined_good k name
   before_good k name (Some d) is all = before_by k name d.0 d.1 (nat_lt d.0 k) refl is all
 
@@ -174,7 +214,8 @@ module _ (lines : List LineTree) (a : Assignment) (f : Fits lines a) where
   unfolding above
   above_by k all = record {
     value = λ name.
-        subst (λ v. Good (if_before k v (definition_of lines name))) (sym (f.values k name)) (before_good k name (definition_of lines name) refl all);
+        subst (λ v. Good (if_before k v (definition_of lines name))) (sym (f.values k name))
+        (before_good k name (definition_of lines name) refl all);
     here = here_good k;
   }
 
@@ -192,7 +233,8 @@ module _ (lines : List LineTree) (a : Assignment) (f : Fits lines a) where
   above_good : (k : ℕ) → AreBased D (above lines a k)
   above_good k = above_by k (all_above k)
 
-  named_good : (k : ℕ) (name : List ℕ) (o : Option (ℕ × Definition)) → definition_of lines name ≡ o → Good (named_value lines a k name o)
+  named_good : (k : ℕ) (name : List ℕ) (o : Option (ℕ × Definition)) → definition_of lines name ≡ o
+      → Good (named_value lines a k name o)
   named_good k name None is = undefined_good k name
   named_good k name (Some d) is = defined_good k name d.0 d.1 is (all_above k) (above_good d.0)
 

@@ -1,6 +1,8 @@
--- What holds of the bases that names and the place of a statement have, and of the numbers of their bits, holds of the value
+-- What holds of the bases that names and the place of a statement have, and of the numbers of their bits, holds of the
+-- value
 -- of each expression.
-use Rattle.std.proofs.Common.{◌≡◌, ℕ, ◌-◌, ◌/◌, ◌%◌, nat_lt, Bool, true, false, not, ◌&&◌, ◌||◌, cond, List, Option, Some, None, Ok, Err, refl, subst, arith}
+use Rattle.std.proofs.Common.{◌≡◌, ℕ, ◌-◌, ◌/◌, ◌%◌, nat_lt, Bool, true, false, not, ◌&&◌, ◌||◌, cond, List, Option}
+use Rattle.std.proofs.Common.{Some, None, Ok, Err, refl, subst, arith}
 use Rattle.std.proofs.lemmas.Bool.{ltb-false}
 use Rattle.m51_cells.specs.declared.kind.Base.{Base}
 use Rattle.m51_cells.specs.declared.kind.Base.TheVariants as base
@@ -18,7 +20,8 @@ use Rattle.m51_expr.specs.declared.tree.Binary.TheVariants as op2
 use Rattle.m51_expr.specs.Tree.{Tree, Number, Name, Here, One, Two}
 use Rattle.m51_expr.specs.Value.{Valued, fault, plain, is_whole, bit_address, counted}
 use Rattle.m51_expr.specs.Meanings.{Meanings, is_absolute, is_unplaced, as_number}
-use Rattle.m51_expr.specs.Operators.{under, kept_under, or_number, unary, settled, beside, same_base, arithmetic, class_of, base_of, on_base, of_numbers, of_wholes, binary}
+use Rattle.m51_expr.specs.Operators.{under, kept_under, or_number, unary, settled, beside, same_base, arithmetic}
+use Rattle.m51_expr.specs.Operators.{class_of, base_of, on_base, of_numbers, of_wholes, binary}
 use Rattle.m51_expr.specs.Bits.{has_bits, keeps_base, with_bit, placed_bit, bit_of, dot}
 use Rattle.m51_expr.specs.Evaluation.{is_dot, applied, or_unknown, value_of}
 use Rattle.m51_encode.specs.FieldLaws.{IsBitOf}
@@ -64,7 +67,8 @@ module _ (G : Base → Type 0) (none : G base.None) where
   if_cond true r q h k = h
   if_cond false r q h k = k
 
-  if_then : (r : Valued Value) (f : Value → Valued Value) → IfBased G r → ((v : Value) → IsBased G v → IfBased G (f v)) → IfBased G (and_then r f)
+  if_then : (r : Valued Value) (f : Value → Valued Value) → IfBased G r → ((v : Value) → IsBased G v → IfBased G (f v))
+      → IfBased G (and_then r f)
   if_then (Ok v) f h go = go v (h.holds v refl)
   if_then (Err k) f h go = if_err k
 
@@ -88,16 +92,23 @@ module _ (G : Base → Type 0) (none : G base.None) where
   some_based : (v : Value) → IsBased G v → IfSomeBased G (Some v)
   some_based v h = record { holds = λ w e. subst (IsBased G) (some_value_same v w e) h }
 
-  under_based : (part : Part) (n : ℕ) (c : Kind) (b : Base) (p : Part) → ((i : ℕ) → part ≡ Bit i → ⊥) → G b → IfSomeBased G (under part (record { number = n; class = c; base = b; part = p }) b p)
+  under_based : (part : Part) (n : ℕ) (c : Kind) (b : Base) (p : Part) → ((i : ℕ) → part ≡ Bit i → ⊥) → G b
+      → IfSomeBased G (under part (record { number = n; class = c; base = b; part = p }) b p)
   under_based part n c base.None p plain h = none_based
-  under_based part n c (base.Segment s) Whole plain h = some_based _ (record { base_is = h; bit_is = no_bit part plain })
-  under_based part n c (base.External e) Whole plain h = some_based _ (record { base_is = h; bit_is = no_bit part plain })
+  under_based part n c (base.Segment s) Whole plain h =
+      some_based _ (record { base_is = h; bit_is = no_bit part plain })
+  under_based part n c (base.External e) Whole plain h =
+      some_based _ (record { base_is = h; bit_is = no_bit part plain })
   under_based part n c (base.Segment s) p plain h = none_based
   under_based part n c (base.External e) p plain h = none_based
 
   unary_based : (names : Meanings) (op : Unary) (v : Value) → IsBased G v → IfBased G (unary names op v)
-  unary_based names op1.High v h = or_plain (kept_under High v) (as_number names v) (λ n. n / 256) (under_based High v.number v.class v.base v.part (λ i e. cc e) h.base_is)
-  unary_based names op1.Low v h = or_plain (kept_under Low v) (as_number names v) (λ n. n % 256) (under_based Low v.number v.class v.base v.part (λ i e. cc e) h.base_is)
+  unary_based names op1.High v h =
+      or_plain (kept_under High v) (as_number names v) (λ n. n / 256)
+      (under_based High v.number v.class v.base v.part (λ i e. cc e) h.base_is)
+  unary_based names op1.Low v h =
+      or_plain (kept_under Low v) (as_number names v) (λ n. n % 256)
+      (under_based Low v.number v.class v.base v.part (λ i e. cc e) h.base_is)
   unary_based names op1.Plus v h = if_plain (as_number names v) (λ n. n) v.class
   unary_based names op1.Minus v h = if_plain (as_number names v) (λ n. (65536 - n) % 65536) kind.Number
   unary_based names op1.Not v h = if_plain (as_number names v) (λ n. 65535 - n) kind.Number
@@ -107,10 +118,13 @@ module _ (G : Base → Type 0) (none : G base.None) where
   based_cond false v w h k = k
 
   settled_based : (names : Meanings) (v : Value) → IsBased G v → IsBased G (settled names v)
-  settled_based names v h = based_cond (is_unplaced names v.base || is_whole v.part) v (plain (counted v) v.class) h (plain_based (counted v) v.class)
+  settled_based names v h = based_cond (is_unplaced names v.base || is_whole v.part) v (plain (counted v) v.class) h
+      (plain_based (counted v) v.class)
 
   beside_based : (names : Meanings) (other : Base) (v : Value) → IsBased G v → IsBased G (beside names other v)
-  beside_based names other v h = based_cond (is_unplaced names other && is_absolute names v.base) (plain v.number v.class) v (plain_based v.number v.class) h
+  beside_based names other v h =
+      based_cond (is_unplaced names other && is_absolute names v.base) (plain v.number v.class) v
+      (plain_based v.number v.class) h
 
   -- the base of a sum or a difference
   pub record IfBase (o : Option Base) : Type 0 where
@@ -136,12 +150,14 @@ module _ (G : Base → Type 0) (none : G base.None) where
   base_based op2.Sub x y h k = same_or_none (same_base x y)
   base_based op x y h k = no_base
 
-  on_based : (class : Kind) (o : Option Base) (from number : Valued ℕ) → IfBase o → IfBased G (on_base class o from number)
+  on_based : (class : Kind) (o : Option Base) (from number : Valued ℕ) → IfBase o
+      → IfBased G (on_base class o from number)
   on_based class (Some b) from number h =
       if_number from _ (λ n. if_ok _ (record { base_is = h.holds b refl; bit_is = no_bit Whole (λ i e. cc e) }))
   on_based class None from number h = if_plain number (λ n. n) class
 
-  binary_based : (names : Meanings) (op : Binary) (x y : Value) → IsBased G x → IsBased G y → IfBased G (binary names op x y)
+  binary_based : (names : Meanings) (op : Binary) (x y : Value) → IsBased G x → IsBased G y
+      → IfBased G (binary names op x y)
   binary_based names op x y h k =
       let u = settled names x in
       let w = settled names y in
@@ -161,27 +177,36 @@ module _ (G : Base → Type 0) (none : G base.None) where
   with_bit_based : (x : Value) (bit : ℕ) → IsBased G x → nat_lt 7 bit ≡ false → IsBased G (with_bit x bit)
   with_bit_based x bit h test = record { base_is = h.base_is; bit_is = bit_small bit test }
 
-  placed_based : (x : Value) (bit : ℕ) (o : Option ℕ) → IsBased G x → nat_lt 7 bit ≡ false → IfBased G (placed_bit x bit o)
+  placed_based : (x : Value) (bit : ℕ) (o : Option ℕ) → IsBased G x → nat_lt 7 bit ≡ false
+      → IfBased G (placed_bit x bit o)
   placed_based x bit None h test = if_err _
   placed_based x bit (Some address) h test =
       if_ok (cond (keeps_base x) (with_bit x bit) (plain address kind.Bits))
-      (based_cond (keeps_base x) (with_bit x bit) (plain address kind.Bits) (with_bit_based x bit h test) (plain_based address kind.Bits))
+      (based_cond (keeps_base x) (with_bit x bit) (plain address kind.Bits) (with_bit_based x bit h test)
+      (plain_based address kind.Bits))
 
   bit_by : (names : Meanings) (x : Value) (bit : ℕ) (t : Bool) → nat_lt 7 bit ≡ t → IsBased G x
-      → IfBased G (cond t (fault 10) (cond (is_unplaced names x.base) (cond (has_bits names x.base x.class) (Ok (with_bit x bit)) (fault 10)) (placed_bit x bit (bit_address (counted x) bit))))
+      → IfBased G (cond t (fault 10)
+      (cond (is_unplaced names x.base) (cond (has_bits names x.base x.class) (Ok (with_bit x bit)) (fault 10))
+      (placed_bit x bit (bit_address (counted x) bit))))
   bit_by names x bit true test h = if_err _
   bit_by names x bit false test h =
-      if_cond (is_unplaced names x.base) (cond (has_bits names x.base x.class) (Ok (with_bit x bit)) (fault 10)) (placed_bit x bit (bit_address (counted x) bit))
-      (if_cond (has_bits names x.base x.class) (Ok (with_bit x bit)) (fault 10) (if_ok (with_bit x bit) (with_bit_based x bit h test)) (if_err _))
+      if_cond (is_unplaced names x.base) (cond (has_bits names x.base x.class) (Ok (with_bit x bit)) (fault 10))
+      (placed_bit x bit (bit_address (counted x) bit))
+      (if_cond (has_bits names x.base x.class) (Ok (with_bit x bit)) (fault 10)
+      (if_ok (with_bit x bit) (with_bit_based x bit h test)) (if_err _))
       (placed_based x bit (bit_address (counted x) bit) h test)
 
   dot_based : (names : Meanings) (x n : Value) → IsBased G x → IfBased G (dot names x n)
   dot_based names x n h =
-      if_cond (is_unplaced names x.base && not (is_whole x.part)) (fault 8) (and_then (as_number names n) (bit_of names x)) (if_err _)
+      if_cond (is_unplaced names x.base && not (is_whole x.part)) (fault 8)
+      (and_then (as_number names n) (bit_of names x)) (if_err _)
       (if_number (as_number names n) (bit_of names x) (λ bit. bit_by names x bit (nat_lt 7 bit) refl h))
 
-  applied_based : (names : Meanings) (op : Binary) (x y : Value) → IsBased G x → IsBased G y → IfBased G (applied names op x y)
-  applied_based names op x y h k = if_cond (is_dot op) (dot names x y) (binary names op x y) (dot_based names x y h) (binary_based names op x y h k)
+  applied_based : (names : Meanings) (op : Binary) (x y : Value) → IsBased G x → IsBased G y
+      → IfBased G (applied names op x y)
+  applied_based names op x y h k =
+      if_cond (is_dot op) (dot names x y) (binary names op x y) (dot_based names x y h) (binary_based names op x y h k)
 
   known_based : (o : Option Value) → IfSomeBased G o → IfBased G (or_unknown o)
   known_based (Some v) h = if_ok v (h.holds v refl)
@@ -193,7 +218,9 @@ module _ (G : Base → Type 0) (none : G base.None) where
   value_based names are (Number n) = if_ok (plain n kind.Number) (plain_based n kind.Number)
   value_based names are Here = if_ok names.here are.here
   value_based names are (Name name) = known_based (names.value name) (are.value name)
-  value_based names are (One op e) = if_then (value_of names e) (unary names op) (value_based names are e) (λ v h. unary_based names op v h)
+  value_based names are (One op e) =
+      if_then (value_of names e) (unary names op) (value_based names are e) (λ v h. unary_based names op v h)
   value_based names are (Two op e f) =
       if_then (value_of names e) (λ x. and_then (value_of names f) (applied names op x)) (value_based names are e)
-      (λ x h. if_then (value_of names f) (applied names op x) (value_based names are f) (λ y k. applied_based names op x y h k))
+      (λ x h. if_then (value_of names f) (applied names op x) (value_based names are f)
+      (λ y k. applied_based names op x y h k))

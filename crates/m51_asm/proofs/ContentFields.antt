@@ -1,6 +1,8 @@
--- What a line gives: where it has no fault it gives as many bytes as are counted for it, and the fields of its references
+-- What a line gives: where it has no fault it gives as many bytes as are counted for it, and the fields of its
+-- references
 -- lie in these bytes, one after another.
-use Rattle.std.proofs.Common.{◌≡◌, ◌⊎◌, inl, inr, ℕ, zero, suc, ◌+◌, ◌<◌, ◌≤◌, ◌==◌, Bool, true, false, cond, List, [], ◌∷◌, length, Option, Some, None, Ok, Err, refl, sym, ap, subst, ◌∙◌, arith}
+use Rattle.std.proofs.Common.{◌≡◌, ◌⊎◌, inl, inr, ℕ, zero, suc, ◌+◌, ◌<◌, ◌≤◌, ◌==◌, Bool, true, false, cond, List, []}
+use Rattle.std.proofs.Common.{◌∷◌, length, Option, Some, None, Ok, Err, refl, sym, ap, subst, ◌∙◌, arith}
 use Rattle.std.specs.Prelude.{slice_get}
 use Rattle.std.specs.Option.{option_or}
 use Rattle.std.proofs.lemmas.Bool.{eqb-true}
@@ -24,7 +26,8 @@ use Rattle.m51_encode.specs.declared.reference.FieldValue.TheVariants.{Number, L
 use Rattle.m51_encode.specs.declared.reference.Reference.{Reference}
 use Rattle.m51_encode.specs.Reference.{form_of, reference_of}
 use Rattle.m51_encode.specs.FieldValues.{field_of}
-use Rattle.m51_encode.specs.Filling.{Answer, and_then, or_out_of_range, held_at, nothing, valued, expression, filled_by, filled, beginning_at, reference_at, references_of}
+use Rattle.m51_encode.specs.Filling.{Answer, and_then, or_out_of_range, held_at, nothing, valued, expression, filled_by}
+use Rattle.m51_encode.specs.Filling.{filled, beginning_at, reference_at, references_of}
 use Rattle.m51_encode.proofs.BitNumbers.{linked_is}
 use Rattle.m51_asm.proofs.Members.{In, Every, Pairs, in_cons, no_element, pairs_weaker}
 use Rattle.m51_asm.specs.Content.{ReferenceAt, EmittedContent, placed_from}
@@ -105,8 +108,10 @@ held_same x y h = cc h
 some_same : (r q : Reference) → ◌≡◌ {A = Option Reference} (Some r) (Some q) → r ≡ q
 some_same r q h = cc h
 
-by_field : (names : Meanings) (next : ℕ) (slot : FieldSlot) (e : Tree) (v : Value) → value_of names e ≡ Ok v → (o : Option FieldValue) → field_of names slot.field next v ≡ o
-    → (x : Held) → and_then (or_out_of_range o) (λ held. ok_held (held_at slot.byte held)) ≡ ok_held x → (r : Reference) → x.reference ≡ Some r → IsLinking names (Some slot) x r
+by_field : (names : Meanings) (next : ℕ) (slot : FieldSlot) (e : Tree) (v : Value) → value_of names e ≡ Ok v
+    → (o : Option FieldValue) → field_of names slot.field next v ≡ o
+    → (x : Held) → and_then (or_out_of_range o) (λ held. ok_held (held_at slot.byte held)) ≡ ok_held x → (r : Reference)
+    → x.reference ≡ Some r → IsLinking names (Some slot) x r
 by_field names next slot e v is (Some (Number n)) from x h r has =
     absurd (cc (has, ap (λ (y : Held). y.reference) (held_same (held_at slot.byte (Number n)) x h)))
 by_field names next slot e v is (Some (Linked q)) from x h r has =
@@ -118,23 +123,35 @@ by_field names next slot e v is (Some (Linked q)) from x h r has =
       slot_is = refl;
       byte_is = sym (ap (λ (y : Held). y.byte) same);
       form_is = ap (λ (y : Reference). field_len y.form) (sym q_is ∙ sym form) ∙ form_width slot.field v.part;
-      by = record { tree = e; value = v; is = is; at = slot.field; next = next; from = from ∙ ap (λ y. Some (Linked y)) q_is };
+      by = record {
+        tree = e;
+        value = v;
+        is = is;
+        at = slot.field;
+        next = next;
+        from = from ∙ ap (λ y. Some (Linked y)) q_is;
+      };
     }
 by_field names next slot e v is None from x h r has = absurd (cc h)
 
-by_value : (names : Meanings) (next : ℕ) (slot : FieldSlot) (e : Tree) (w : Valued Value) → value_of names e ≡ w → (x : Held) → valued names next slot.field slot.byte w ≡ Ok x
+by_value : (names : Meanings) (next : ℕ) (slot : FieldSlot) (e : Tree) (w : Valued Value) → value_of names e ≡ w
+    → (x : Held) → valued names next slot.field slot.byte w ≡ Ok x
     → (r : Reference) → x.reference ≡ Some r → IsLinking names (Some slot) x r
-by_value names next slot e (Ok v) is x h r has = by_field names next slot e v is (field_of names slot.field next v) refl x h r has
+by_value names next slot e (Ok v) is x h r has =
+    by_field names next slot e v is (field_of names slot.field next v) refl x h r has
 by_value names next slot e (Err k) is x h r has = absurd (cc h)
 
-none_held : (names : Meanings) (slot : Option FieldSlot) (x : Held) → ok_held nothing ≡ ok_held x → (r : Reference) → x.reference ≡ Some r → IsLinking names slot x r
+none_held : (names : Meanings) (slot : Option FieldSlot) (x : Held) → ok_held nothing ≡ ok_held x → (r : Reference)
+    → x.reference ≡ Some r → IsLinking names slot x r
 none_held names slot x h r has = absurd (cc (has, ap (λ (y : Held). y.reference) (held_same nothing x h)))
 
-by_tree : (names : Meanings) (next : ℕ) (slot : FieldSlot) (t : Option Tree) (x : Held) → filled_by names next slot t ≡ Ok x → (r : Reference) → x.reference ≡ Some r → IsLinking names (Some slot) x r
+by_tree : (names : Meanings) (next : ℕ) (slot : FieldSlot) (t : Option Tree) (x : Held)
+    → filled_by names next slot t ≡ Ok x → (r : Reference) → x.reference ≡ Some r → IsLinking names (Some slot) x r
 by_tree names next slot (Some e) x h r has = by_value names next slot e (value_of names e) refl x h r has
 by_tree names next slot None x h r has = none_held names (Some slot) x h r has
 
-linking : (names : Meanings) (next : ℕ) (slot : Option FieldSlot) (o : Option OperandTree) (x : Held) → filled names next slot o ≡ Ok x → (r : Reference) → x.reference ≡ Some r
+linking : (names : Meanings) (next : ℕ) (slot : Option FieldSlot) (o : Option OperandTree) (x : Held)
+    → filled names next slot o ≡ Ok x → (r : Reference) → x.reference ≡ Some r
     → IsLinking names slot x r
 linking names next (Some slot) (Some operand) x h r has = by_tree names next slot (expression operand) x h r has
 linking names next (Some slot) None x h r has = none_held names (Some slot) x h r has
@@ -159,11 +176,17 @@ record IsAtByte (names : Meanings) (f g h : Option FieldSlot) (k : ℕ) (r : Ref
   form_is : field_len r.form ≡ width slot.field
   by : IsLinkedBy names r
 
-placed_is : (os : List (Option Reference)) (n : ℕ) (p : ReferenceAt) → In p (placed_from n os) → (j : ℕ) × (p.0 ≡ n + j) × (slice_get os j ≡ Some (Some p.1))
+placed_is : (os : List (Option Reference)) (n : ℕ) (p : ReferenceAt) → In p (placed_from n os)
+    → (j : ℕ) × (p.0 ≡ n + j) × (slice_get os j ≡ Some (Some p.1))
 placed_is [] n p i = absurd (no_element p i)
 placed_is (None ∷ os) n p i = let r = placed_is os (suc n) p i in (suc r.0, omega (arith, r.1), r.2)
 placed_is (Some q ∷ os) n p i = elim (in_cons p (n, q) (placed_from (suc n) os) i) [
-  | inl e ↦ (0, let z : n ≡ p.0 = ap (λ (x : ReferenceAt). x.0) e in omega (arith, z), ap (λ (x : ReferenceAt). Some (Some x.1)) e)
+  | inl e ↦ (
+    0,
+    let z : n ≡ p.0 = ap (λ (x : ReferenceAt). x.0) e in
+        omega (arith, z),
+    ap (λ (x : ReferenceAt). Some (Some x.1)) e,
+  )
   | inr j ↦ let r = placed_is os (suc n) p j in (suc r.0, omega (arith, r.1), r.2)
 ]
 
@@ -174,10 +197,13 @@ placed_order (None ∷ os) n = placed_order os (suc n)
 placed_order (Some q ∷ os) n = (λ p i. let r = placed_is os (suc n) p i in omega (arith, r.1), placed_order os (suc n))
 
 -- three operands of a row, with what they gave
-module _ (names : Meanings) (row : Instr) (next : ℕ) (oa ob oc : Option OperandTree) (a b c : Held) (is_a : filled names next (field_in (text_of row).first) oa ≡ Ok a)
-    (is_b : filled names next (field_in (text_of row).second) ob ≡ Ok b) (is_c : filled names next (field_in (text_of row).third) oc ≡ Ok c) where
+module _ (names : Meanings) (row : Instr) (next : ℕ) (oa ob oc : Option OperandTree) (a b c : Held)
+    (is_a : filled names next (field_in (text_of row).first) oa ≡ Ok a)
+    (is_b : filled names next (field_in (text_of row).second) ob ≡ Ok b)
+    (is_c : filled names next (field_in (text_of row).third) oc ≡ Ok c) where
   abbrev Lies : ℕ → Reference → Type 0
-  Lies k r = IsAtByte names (field_in (text_of row).first) (field_in (text_of row).second) (field_in (text_of row).third) k r
+  Lies k r = IsAtByte names (field_in (text_of row).first) (field_in (text_of row).second)
+      (field_in (text_of row).third) k r
 
   at_byte : (k : ℕ) (r : Reference) → reference_at k a b c ≡ Some r → Lies k r
   unfolding HasField
@@ -190,11 +216,23 @@ module _ (names : Meanings) (row : Instr) (next : ℕ) (oa ob oc : Option Operan
       | inl e ↦
           let p = begins_at k b r e in
           let l = linking names next (field_in (text_of row).second) ob b is_b r p.1 in
-          record { slot = l.at; there = inr (inl l.slot_is); byte_is = sym l.byte_is ∙ p.0; form_is = l.form_is; by = l.by }
+          record {
+            slot = l.at;
+            there = inr (inl l.slot_is);
+            byte_is = sym l.byte_is ∙ p.0;
+            form_is = l.form_is;
+            by = l.by;
+          }
       | inr e ↦
           let p = begins_at k c r e in
           let l = linking names next (field_in (text_of row).third) oc c is_c r p.1 in
-          record { slot = l.at; there = inr (inr l.slot_is); byte_is = sym l.byte_is ∙ p.0; form_is = l.form_is; by = l.by }
+          record {
+            slot = l.at;
+            there = inr (inr l.slot_is);
+            byte_is = sym l.byte_is ∙ p.0;
+            form_is = l.form_is;
+            by = l.by;
+          }
     ]
   ]
 
@@ -210,7 +248,8 @@ module _ (names : Meanings) (row : Instr) (next : ℕ) (oa ob oc : Option Operan
       let e : r.0 ≡ p.0 = omega (arith, r.1) in
       subst (λ k. Lies k p.1) e (got_at r.0 p.1 r.2)
 
-  pub row_content : (bytes : List ℕ) → length bytes ≡ row_length row → IsContent names (record { bytes = bytes; references = placed_from 0 (references_of a b c) })
+  pub row_content : (bytes : List ℕ) → length bytes ≡ row_length row
+      → IsContent names (record { bytes = bytes; references = placed_from 0 (references_of a b c) })
   unfolding Every
   row_content bytes len =
       let lie = rows_do_lie row in

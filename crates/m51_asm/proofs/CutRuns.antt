@@ -1,12 +1,15 @@
 -- Runs of bytes that lie one after another, and the pieces that they are cut into.
-use Rattle.std.proofs.Common.{◌≡◌, inl, inr, ℕ, suc, ◌+◌, ◌*◌, ◌/◌, ◌-◌, ◌<◌, ◌≤◌, ◌==◌, Bool, true, false, cond, min, List, [], ◌∷◌, ◌++◌, length, drop, refl, sym, ap, subst, ◌∙◌, arith, length-append, length-drop}
+use Rattle.std.proofs.Common.{◌≡◌, inl, inr, ℕ, suc, ◌+◌, ◌*◌, ◌/◌, ◌-◌, ◌<◌, ◌≤◌, ◌==◌, Bool, true, false, cond, min}
+use Rattle.std.proofs.Common.{List, [], ◌∷◌, ◌++◌, length, drop, refl, sym, ap, subst, ◌∙◌, arith, length-append}
+use Rattle.std.proofs.Common.{length-drop}
 use Rattle.std.proofs.lemmas.Bool.{cases_lt, eqb-true, eqb-false}
 use Rattle.std.proofs.lemmas.List.{length-take}
 use Rattle.std.specs.List.{range_with_len}
 use Rattle.m51_module.specs.declared.content.Piece.{Piece}
 use Rattle.m51_module.specs.Validity.{LiesBefore, Apart, Touching}
 use Rattle.m51_asm.specs.Pieces.{Run, if_bytes, piece_at, pieces_of_run}
-use Rattle.m51_asm.proofs.Members.{In, Every, Pairs, Comes, in_cons, in_first, in_later, no_element, in_map, map_in, in_range, range_in, pairs_map, pairs_weaker, pairs_range}
+use Rattle.m51_asm.proofs.Members.{In, Every, Pairs, Comes, in_cons, in_first, in_later, no_element, in_map, map_in}
+use Rattle.m51_asm.proofs.Members.{in_range, range_in, pairs_map, pairs_weaker, pairs_range}
 
 -- a run that has bytes and lies between two places
 pub record IsRun (from to : ℕ) (r : Run) : Type 0 where
@@ -26,19 +29,23 @@ runs_lower low from to (r ∷ more) h runs = (
   runs.1,
 )
 
-joined_run : (low at to : ℕ) (bytes : List ℕ) (next : Run) → low ≤ at → 0 < length bytes → at + length bytes ≡ next.0 → IsRun (at + length bytes) to next
+joined_run : (low at to : ℕ) (bytes : List ℕ) (next : Run) → low ≤ at → 0 < length bytes → at + length bytes ≡ next.0
+    → IsRun (at + length bytes) to next
     → IsRun low to (at, bytes ++ next.1)
 joined_run low at to bytes next low_at some e n =
     let len : length (bytes ++ next.1) ≡ length bytes + length next.1 = length-append bytes next.1 in
     record { from_on = low_at; some = omega (arith, len, some); within = omega (arith, len, e, n.within) }
 
-one_or_two : (low at to : ℕ) (bytes : List ℕ) (next : Run) (more : List Run) (b : Bool) → (at + length bytes == next.0) ≡ b → low ≤ at → 0 < length bytes → at + length bytes ≤ to
-    → AreRuns (at + length bytes) to (next ∷ more) → AreRuns low to (cond b ((at, bytes ++ next.1) ∷ more) ((at, bytes) ∷ next ∷ more))
+one_or_two : (low at to : ℕ) (bytes : List ℕ) (next : Run) (more : List Run) (b : Bool)
+    → (at + length bytes == next.0) ≡ b → low ≤ at → 0 < length bytes → at + length bytes ≤ to
+    → AreRuns (at + length bytes) to (next ∷ more)
+    → AreRuns low to (cond b ((at, bytes ++ next.1) ∷ more) ((at, bytes) ∷ next ∷ more))
 one_or_two low at to bytes next more true e low_at some within runs =
     let same : at + length bytes ≡ next.0 = eqb-true (at + length bytes) next.0 e in
     let len : length (bytes ++ next.1) ≡ length bytes + length next.1 = length-append bytes next.1 in (
       joined_run low at to bytes next low_at some same runs.0,
-      runs_lower (suc (at + length (bytes ++ next.1))) (suc (next.0 + length next.1)) to more (omega (arith, len, same)) runs.1,
+      runs_lower (suc (at + length (bytes ++ next.1))) (suc (next.0 + length next.1)) to more (omega (arith, len, same))
+          runs.1,
     )
 one_or_two low at to bytes next more false e low_at some within runs =
     let apart : at + length bytes ≡ next.0 → ⊥ = eqb-false (at + length bytes) next.0 e in
@@ -48,11 +55,14 @@ one_or_two low at to bytes next more false e low_at some within runs =
     )
 
 -- bytes before runs are runs
-pub runs_before : (low at to : ℕ) (bytes : List ℕ) (runs : List Run) → low ≤ at → at + length bytes ≤ to → AreRuns (at + length bytes) to runs → AreRuns low to (if_bytes at bytes runs)
+pub runs_before : (low at to : ℕ) (bytes : List ℕ) (runs : List Run) → low ≤ at → at + length bytes ≤ to
+    → AreRuns (at + length bytes) to runs → AreRuns low to (if_bytes at bytes runs)
 runs_before low at to [] runs low_at within are = runs_lower low (at + 0) to runs (omega (arith, low_at)) are
-runs_before low at to (byte ∷ bytes) [] low_at within are = (record { from_on = low_at; some = omega arith; within = within }, tt)
+runs_before low at to (byte ∷ bytes) [] low_at within are =
+    (record { from_on = low_at; some = omega arith; within = within }, tt)
 runs_before low at to (byte ∷ bytes) (next ∷ more) low_at within are =
-    one_or_two low at to (byte ∷ bytes) next more (at + length (byte ∷ bytes) == next.0) refl low_at (omega arith) within are
+    one_or_two low at to (byte ∷ bytes) next more (at + length (byte ∷ bytes) == next.0) refl low_at (omega arith)
+    within are
 
 -- an earlier run ends before a later one begins
 unfoldable pub IsBefore : Run → Run → Type 0
@@ -81,33 +91,66 @@ pub record Holds (runs : List Run) (place : ℕ) : Type 0 where
   pub from : run.0 ≤ place
   pub below : place < run.0 + length run.1
 
-pub held_first : (at : ℕ) (bytes : List ℕ) (runs : List Run) (place : ℕ) → at ≤ place → place < at + length bytes → Holds (if_bytes at bytes runs) place
+pub held_first : (at : ℕ) (bytes : List ℕ) (runs : List Run) (place : ℕ) → at ≤ place → place < at + length bytes
+    → Holds (if_bytes at bytes runs) place
 held_first at [] runs place h k = absurd (omega (arith, h, k))
-held_first at (byte ∷ bytes) [] place h k = record { run = (at, byte ∷ bytes); there = in_first (at, byte ∷ bytes) []; from = h; below = k }
+held_first at (byte ∷ bytes) [] place h k =
+    record { run = (at, byte ∷ bytes); there = in_first (at, byte ∷ bytes) []; from = h; below = k }
 held_first at (byte ∷ bytes) (next ∷ more) place h k = either (at + length (byte ∷ bytes) == next.0)
   where
-    either : (b : Bool) → Holds (cond b ((at, (byte ∷ bytes) ++ next.1) ∷ more) ((at, byte ∷ bytes) ∷ next ∷ more)) place
+    either : (b : Bool) → Holds (cond b ((at, (byte ∷ bytes) ++ next.1) ∷ more) ((at, byte ∷ bytes) ∷ next ∷ more))
+        place
     either true =
-        let len : length ((byte ∷ bytes) ++ next.1) ≡ length (byte ∷ bytes) + length next.1 = length-append (byte ∷ bytes) next.1 in
-        record { run = (at, (byte ∷ bytes) ++ next.1); there = in_first (at, (byte ∷ bytes) ++ next.1) more; from = h; below = omega (arith, k, len) }
-    either false = record { run = (at, byte ∷ bytes); there = in_first (at, byte ∷ bytes) (next ∷ more); from = h; below = k }
+        let len : length ((byte ∷ bytes) ++ next.1) ≡ length (byte ∷ bytes) + length next.1 =
+        length-append (byte ∷ bytes) next.1 in
+        record {
+          run = (at, (byte ∷ bytes) ++ next.1);
+          there = in_first (at, (byte ∷ bytes) ++ next.1) more;
+          from = h;
+          below = omega (arith, k, len);
+        }
+    either false = record {
+      run = (at, byte ∷ bytes);
+      there = in_first (at, byte ∷ bytes) (next ∷ more);
+      from = h;
+      below = k;
+    }
 
-pub held_later : (at : ℕ) (bytes : List ℕ) (runs : List Run) (place : ℕ) → Holds runs place → Holds (if_bytes at bytes runs) place
+pub held_later : (at : ℕ) (bytes : List ℕ) (runs : List Run) (place : ℕ) → Holds runs place
+    → Holds (if_bytes at bytes runs) place
 held_later at [] runs place h = h
 held_later at (byte ∷ bytes) [] place h = absurd (no_element h.run h.there)
 held_later at (byte ∷ bytes) (next ∷ more) place h = either (at + length (byte ∷ bytes) == next.0) refl
   where
-    either : (b : Bool) → (at + length (byte ∷ bytes) == next.0) ≡ b → Holds (cond b ((at, (byte ∷ bytes) ++ next.1) ∷ more) ((at, byte ∷ bytes) ∷ next ∷ more)) place
+    either : (b : Bool) → (at + length (byte ∷ bytes) == next.0) ≡ b
+        → Holds (cond b ((at, (byte ∷ bytes) ++ next.1) ∷ more) ((at, byte ∷ bytes) ∷ next ∷ more)) place
     either true e = elim (in_cons h.run next more h.there) [
       | inl same ↦
-          let len : length ((byte ∷ bytes) ++ next.1) ≡ length (byte ∷ bytes) + length next.1 = length-append (byte ∷ bytes) next.1 in
+          let len : length ((byte ∷ bytes) ++ next.1) ≡ length (byte ∷ bytes) + length next.1 =
+          length-append (byte ∷ bytes) next.1 in
           let meets : at + length (byte ∷ bytes) ≡ next.0 = eqb-true (at + length (byte ∷ bytes)) next.0 e in
           let from : next.0 ≤ place = subst (λ (r : Run). r.0 ≤ place) (sym same) h.from in
-          let below : place < next.0 + length next.1 = subst (λ (r : Run). place < r.0 + length r.1) (sym same) h.below in
-          record { run = (at, (byte ∷ bytes) ++ next.1); there = in_first (at, (byte ∷ bytes) ++ next.1) more; from = omega (arith, meets, from); below = omega (arith, len, meets, below) }
-      | inr i ↦ record { run = h.run; there = in_later h.run (at, (byte ∷ bytes) ++ next.1) more i; from = h.from; below = h.below }
+          let below : place < next.0 + length next.1 =
+          subst (λ (r : Run). place < r.0 + length r.1) (sym same) h.below in
+          record {
+            run = (at, (byte ∷ bytes) ++ next.1);
+            there = in_first (at, (byte ∷ bytes) ++ next.1) more;
+            from = omega (arith, meets, from);
+            below = omega (arith, len, meets, below);
+          }
+      | inr i ↦ record {
+        run = h.run;
+        there = in_later h.run (at, (byte ∷ bytes) ++ next.1) more i;
+        from = h.from;
+        below = h.below;
+      }
     ]
-    either false e = record { run = h.run; there = in_later h.run (at, byte ∷ bytes) (next ∷ more) h.there; from = h.from; below = h.below }
+    either false e = record {
+      run = h.run;
+      there = in_later h.run (at, byte ∷ bytes) (next ∷ more) h.there;
+      from = h.from;
+      below = h.below;
+    }
 
 -- a piece of a run
 pub record IsOfRun (segment : ℕ) (r : Run) (p : Piece) : Type 0 where
@@ -127,15 +170,23 @@ of_run : (segment : ℕ) (r : Run) (i : ℕ) → i < (length r.1 + 1023) / 1024 
 of_run segment r i h =
     let len = piece_len segment r i in
     let below : 1024 * i < length r.1 = below_all (length r.1) i h in
-    record { segment_is = refl; from = omega arith; some = omega (arith, len, below); most = omega (arith, len); within = omega (arith, len, below) }
+    record {
+      segment_is = refl;
+      from = omega arith;
+      some = omega (arith, len, below);
+      most = omega (arith, len);
+      within = omega (arith, len, below);
+    }
 
 pub piece_of_run : (segment : ℕ) (r : Run) (p : Piece) → In p (pieces_of_run segment r) → IsOfRun segment r p
 piece_of_run segment r p h =
-    let c : Comes (piece_at segment r) (range_with_len 0 ((length r.1 + 1023) / 1024)) p = in_map (piece_at segment r) (range_with_len 0 ((length r.1 + 1023) / 1024)) p h in
+    let c : Comes (piece_at segment r) (range_with_len 0 ((length r.1 + 1023) / 1024)) p =
+    in_map (piece_at segment r) (range_with_len 0 ((length r.1 + 1023) / 1024)) p h in
     let i = in_range ((length r.1 + 1023) / 1024) 0 c.from c.there in
     subst (IsOfRun segment r) c.is (of_run segment r c.from (omega (arith, i.1)))
 
-lie_so : (segment : ℕ) (r : Run) (i j : ℕ) → i < j → j < (length r.1 + 1023) / 1024 → LiesBefore (piece_at segment r i) (piece_at segment r j)
+lie_so : (segment : ℕ) (r : Run) (i j : ℕ) → i < j → j < (length r.1 + 1023) / 1024
+    → LiesBefore (piece_at segment r i) (piece_at segment r j)
 lie_so segment r i j less below =
     let last : 1024 * j < length r.1 = below_all (length r.1) j below in
     let one : length (piece_at segment r i).bytes ≡ 1024 = piece_len segment r i ∙ full (length r.1) i j less last in
@@ -155,7 +206,8 @@ pieces_in_order segment r =
     (λ i j from to less. let k = in_range n 0 j to in lie_so segment r i j less (omega (arith, k.1))) (pairs_range n 0))
 
 -- the pieces of two runs, of which one ends before the other begins
-pub runs_in_order : (segment : ℕ) (r q : Run) → IsBefore r q → (p o : Piece) → In p (pieces_of_run segment r) → In o (pieces_of_run segment q) → LiesBefore p o
+pub runs_in_order : (segment : ℕ) (r q : Run) → IsBefore r q → (p o : Piece) → In p (pieces_of_run segment r)
+    → In o (pieces_of_run segment q) → LiesBefore p o
 unfolding IsBefore
 runs_in_order segment r q before p o in_p in_o =
     let a = piece_of_run segment r p in_p in
@@ -170,7 +222,8 @@ pub record HoldsPiece (pieces : List Piece) (segment place : ℕ) : Type 0 where
   pub from : piece.offset ≤ place
   pub below : place < piece.offset + length piece.bytes
 
-pub run_is_cut : (segment : ℕ) (r : Run) (place : ℕ) → r.0 ≤ place → place < r.0 + length r.1 → HoldsPiece (pieces_of_run segment r) segment place
+pub run_is_cut : (segment : ℕ) (r : Run) (place : ℕ) → r.0 ≤ place → place < r.0 + length r.1
+    → HoldsPiece (pieces_of_run segment r) segment place
 run_is_cut segment r place from below =
     let i = (place - r.0) / 1024 in
     let n = (length r.1 + 1023) / 1024 in

@@ -1,6 +1,9 @@
--- A line of at most 255 bytes has no expression of over 254 names: each symbol of an expression is at most one name, and
+-- A line of at most 255 bytes has no expression of over 254 names: each symbol of an expression is at most one name,
+-- and
 -- each token has a byte.
-use Rattle.std.proofs.Common.{◌≡◌, ℕ, zero, suc, ◌+◌, ◌-◌, ◌≤◌, ◌==◌, ◌||◌, Bool, true, false, nat_lt, cond, List, [], ◌∷◌, ◌++◌, length, length-append, take, drop, Option, Some, None, option_map, Result, Ok, Err, refl, ap, subst, ◌∙◌, arith}
+use Rattle.std.proofs.Common.{◌≡◌, ℕ, zero, suc, ◌+◌, ◌-◌, ◌≤◌, ◌==◌, ◌||◌, Bool, true, false, nat_lt, cond, List, []}
+use Rattle.std.proofs.Common.{◌∷◌, ◌++◌, length, length-append, take, drop, Option, Some, None, option_map, Result, Ok}
+use Rattle.std.proofs.Common.{Err, refl, ap, subst, ◌∙◌, arith}
 use Rattle.std.proofs.lemmas.List.{length-map}
 use Rattle.std.proofs.lemmas.Bool.{ltb-false}
 use Rattle.std.specs.List.{AllByRecursion, list_all, prefix_len}
@@ -35,7 +38,8 @@ use Rattle.m51_stmt.specs.Control.{ends, parenthesized, include_of, ignored_if, 
 use Rattle.m51_stmt.specs.Lines.{any_line, symbols_of}
 use Rattle.m51_stmt.specs.Operands.{register, pointer, sum}
 use Rattle.m51_stmt.specs.Words.{register_number}
-use Rattle.m51_stmt.proofs.IfRead.{IfSome, some_is, none_is, some_cond, some_map, IfRead, ok_is, err_is, ok_cond, ok_if, read_cond, flip}
+use Rattle.m51_stmt.proofs.IfRead.{IfSome, some_is, none_is, some_cond, some_map, IfRead, ok_is, err_is, ok_cond, ok_if}
+use Rattle.m51_stmt.proofs.IfRead.{read_cond, flip}
 use Rattle.m51_stmt.proofs.LinesRead.{line_derived}
 use Rattle.m51_text.specs.Said.{is_character, said}
 use Rattle.m51_text.specs.Text.{TextLine, text_lines}
@@ -53,14 +57,17 @@ number_names (Some n) e h = let is : tree.Number n ≡ e = cc h in subst (λ t. 
 number_names None e h = absurd (cc h)
 
 leaf_names : (o : Option Symbol) (e : Tree) → leaf_of o ≡ Some e → names_in e ≤ 1
-leaf_names (Some (symbol.Number n)) e h = let is : tree.Number n ≡ e = cc h in subst (λ t. names_in t ≤ 1) is (omega arith)
+leaf_names (Some (symbol.Number n)) e h = let is : tree.Number n ≡ e = cc h in
+    subst (λ t. names_in t ≤ 1) is (omega arith)
 leaf_names (Some (symbol.Text characters)) e h = number_names (text_value characters) e h
-leaf_names (Some (symbol.Name name)) e h = let is : tree.Name name ≡ e = cc h in subst (λ t. names_in t ≤ 1) is (omega arith)
+leaf_names (Some (symbol.Name name)) e h = let is : tree.Name name ≡ e = cc h in
+    subst (λ t. names_in t ≤ 1) is (omega arith)
 leaf_names (Some symbol.Here) e h = let is : tree.Here ≡ e = cc h in subst (λ t. names_in t ≤ 1) is (omega arith)
 leaf_names o e h = absurd (cc h)
 
 written_names : (line : Line) (rank from : ℕ) (e : Tree) (to : ℕ) → Writes line rank from e to → from + names_in e ≤ to
-written_names line rank from e to (expression.Leaf is leaf end) = let few = leaf_names (line from) e leaf in omega (arith, few, end)
+written_names line rank from e to (expression.Leaf is leaf end) = let few = leaf_names (line from) e leaf in
+    omega (arith, few, end)
 written_names line rank from e to (expression.Parens {last = last} is first inner close end) =
     let few = written_names line 0 (from + 1) e last inner in omega (arith, few, end)
 written_names line rank from e to (expression.Before {e = inner} is rest) =
@@ -91,9 +98,11 @@ pointer_names word =
 
 sum_names : (word : List ℕ) → IfSome (sum word) IsFewNamed
 unfolding sum
-sum_names word = some_cond (bytes_eq word (codes "PC")) (some_is tt) (some_cond (bytes_eq word (codes "DPTR")) (some_is tt) none_is)
+sum_names word = some_cond (bytes_eq word (codes "PC")) (some_is tt)
+    (some_cond (bytes_eq word (codes "DPTR")) (some_is tt) none_is)
 
-operand_names : (symbols : List Symbol) (o : OperandTree) → length symbols ≤ 254 → grammar.IsOperand symbols o → IsFewNamed o
+operand_names : (symbols : List Symbol) (o : OperandTree) → length symbols ≤ 254 → grammar.IsOperand symbols o
+    → IsFewNamed o
 operand_names symbols o h (grammar.Register {word = word} is) = (register_names word).holds o is
 operand_names symbols o h (grammar.Pointer {word = word} is) = (pointer_names word).holds o is
 operand_names symbols o h (grammar.Sum {word = word} is) = (sum_names word).holds o is
@@ -101,18 +110,21 @@ operand_names symbols o h (grammar.Immediate is) = tt
 operand_names symbols o h (grammar.Inverted is) = tt
 operand_names symbols o h (grammar.Address {e = e} is) = expr_names symbols e h is
 
-list_names : (symbols : List Symbol) (os : List OperandTree) → length symbols ≤ 254 → grammar.IsList grammar.IsOperand symbols os → AreFewNamed os
+list_names : (symbols : List Symbol) (os : List OperandTree) → length symbols ≤ 254
+    → grammar.IsList grammar.IsOperand symbols os → AreFewNamed os
 list_names symbols os h (grammar.Last {a = o} is) = (operand_names symbols o h is, tt)
 list_names symbols os h (grammar.Comma {part = part} {rest = rest} {a = o} {more = more} is others) =
     let len = length-append part (symbol.Comma ∷ rest) in
     (operand_names part o (omega (arith, h, len)) is, list_names rest more (omega (arith, h, len)) others)
 
-operands_names : (symbols : List Symbol) (os : List OperandTree) → length symbols ≤ 254 → grammar.AreOperands symbols os → AreFewNamed os
+operands_names : (symbols : List Symbol) (os : List OperandTree) → length symbols ≤ 254 → grammar.AreOperands symbols os
+    → AreFewNamed os
 operands_names symbols os h grammar.Without = tt
 operands_names symbols os h (grammar.With is) = list_names symbols os h is
 
 -- statements
-directive_names : (d : _) (symbols : List Symbol) (b : BodyTree) → length symbols ≤ 254 → grammar.IsDirective d symbols b → HasFewNames b
+directive_names : (d : _) (symbols : List Symbol) (b : BodyTree) → length symbols ≤ 254
+    → grammar.IsDirective d symbols b → HasFewNames b
 directive_names d symbols b h (grammar.Using {e = e} is) = expr_names symbols e h is
 directive_names d symbols b h (grammar.Ds {e = e} is) = expr_names symbols e h is
 directive_names d symbols b h (grammar.Dbit {e = e} is) = expr_names symbols e h is
@@ -127,20 +139,27 @@ directive_names d symbols b h (grammar.Public is) = tt
 directive_names d symbols b h (grammar.Extrn is) = tt
 directive_names d symbols b h grammar.End = tt
 
-definition_names : (name : List ℕ) (d : _) (symbols : List Symbol) (b : BodyTree) → length symbols ≤ 254 → grammar.IsDefinition name d symbols b → HasFewNames b
+definition_names : (name : List ℕ) (d : _) (symbols : List Symbol) (b : BodyTree) → length symbols ≤ 254
+    → grammar.IsDefinition name d symbols b → HasFewNames b
 definition_names name d symbols b h (grammar.Segment k t o a) = tt
 definition_names name d symbols b h (grammar.Equ {e = e} is) = expr_names symbols e h is
 definition_names name d symbols b h (grammar.Set {e = e} is) = expr_names symbols e h is
 definition_names name d symbols b h (grammar.Address {e = e} is) = expr_names symbols e h is
 
-said_names : (labelled : Bool) (symbols : List Symbol) (b : BodyTree) → length symbols ≤ 255 → grammar.IsSaid labelled symbols b → HasFewNames b
+said_names : (labelled : Bool) (symbols : List Symbol) (b : BodyTree) → length symbols ≤ 255
+    → grammar.IsSaid labelled symbols b → HasFewNames b
 said_names labelled symbols b h grammar.Nothing = tt
-said_names labelled symbols b h (grammar.Instruction {symbols = rest} {os = os} is given form) = operands_names rest os (omega (arith, h)) given
-said_names labelled symbols b h (grammar.Directed {d = d} {symbols = rest} found is) = directive_names d rest b (omega (arith, h)) is
-said_names labelled symbols b h (grammar.Defined {name = name} {d = d} {symbols = rest} free found is) = definition_names name d rest b (omega (arith, h)) is
+said_names labelled symbols b h (grammar.Instruction {symbols = rest} {os = os} is given form) =
+    operands_names rest os (omega (arith, h)) given
+said_names labelled symbols b h (grammar.Directed {d = d} {symbols = rest} found is) =
+    directive_names d rest b (omega (arith, h)) is
+said_names labelled symbols b h (grammar.Defined {name = name} {d = d} {symbols = rest} free found is) =
+    definition_names name d rest b (omega (arith, h)) is
 
-statement_names : (symbols : List Symbol) (s : StmtTree) → length symbols ≤ 255 → grammar.IsStatement symbols s → HasFewNames s.body
-statement_names symbols s h (grammar.Labelled {symbols = rest} {b = b} free is) = said_names true rest b (omega (arith, h)) is
+statement_names : (symbols : List Symbol) (s : StmtTree) → length symbols ≤ 255 → grammar.IsStatement symbols s
+    → HasFewNames s.body
+statement_names symbols s h (grammar.Labelled {symbols = rest} {b = b} free is) =
+    said_names true rest b (omega (arith, h)) is
 statement_names symbols s h (grammar.Bare {b = b} is) = said_names false symbols b h is
 
 -- controls
@@ -148,7 +167,8 @@ control_word : (word rest : List ℕ) → IfRead (control.by_word word rest) Has
 unfolding control.by_word
 control_word word rest =
     ok_cond (bytes_eq word (codes "INCLUDE")) (λ _. included (parenthesized rest)) (λ _.
-    ok_cond (bytes_eq word (codes "TITLE")) (λ _. ok_cond (ends rest) (λ _. ok_is tt) (λ _. titled (parenthesized rest))) (λ _.
+    ok_cond (bytes_eq word (codes "TITLE"))
+    (λ _. ok_cond (ends rest) (λ _. ok_is tt) (λ _. titled (parenthesized rest))) (λ _.
     ok_cond (bytes_eq word (codes "MOD51")) (λ _. ok_if BAD_FORM (ends rest) (λ _. ok_is tt)) (λ _.
     ok_cond (bytes_eq word (codes "NOMOD51")) (λ _. ok_if BAD_FORM (ends rest) (λ _. ok_is tt)) (λ _.
     ok_if BAD_FORM (is_ignored_word word) (λ _. ok_if BAD_FORM (ends rest) (λ _. ok_is tt))))))
@@ -162,7 +182,8 @@ control_word word rest =
     titled None = err_is
 
 control_names : (rest : List ℕ) → IfRead (control.control rest) HasFewNames
-control_names rest = let len = prefix_len is_ascii_alphanumeric rest in by_its_name (name_of (take len rest)) (drop len rest)
+control_names rest = let len = prefix_len is_ascii_alphanumeric rest in
+    by_its_name (name_of (take len rest)) (drop len rest)
   where
     by_its_name : (o : Option (List ℕ)) (rest : List ℕ) → IfRead (by_name o rest) HasFewNames
     by_its_name None rest = err_is
@@ -172,7 +193,8 @@ control_names rest = let len = prefix_len is_ascii_alphanumeric rest in by_its_n
 abbrev AreAtMost : ℕ → List Token → Type 0
 AreAtMost most ts = length ts ≤ most
 
-first_count : (most : ℕ) (t : Token) (r : Cut) → IfRead r (AreAtMost most) → IfRead (put_front (t ∷ []) r) (AreAtMost (suc most))
+first_count : (most : ℕ) (t : Token) (r : Cut) → IfRead r (AreAtMost most)
+    → IfRead (put_front (t ∷ []) r) (AreAtMost (suc most))
 first_count most t (Ok us) h = let few = h.holds us refl in ok_is (omega (arith, few))
 first_count most t (Err k) h = err_is
 
@@ -188,7 +210,8 @@ module _ (at : ℕ) (go : ℕ → Cut) (most : ℕ) (more : (n : ℕ) → IfRead
   name_count : (rest : List ℕ) → IfRead (after_lexeme at (name_lexeme rest) go) (AreAtMost (suc most))
   name_count rest =
       let len = prefix_len is_name_byte rest in
-      read_cond (flip (after_lexeme at) go) (AreAtMost (suc most)) (nat_lt 31 len) _ _ (λ _. err_is) (λ _. first_count most _ (go (len - 1)) (more (len - 1)))
+      read_cond (flip (after_lexeme at) go) (AreAtMost (suc most)) (nat_lt 31 len) _ _ (λ _. err_is)
+      (λ _. first_count most _ (go (len - 1)) (more (len - 1)))
 
   lexeme_count : (rest : List ℕ) → IfRead (after_lexeme at (lexeme_of rest) go) (AreAtMost (suc most))
   unfolding lexeme_of
@@ -197,18 +220,23 @@ module _ (at : ℕ) (go : ℕ → Cut) (most : ℕ) (more : (n : ℕ) → IfRead
       let len = prefix_len is_ascii_alphanumeric rest in
       read_cond (flip (after_lexeme at) go) (AreAtMost (suc most)) (first == space || first == tab) _ _
       (λ _. record { holds = λ us is. let few = (more 0).holds us is in omega (arith, few) }) (λ _.
-      read_cond (flip (after_lexeme at) go) (AreAtMost (suc most)) (first == semicolon) _ _ (λ _. ok_is (omega arith)) (λ _.
-      read_cond (flip (after_lexeme at) go) (AreAtMost (suc most)) (is_ascii_digit first) _ _ (λ _. number_count len (number_of (take len rest))) (λ _.
+      read_cond (flip (after_lexeme at) go) (AreAtMost (suc most)) (first == semicolon) _ _ (λ _. ok_is (omega arith))
+      (λ _.
+      read_cond (flip (after_lexeme at) go) (AreAtMost (suc most)) (is_ascii_digit first) _ _
+      (λ _. number_count len (number_of (take len rest))) (λ _.
       read_cond (flip (after_lexeme at) go) (AreAtMost (suc most)) (is_name_byte first) _ _ (λ _. name_count rest) (λ _.
-      read_cond (flip (after_lexeme at) go) (AreAtMost (suc most)) (first == quote) _ _ (λ _. text_count (text_len (drop 1 rest))) (λ _.
-      read_cond (flip (after_lexeme at) go) (AreAtMost (suc most)) (is_sign first) _ _ (λ _. first_count most _ (go (1 - 1)) (more (1 - 1))) (λ _. err_is))))))
+      read_cond (flip (after_lexeme at) go) (AreAtMost (suc most)) (first == quote) _ _
+      (λ _. text_count (text_len (drop 1 rest))) (λ _.
+      read_cond (flip (after_lexeme at) go) (AreAtMost (suc most)) (is_sign first) _ _
+      (λ _. first_count most _ (go (1 - 1)) (more (1 - 1))) (λ _. err_is))))))
 
 token_count : (line : List ℕ) (passed at : ℕ) → IfRead (tokens_at passed at line) (AreAtMost (length line))
 token_count [] passed at = ok_is (omega arith)
 token_count (b ∷ rest) (suc passed) at =
     record { holds = λ us is. let few = (token_count rest passed (at + 1)).holds us is in omega (arith, few) }
 token_count (b ∷ rest) zero at =
-    lexeme_count at (λ passed. tokens_at passed (at + 1) rest) (length rest) (λ n. token_count rest n (at + 1)) (b ∷ rest)
+    lexeme_count at (λ passed. tokens_at passed (at + 1) rest) (length rest) (λ n. token_count rest n (at + 1))
+    (b ∷ rest)
 
 -- the lines of a text
 line_names : (line : List ℕ) (s : StmtTree) → length line ≤ 255 → grammar.IsLine line s → HasFewNames s.body
@@ -221,7 +249,8 @@ line_names line s h (grammar.Statement {tokens = tokens} no_dollar no_percent cu
 abbrev read_as : StmtTree → Result StmtTree ℕ
 read_as s = Ok s
 
-passed : (b c : Bool) (j k : ℕ) (r : Result StmtTree ℕ) (s : StmtTree) → cond b (cond c (Err k) r) (Err j) ≡ read_as s → (c ≡ false) × (r ≡ Ok s)
+passed : (b c : Bool) (j k : ℕ) (r : Result StmtTree ℕ) (s : StmtTree) → cond b (cond c (Err k) r) (Err j) ≡ read_as s
+    → (c ≡ false) × (r ≡ Ok s)
 passed true false j k r s h = (refl, h)
 passed true true j k r s h = absurd (cc h)
 passed false c j k r s h = absurd (cc h)
@@ -235,7 +264,8 @@ said_few line s h =
 abbrev FewTree : LineTree → Type 0
 FewTree l = HasFewNames l.stmt.body
 
-one_few : (line : TextLine) (r : Result StmtTree ℕ) (more : List LineTree) → said line.bytes ≡ r → AllByRecursion FewTree more → AllByRecursion FewTree (with_statement line r more)
+one_few : (line : TextLine) (r : Result StmtTree ℕ) (more : List LineTree) → said line.bytes ≡ r
+    → AllByRecursion FewTree more → AllByRecursion FewTree (with_statement line r more)
 one_few line (Ok s) more e all = (said_few line.bytes s e, all)
 one_few line (Err number) more e all = all
 
@@ -252,7 +282,8 @@ few_at (l ∷ ls) (suc k) all = few_at ls k all.1
 pub few_names : (lines : List LineTree) → IsText lines → (k : ℕ) → HasFewNames (body_at lines k)
 few_names lines text k =
     let ls : List TextLine = text_lines text.source text.includes in
-    few_at lines k (subst (AllByRecursion FewTree) (found_are (faults_of text.includes ls) (statements_of ls) lines text.read) (all_few ls))
+    few_at lines k (subst (AllByRecursion FewTree)
+    (found_are (faults_of text.includes ls) (statements_of ls) lines text.read) (all_few ls))
 
 base_few : (b : Base) → length (base_ids b) ≤ 1
 base_few (base.Segment id) = omega arith
@@ -274,10 +305,12 @@ ids_few names (tree.Two op left right) =
     omega (arith, first, second, len)
 ids_few names e = omega arith
 
-pub table_few : (names : Meanings) (e : Tree) (table : List ℕ) → table ≡ base_ids names.here.base ++ ids_in names e → names_in e ≤ 254
+pub table_few : (names : Meanings) (e : Tree) (table : List ℕ) → table ≡ base_ids names.here.base ++ ids_in names e
+    → names_in e ≤ 254
     → length table ≤ 255
 table_few names e table is h =
     let first = base_few names.here.base in
     let second = ids_few names e in
-    let len : length table ≡ length (base_ids names.here.base) + length (ids_in names e) = ap length is ∙ length-append (base_ids names.here.base) (ids_in names e) in
+    let len : length table ≡ length (base_ids names.here.base) + length (ids_in names e) =
+    ap length is ∙ length-append (base_ids names.here.base) (ids_in names e) in
     omega (arith, first, second, len, h)

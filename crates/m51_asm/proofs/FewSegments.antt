@@ -1,7 +1,10 @@
 -- A text without faults gives no more segments and externals than a module may have.
-use Rattle.std.proofs.Common.{◌≡◌, ◌≢◌, ◌⊎◌, inl, inr, ℕ, zero, suc, ◌+◌, ◌<◌, ◌≤◌, ◌==◌, nat_lt, Bool, true, false, not, ◌&&◌, cond, List, [], ◌∷◌, ◌++◌, length, ◌-◌, refl, sym, ap, subst, ◌∙◌, arith, add-zero, length-append, eq-eqb}
+use Rattle.std.proofs.Common.{◌≡◌, ◌≢◌, ◌⊎◌, inl, inr, ℕ, zero, suc, ◌+◌, ◌<◌, ◌≤◌, ◌==◌, nat_lt, Bool, true, false}
+use Rattle.std.proofs.Common.{not, ◌&&◌, cond, List, [], ◌∷◌, ◌++◌, length, ◌-◌, refl, sym, ap, subst, ◌∙◌, arith}
+use Rattle.std.proofs.Common.{add-zero, length-append, eq-eqb}
 use Rattle.std.proofs.lemmas.List.{length-map}
-use Rattle.std.proofs.lemmas.Bool.{ltb-true, ltb-false, lt-ltb, le-ltb, eqb-true, eqb-false, ne_eqb, or_parts, and_from, cases_Bool}
+use Rattle.std.proofs.lemmas.Bool.{ltb-true, ltb-false, lt-ltb, le-ltb, eqb-true, eqb-false, ne_eqb, or_parts, and_from}
+use Rattle.std.proofs.lemmas.Bool.{cases_Bool}
 use Rattle.m51_cells.specs.declared.kind.Kind.{Kind}
 use Rattle.m51_cells.specs.declared.kind.Reloc.{Reloc}
 use Rattle.m51_cells.specs.declared.kind.Reloc.TheVariants as reloc
@@ -34,7 +37,8 @@ counted p (s ∷ xs) = one_if (p s) + counted p xs
 record MayGain (f g : Kept → Bool) (id : ℕ) (gains : Bool) (s : Kept) : Type 0 where
   may : g s ≡ true → (f s ≡ true) ⊎ ((s.id ≡ id) × (gains ≡ true))
 
-one_of : (f g : Kept → Bool) (id : ℕ) (gains : Bool) (s : Kept) (b c : Bool) → f s ≡ b → g s ≡ c → MayGain f g id gains s
+one_of : (f g : Kept → Bool) (id : ℕ) (gains : Bool) (s : Kept) (b c : Bool) → f s ≡ b → g s ≡ c
+    → MayGain f g id gains s
     → (one_if (g s) ≤ one_if (f s)) ⊎ ((s.id ≡ id) × (one_if (g s) ≤ one_if (f s) + one_if gains))
 one_of f g id gains s b false fb gc m = inl (let e : one_if (g s) ≡ 0 = ap one_if gc in omega (arith, e))
 one_of f g id gains s true true fb gc m =
@@ -47,27 +51,32 @@ one_of f g id gains s false true fb gc m = elim (m.may gc) [
       inr (p.0, omega (arith, e, d))
 ]
 
-no_gain : (f g : Kept → Bool) (id : ℕ) (gains : Bool) (xs : List Kept) → ((s : Kept) → In s xs → MayGain f g id gains s) → ((s : Kept) → In s xs → s.id ≢ id) → counted g xs ≤ counted f xs
+no_gain : (f g : Kept → Bool) (id : ℕ) (gains : Bool) (xs : List Kept) → ((s : Kept) → In s xs → MayGain f g id gains s)
+    → ((s : Kept) → In s xs → s.id ≢ id) → counted g xs ≤ counted f xs
 unfolding counted
 no_gain f g id gains [] m ne = omega arith
 no_gain f g id gains (s ∷ xs) m ne =
-    let rest : counted g xs ≤ counted f xs = no_gain f g id gains xs (λ t i. m t (in_later t s xs i)) (λ t i. ne t (in_later t s xs i)) in
+    let rest : counted g xs ≤ counted f xs =
+    no_gain f g id gains xs (λ t i. m t (in_later t s xs i)) (λ t i. ne t (in_later t s xs i)) in
     elim (one_of f g id gains s (f s) (g s) refl refl (m s (in_first s xs))) [
       | inl h ↦ omega (arith, h, rest)
       | inr p ↦ absurd (ne s (in_first s xs) p.0)
     ]
 
-one_gain : (f g : Kept → Bool) (id : ℕ) (gains : Bool) (xs : List Kept) → Pairs (λ s t. s.id < t.id) xs → ((s : Kept) → In s xs → MayGain f g id gains s)
+one_gain : (f g : Kept → Bool) (id : ℕ) (gains : Bool) (xs : List Kept) → Pairs (λ s t. s.id < t.id) xs
+    → ((s : Kept) → In s xs → MayGain f g id gains s)
     → counted g xs ≤ counted f xs + one_if gains
 unfolding counted Pairs Every
 one_gain f g id gains [] order m = omega arith
 one_gain f g id gains (s ∷ xs) order m = elim (one_of f g id gains s (f s) (g s) refl refl (m s (in_first s xs))) [
   | inl h ↦
-      let rest : counted g xs ≤ counted f xs + one_if gains = one_gain f g id gains xs order.1 (λ t i. m t (in_later t s xs i)) in
+      let rest : counted g xs ≤ counted f xs + one_if gains =
+      one_gain f g id gains xs order.1 (λ t i. m t (in_later t s xs i)) in
       omega (arith, h, rest)
   | inr p ↦
       let rest : counted g xs ≤ counted f xs =
-      no_gain f g id gains xs (λ t i. m t (in_later t s xs i)) (λ t i e. let less : s.id < t.id = order.0 t i in absurd (omega (arith, less, p.0, e))) in
+      no_gain f g id gains xs (λ t i. m t (in_later t s xs i))
+      (λ t i e. let less : s.id < t.id = order.0 t i in absurd (omega (arith, less, p.0, e))) in
       let first = p.1 in
       omega (arith, first, rest)
 ]
@@ -103,12 +112,15 @@ module _ (lines : List LineTree) (a : Assignment) (c : IsFreeText lines a) where
   numbers_by k b h = h
 
   -- a line that declares a segment gives nothing
-  gaining_filled : (k : ℕ) (b : BodyTree) (id : ℕ) → body_at lines k ≡ b → size_at lines a k ≢ 0 → id ≡ (a.segment k).id → id ≡ gaining_by k b
+  gaining_filled : (k : ℕ) (b : BodyTree) (id : ℕ) → body_at lines k ≡ b → size_at lines a k ≢ 0 → id ≡ (a.segment k).id
+      → id ≡ gaining_by k b
   unfolding size_at gaining_by
-  gaining_filled k (body.Segment name j type overlayable) id is ne e = absurd (ne (ap (size_by (above lines a k) (a.form k)) is))
+  gaining_filled k (body.Segment name j type overlayable) id is ne e =
+      absurd (ne (ap (size_by (above lines a k) (a.form k)) is))
   gaining_filled k b id is ne e = e
 
-  gaining_declared : (k : ℕ) (b : BodyTree) (name : List ℕ) (j : Kind) (type : Reloc) (overlayable : Bool) → b ≡ body.Segment name j type overlayable
+  gaining_declared : (k : ℕ) (b : BodyTree) (name : List ℕ) (j : Kind) (type : Reloc) (overlayable : Bool)
+      → b ≡ body.Segment name j type overlayable
       → (k + 2 ≡ gaining_by k b) × (is_numbered_by lines a k b ≡ true)
   unfolding gaining_by
   gaining_declared k b name j type overlayable is =
@@ -135,18 +147,23 @@ module _ (lines : List LineTree) (a : Assignment) (c : IsFreeText lines a) where
   filled_some k s e ne = has_fixed k s e ∙ ap not (ne_eqb (filled lines a s.id k) 0 ne)
 
   -- the line that gives an absolute segment its first byte
-  fixed_gain : (k : ℕ) (s : Kept) → IsKept lines a s → is_absolute s.segment.reloc ≡ true → filled lines a s.id (suc k) ≢ 0 → filled lines a s.id k ≡ 0 → (b : Bool) → ((a.segment k).id == s.id) ≡ b
+  fixed_gain : (k : ℕ) (s : Kept) → IsKept lines a s → is_absolute s.segment.reloc ≡ true
+      → filled lines a s.id (suc k) ≢ 0 → filled lines a s.id k ≡ 0 → (b : Bool) → ((a.segment k).id == s.id) ≡ b
       → (s.id ≡ gaining k) × (numbers_a_segment lines a k ≡ true)
   fixed_gain k s kept e some none false test = absurd (some (filled_there lines a k s.id test ∙ none))
   fixed_gain k s kept e some none true test =
       let id : (a.segment k).id ≡ s.id = eqb-true (a.segment k).id s.id test in
-      let size : size_at lines a k ≢ 0 = λ z. some (filled_here lines a k s.id test ∙ ap (λ n. n + size_at lines a k) none ∙ ap (λ n. 0 + n) z) in
+      let size : size_at lines a k ≢ 0 =
+      λ z. some (filled_here lines a k s.id test ∙ ap (λ n. n + size_at lines a k) none ∙ ap (λ n. 0 + n) z) in
       let abs : (a.segment k).reloc ≡ reloc.Abs =
-      sym (ap (λ (t : TextSegment). t.reloc) (known lines a c k).same) ∙ ap (λ i. (segment_of lines a i).reloc) id ∙ kept.fixed (absolute_is s.segment.reloc e) in
-      let first : (filled lines a (a.segment k).id k == 0) ≡ true = eq-eqb (filled lines a (a.segment k).id k) 0 (ap (λ i. filled lines a i k) id ∙ none) in
+      sym (ap (λ (t : TextSegment). t.reloc) (known lines a c k).same) ∙ ap (λ i. (segment_of lines a i).reloc) id
+      ∙ kept.fixed (absolute_is s.segment.reloc e) in
+      let first : (filled lines a (a.segment k).id k == 0) ≡ true =
+      eq-eqb (filled lines a (a.segment k).id k) 0 (ap (λ i. filled lines a i k) id ∙ none) in
       let more : not (size_at lines a k == 0) ≡ true = ap not (ne_eqb (size_at lines a k) 0 size) in
       let begins : begins_to_fill lines a k ≡ true =
-      and_from (is_absolute (a.segment k).reloc) (filled lines a (a.segment k).id k == 0 && not (size_at lines a k == 0)) (ap is_absolute abs)
+      and_from (is_absolute (a.segment k).reloc)
+      (filled lines a (a.segment k).id k == 0 && not (size_at lines a k == 0)) (ap is_absolute abs)
       (and_from (filled lines a (a.segment k).id k == 0) (not (size_at lines a k == 0)) first more) in
       (gaining_filled k (body_at lines k) s.id refl size (sym id), numbers_by k (body_at lines k) begins)
 
@@ -155,11 +172,14 @@ module _ (lines : List LineTree) (a : Assignment) (c : IsFreeText lines a) where
     may = λ h. by_before (filled lines a s.id k == 0) refl (some_filled (suc k) s e h);
   }
     where
-      by_before : (b : Bool) → (filled lines a s.id k == 0) ≡ b → filled lines a s.id (suc k) ≢ 0 → (has_one k s ≡ true) ⊎ ((s.id ≡ gaining k) × (numbers_a_segment lines a k ≡ true))
+      by_before : (b : Bool) → (filled lines a s.id k == 0) ≡ b → filled lines a s.id (suc k) ≢ 0
+          → (has_one k s ≡ true) ⊎ ((s.id ≡ gaining k) × (numbers_a_segment lines a k ≡ true))
       by_before false test some = inl (filled_some k s e (eqb-false (filled lines a s.id k) 0 test))
-      by_before true test some = inr (fixed_gain k s kept e some (eqb-true (filled lines a s.id k) 0 test) ((a.segment k).id == s.id) refl)
+      by_before true test some =
+          inr (fixed_gain k s kept e some (eqb-true (filled lines a s.id k) 0 test) ((a.segment k).id == s.id) refl)
 
-  declared_gain : (k : ℕ) (s : Kept) → is_absolute s.segment.reloc ≡ false → s.id ≡ k + 2 → IsNamed lines s.id s.segment → (s.id ≡ gaining k) × (numbers_a_segment lines a k ≡ true)
+  declared_gain : (k : ℕ) (s : Kept) → is_absolute s.segment.reloc ≡ false → s.id ≡ k + 2 → IsNamed lines s.id s.segment
+      → (s.id ≡ gaining k) × (numbers_a_segment lines a k ≡ true)
   declared_gain k s e id (Nameless n r) = absurd (cc (e, ap is_absolute r))
   declared_gain k s e id (DeclaredAt j name kind type overlayable at is n) =
       let same : j ≡ k = omega (arith, at, id) in
@@ -171,14 +191,16 @@ module _ (lines : List LineTree) (a : Assignment) (c : IsFreeText lines a) where
     may = λ h. by_before (nat_lt s.id (k + 2)) refl (ltb-true s.id (suc k + 2) (sym (has_declared (suc k) s e) ∙ h));
   }
     where
-      by_before : (b : Bool) → nat_lt s.id (k + 2) ≡ b → s.id < suc k + 2 → (has_one k s ≡ true) ⊎ ((s.id ≡ gaining k) × (numbers_a_segment lines a k ≡ true))
+      by_before : (b : Bool) → nat_lt s.id (k + 2) ≡ b → s.id < suc k + 2
+          → (has_one k s ≡ true) ⊎ ((s.id ≡ gaining k) × (numbers_a_segment lines a k ≡ true))
       by_before true test less = inl (has_declared k s e ∙ test)
       by_before false test less =
           let above : k + 2 ≤ s.id = ltb-false s.id (k + 2) test in
           inr (declared_gain k s e (omega (arith, above, less)) kept.named)
 
   gains : (k : ℕ) (s : Kept) → IsKept lines a s → Gains k s
-  gains k s kept = elim (cases_Bool (is_absolute s.segment.reloc)) [ inl e ↦ gains_fixed k s kept e | inr e ↦ gains_declared k s kept e ]
+  gains k s kept = elim (cases_Bool (is_absolute s.segment.reloc))
+      [ inl e ↦ gains_fixed k s kept e | inr e ↦ gains_declared k s kept e ]
 
   all : AreKept lines a c (length lines) (kept lines a)
   all = all_kept lines a c
@@ -195,7 +217,8 @@ module _ (lines : List LineTree) (a : Assignment) (c : IsFreeText lines a) where
     where
       by_name : is_absolute s.segment.reloc ≡ false → IsNamed lines s.id s.segment → has_one 0 s ≡ false
       by_name e (Nameless n r) = absurd (cc (e, ap is_absolute r))
-      by_name e (DeclaredAt j name kind type overlayable at is n) = has_declared 0 s e ∙ le-ltb s.id (0 + 2) (omega (arith, at))
+      by_name e (DeclaredAt j name kind type overlayable at is n) =
+          has_declared 0 s e ∙ le-ltb s.id (0 + 2) (omega (arith, at))
 
   at_last : (s : Kept) → IsKept lines a s → s.id ≤ suc (length lines) → has_one (length lines) s ≡ true
   at_last s kept low = elim (cases_Bool (is_absolute s.segment.reloc)) [
@@ -210,7 +233,8 @@ module _ (lines : List LineTree) (a : Assignment) (c : IsFreeText lines a) where
   unfolding segments_before
   counts_to zero = let e = none_counted (has_one 0) (kept lines a) (λ s i. none_yet s (is_kept s i)) in omega (arith, e)
   counts_to (suc k) =
-      let step = one_gain (has_one k) (has_one (suc k)) (gaining k) (numbers_a_segment lines a k) (kept lines a) all.order (λ s i. gains k s (is_kept s i)) in
+      let step = one_gain (has_one k) (has_one (suc k)) (gaining k) (numbers_a_segment lines a k) (kept lines a)
+      all.order (λ s i. gains k s (is_kept s i)) in
       let before = counts_to k in
       omega (arith, step, before)
 
@@ -219,7 +243,8 @@ module _ (lines : List LineTree) (a : Assignment) (c : IsFreeText lines a) where
   segments_most zero is = omega arith
   segments_most (suc k) is =
       let f : IsFaultFree lines a k = free lines a k (c.placed k (omega (arith, is))) in
-      let p = or_parts (nat_lt 254 (segments_before lines a (suc k))) (nat_lt 255 (externals_before lines (suc k))) f.few in
+      let p = or_parts (nat_lt 254 (segments_before lines a (suc k))) (nat_lt 255 (externals_before lines (suc k)))
+      f.few in
       ltb-false 254 (segments_before lines a (suc k)) p.0
 
   pub few_segments : length (kept lines a) ≤ 254
@@ -232,7 +257,8 @@ module _ (lines : List LineTree) (a : Assignment) (c : IsFreeText lines a) where
 
   kept_grows : (k j : ℕ) → length (kept_before lines a k) ≤ length (kept_before lines a (k + j))
   unfolding kept_before
-  kept_grows k zero = subst (λ n. length (kept_before lines a k) ≤ length (kept_before lines a n)) (sym (add-zero k)) (omega arith)
+  kept_grows k zero = subst (λ n. length (kept_before lines a k) ≤ length (kept_before lines a n)) (sym (add-zero k))
+      (omega arith)
   kept_grows k (suc j) =
       let before = kept_grows k j in
       let len = length-append (kept_before lines a (k + j)) (kept_by lines a (k + j) (body_at lines (k + j))) in
@@ -245,7 +271,8 @@ module _ (lines : List LineTree) (a : Assignment) (c : IsFreeText lines a) where
   kept_most k within =
       let e : k + (length lines - k) ≡ length lines = omega (arith, within) in
       let grows : length (kept_before lines a k) ≤ length (kept_before lines a (length lines)) =
-      subst (λ n. length (kept_before lines a k) ≤ length (kept_before lines a n)) e (kept_grows k (length lines - k)) in
+      subst (λ n. length (kept_before lines a k) ≤ length (kept_before lines a n)) e
+      (kept_grows k (length lines - k)) in
       let most : length (kept_before lines a (length lines)) ≤ 254 = few_segments in
       omega (arith, grows, most)
 
@@ -253,16 +280,23 @@ externals_of : (b : BodyTree) → externals_in b ≡ length (externals_by b)
 externals_of (body.Extrn xs) = sym (length-map xs external)
 externals_of b = refl
 
-externals_to : (lines ls : List LineTree) (n : ℕ) → ((j : ℕ) → body_at ls j ≡ body_at lines (n + j)) → externals_before lines (n + length ls) ≡ externals_before lines n + length (externals ls)
+externals_to : (lines ls : List LineTree) (n : ℕ) → ((j : ℕ) → body_at ls j ≡ body_at lines (n + j))
+    → externals_before lines (n + length ls) ≡ externals_before lines n + length (externals ls)
 unfolding externals_before
 externals_to lines [] n same = ap (externals_before lines) (add-zero n) ∙ sym (add-zero (externals_before lines n))
 externals_to lines (l ∷ ls) n same =
     let move : n + suc (length ls) ≡ suc n + length ls = omega arith in
-    let rest : externals_before lines (suc n + length ls) ≡ externals_before lines n + externals_in (body_at lines n) + length (externals ls) =
-    externals_to lines ls (suc n) (λ j. let e : n + suc j ≡ suc n + j = omega arith in same (suc j) ∙ ap (body_at lines) e) in
-    let here : externals_in (body_at lines n) ≡ length (externals_by l.stmt.body) = sym (ap externals_in (same 0 ∙ ap (body_at lines) (add-zero n))) ∙ externals_of l.stmt.body in
-    let len : length (externals_by l.stmt.body ++ externals ls) ≡ length (externals_by l.stmt.body) + length (externals ls) = length-append (externals_by l.stmt.body) (externals ls) in
-    ap (externals_before lines) move ∙ rest ∙ sum_is (externals_before lines n) (externals_in (body_at lines n)) (length (externals_by l.stmt.body)) (length (externals ls)) (length (externals (l ∷ ls))) here len
+    let rest : externals_before lines (suc n + length ls)
+    ≡ externals_before lines n + externals_in (body_at lines n) + length (externals ls) =
+    externals_to lines ls (suc n)
+    (λ j. let e : n + suc j ≡ suc n + j = omega arith in same (suc j) ∙ ap (body_at lines) e) in
+    let here : externals_in (body_at lines n) ≡ length (externals_by l.stmt.body) =
+    sym (ap externals_in (same 0 ∙ ap (body_at lines) (add-zero n))) ∙ externals_of l.stmt.body in
+    let len : length (externals_by l.stmt.body ++ externals ls)
+    ≡ length (externals_by l.stmt.body) + length (externals ls) =
+    length-append (externals_by l.stmt.body) (externals ls) in
+    ap (externals_before lines) move ∙ rest ∙ sum_is (externals_before lines n) (externals_in (body_at lines n))
+    (length (externals_by l.stmt.body)) (length (externals ls)) (length (externals (l ∷ ls))) here len
   where
     sum_is : (a b c d e : ℕ) → b ≡ c → e ≡ c + d → a + b + d ≡ a + e
     sum_is a b c d e h k = omega arith
@@ -273,16 +307,20 @@ zero_more k = omega arith
 pub externals_count : (lines : List LineTree) → length (externals lines) ≡ externals_before lines (length lines)
 unfolding externals_before
 externals_count lines =
-    let h : externals_before lines (0 + length lines) ≡ 0 + length (externals lines) = externals_to lines lines 0 (λ j. ap (body_at lines) (zero_more j)) in
+    let h : externals_before lines (0 + length lines) ≡ 0 + length (externals lines) =
+    externals_to lines lines 0 (λ j. ap (body_at lines) (zero_more j)) in
     zero_more (length (externals lines)) ∙ sym h ∙ ap (externals_before lines) (sym (zero_more (length lines)))
 
-externals_most : (lines : List LineTree) (a : Assignment) → IsFreeText lines a → (n : ℕ) → n ≡ length lines → externals_before lines n ≤ 255
+externals_most : (lines : List LineTree) (a : Assignment) → IsFreeText lines a → (n : ℕ) → n ≡ length lines
+    → externals_before lines n ≤ 255
 unfolding externals_before
 externals_most lines a c zero is = omega arith
 externals_most lines a c (suc k) is =
     let f : IsFaultFree lines a k = free lines a k (c.placed k (omega (arith, is))) in
-    let p = or_parts (nat_lt 254 (segments_before lines a (suc k))) (nat_lt 255 (externals_before lines (suc k))) f.few in
+    let p = or_parts (nat_lt 254 (segments_before lines a (suc k))) (nat_lt 255 (externals_before lines (suc k)))
+    f.few in
     ltb-false 255 (externals_before lines (suc k)) p.1
 
 pub few_externals : (lines : List LineTree) (a : Assignment) → IsFreeText lines a → length (externals lines) ≤ 255
-few_externals lines a c = let e = externals_count lines in let most = externals_most lines a c (length lines) refl in omega (arith, e, most)
+few_externals lines a c = let e = externals_count lines in let most = externals_most lines a c (length lines) refl in
+    omega (arith, e, most)

@@ -1,5 +1,6 @@
 -- Sizes that are kept by id: one more of 0 changes none, and one that is set changes only its own.
-use Rattle.std.proofs.Common.{◌≡◌, ◌≢◌, ℕ, zero, suc, ◌<◌, ◌==◌, cond, List, [], ◌∷◌, ◌++◌, length, slice_set, refl, ap, sym, ◌∙◌, arith, inl, inr}
+use Rattle.std.proofs.Common.{◌≡◌, ◌≢◌, ℕ, zero, suc, ◌<◌, ◌==◌, cond, List, [], ◌∷◌, ◌++◌, length, slice_set, refl, ap}
+use Rattle.std.proofs.Common.{sym, ◌∙◌, arith, inl, inr}
 use Rattle.std.proofs.lemmas.Bool.Decides.{eqb_tells}
 use Rattle.m51_asm.specs.Filled.{size_in}
 
@@ -14,16 +15,19 @@ set_same [] id size h = absurd (omega (arith, h))
 set_same (s ∷ sizes) zero size h = refl
 set_same (s ∷ sizes) (suc id) size h = set_same sizes id size (omega (arith, h))
 
-set_other : (sizes : List ℕ) (id size other : ℕ) → id ≢ other → id < length sizes → size_in (slice_set sizes id size) other ≡ size_in sizes other
+set_other : (sizes : List ℕ) (id size other : ℕ) → id ≢ other → id < length sizes
+    → size_in (slice_set sizes id size) other ≡ size_in sizes other
 set_other [] id size other n h = absurd (omega (arith, h))
 set_other (s ∷ sizes) zero size zero n h = absurd (n refl)
 set_other (s ∷ sizes) zero size (suc other) n h = refl
 set_other (s ∷ sizes) (suc id) size zero n h = refl
-set_other (s ∷ sizes) (suc id) size (suc other) n h = set_other sizes id size other (λ e. n (ap (λ m. suc m) e)) (omega (arith, h))
+set_other (s ∷ sizes) (suc id) size (suc other) n h =
+    set_other sizes id size other (λ e. n (ap (λ m. suc m) e)) (omega (arith, h))
 
 pub set_one : (sizes : List ℕ) (id size other : ℕ) → id < length sizes
     → size_in (slice_set sizes id size) other ≡ cond (id == other) size (size_in sizes other)
 set_one sizes id size other h = elim (eqb_tells id other) [
-  | inl p ↦ ap (size_in (slice_set sizes id size)) (sym p.1) ∙ set_same sizes id size h ∙ sym (ap (λ b. cond b size (size_in sizes other)) p.0)
+  | inl p ↦ ap (size_in (slice_set sizes id size)) (sym p.1) ∙ set_same sizes id size h
+      ∙ sym (ap (λ b. cond b size (size_in sizes other)) p.0)
   | inr p ↦ set_other sizes id size other p.1 h ∙ sym (ap (λ b. cond b size (size_in sizes other)) p.0)
 ]

@@ -24,12 +24,20 @@ pub place_is : (lines : List LineTree) (a : Assignment) (k : ℕ) (p : LinePlace
     → here_of (text_segment p.segment) p.offset ≡ here_at a k
 place_is lines a k p f place =
     (λ i. here_of (place.segment i) (place.offset i))
-    ∙ ap (λ n. record { number = n % 65536; class = (a.segment k).kind; base = base.Segment (a.segment k).id; part = Whole }) (sym (f.places k))
+    ∙ ap (λ n. record {
+      number = n % 65536;
+      class = (a.segment k).kind;
+      base = base.Segment (a.segment k).id;
+      part = Whole;
+    }) (sym (f.places k))
 
 -- by the state at a line, what names mean there
-pub names_are : (lines : List LineTree) (a : Assignment) (k : ℕ) (t : PlacedText) → IsReady lines a t → (set : Valuation) → IsSetAt lines a k set
-    → (p : LinePlace) → IsPlaceOf lines a k p → (n : ObjectNames) → n.values.names.now ≡ t.text.names.now → n.values.kept.now ≡ t.end.now.values
-    → n.values.set.now ≡ set → n.values.mod51 ≡ t.text.mod51 → n.values.bank ≡ p.bank → n.numbering.now ≡ t.numbering.now
+pub names_are : (lines : List LineTree) (a : Assignment) (k : ℕ) (t : PlacedText) → IsReady lines a t
+    → (set : Valuation) → IsSetAt lines a k set
+    → (p : LinePlace) → IsPlaceOf lines a k p → (n : ObjectNames) → n.values.names.now ≡ t.text.names.now
+    → n.values.kept.now ≡ t.end.now.values
+    → n.values.set.now ≡ set → n.values.mod51 ≡ t.text.mod51 → n.values.bank ≡ p.bank
+    → n.numbering.now ≡ t.numbering.now
     → located_value n.place ≡ here_of (text_segment p.segment) p.offset → AreNamesAt lines a k n
 unfolding final
 names_are lines a k t h set sets p stands n names kept same mod51 bank numbering here = record {
@@ -50,4 +58,5 @@ names_are lines a k t h set sets p stands n names kept same mod51 bank numbering
     }
 
     value : (name : List ℕ) → kept_value n.values name ≡ a.value k name
-    value = value_is lines a h.fits k n.values.names.now n.values.kept.now n.values.set.now n.values.mod51 n.values.bank known
+    value = value_is lines a h.fits k n.values.names.now n.values.kept.now n.values.set.now n.values.mod51 n.values.bank
+        known

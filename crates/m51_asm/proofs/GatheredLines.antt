@@ -1,5 +1,7 @@
 -- What lines give to the segments of a module: line by line it grows to the pieces and fixups of the definitions.
-use Rattle.std.proofs.Common.{◌≡◌, ◌≢◌, inl, inr, ℕ, zero, suc, ◌+◌, ◌<◌, ◌≤◌, ◌==◌, ◌-◌, Bool, true, false, cond, List, [], ◌∷◌, ◌++◌, append_assoc, map, length, Option, Some, None, option_map, Result, Ok, Err, OnOk, refl, ap, sym, ◌∙◌, slice_get, get_or, arith, eq-eqb}
+use Rattle.std.proofs.Common.{◌≡◌, ◌≢◌, inl, inr, ℕ, zero, suc, ◌+◌, ◌<◌, ◌≤◌, ◌==◌, ◌-◌, Bool, true, false, cond, List}
+use Rattle.std.proofs.Common.{[], ◌∷◌, ◌++◌, append_assoc, map, length, Option, Some, None, option_map, Result, Ok, Err}
+use Rattle.std.proofs.Common.{OnOk, refl, ap, sym, ◌∙◌, slice_get, get_or, arith, eq-eqb}
 use Rattle.std.specs.List.{flat_map}
 use Rattle.std.specs.Prelude.{slice_set}
 use Rattle.std.proofs.lemmas.Bool.{eqb-true, ne_eqb}
@@ -10,7 +12,8 @@ use Rattle.m51_module.specs.declared.content.Piece.{Piece}
 use Rattle.m51_module.specs.declared.segment.Segment.{Segment}
 use Rattle.m51_text.specs.Answer.{LineTree}
 use Rattle.m51_emit.specs.Within.{LieInside}
-use Rattle.m51_emit.specs.Gathering.{Gathered, run_of, runs_of, fixups_of, gathered_of, with_line, pieces_in, all_pieces, all_fixups}
+use Rattle.m51_emit.specs.Gathering.{Gathered, run_of, runs_of, fixups_of, gathered_of, with_line, pieces_in}
+use Rattle.m51_emit.specs.Gathering.{all_pieces, all_fixups}
 use Rattle.m51_emit.specs.declared.content.EmittedContent.{EmittedContent}
 use Rattle.m51_emit.specs.declared.gathering.ModuleContent.{ModuleContent}
 use Rattle.m51_emit.proofs.GrownRuns.{gathered_grows}
@@ -18,8 +21,10 @@ use Rattle.m51_emit.proofs.LyingContent.{references_lie}
 use Rattle.m51_asm.specs.Assignment.{Assignment, body_at}
 use Rattle.m51_asm.specs.ObjectMeanings.{final}
 use Rattle.m51_asm.specs.ObjectSegments.{Kept, kept, object_segments, from_one, place_in, number_in, segment_number}
-use Rattle.m51_asm.specs.Pieces.{Run, if_bytes, pieces_of_run, content_at, offset_at, runs_from, segment_pieces, pieces, line_fixups, fixups_from, fixups}
-use Rattle.m51_asm.specs.Gathering.{nothing_in, nothing_gathered, changed_at, changed, placed_at, placed_before, gathered_in, gathered_before, IsText, IsGiven}
+use Rattle.m51_asm.specs.Pieces.{Run, if_bytes, pieces_of_run, content_at, offset_at, runs_from, segment_pieces, pieces}
+use Rattle.m51_asm.specs.Pieces.{line_fixups, fixups_from, fixups}
+use Rattle.m51_asm.specs.Gathering.{nothing_in, nothing_gathered, changed_at, changed, placed_at, placed_before}
+use Rattle.m51_asm.specs.Gathering.{gathered_in, gathered_before, IsText, IsGiven}
 use Rattle.m51_asm.specs.declared.object_names.PlacedText.{PlacedText}
 use Rattle.m51_asm.proofs.FewSegments.{few_segments}
 use Rattle.m51_asm.proofs.Members.{In, Every, Pairs, in_first, in_later, got_in}
@@ -32,7 +37,8 @@ use Rattle.m51_asm.proofs.SegmentRoom.{room}
 use Rattle.m51_asm.proofs.ValidPieces.{line_ends}
 
 -- a write to an element is a change of it
-pub written : {A : Type 0} (change : A → A) (xs : List A) (i : ℕ) (d : A) → i < length xs → slice_set xs i (change (get_or xs i d)) ≡ changed_at change i xs
+pub written : {A : Type 0} (change : A → A) (xs : List A) (i : ℕ) (d : A) → i < length xs
+    → slice_set xs i (change (get_or xs i d)) ≡ changed_at change i xs
 written change [] i d h = absurd (omega (arith, h))
 written change (x ∷ xs) zero d h = refl
 written change (x ∷ xs) (suc i) d h = ap (λ ys. x ∷ ys) (written change xs i d (omega (arith, h)))
@@ -51,31 +57,38 @@ number_less : (n : ℕ) → n ≢ 0 → n ≡ suc (n - 1)
 number_less n ne = grind (arith, ne)
 
 -- the element of this number is changed, where the change goes well
-pub added : {A T E : Type 0} (r : Result T E) (change : A → A) (xs : List A) (n number : ℕ) (x new : A) → n ≡ number → number ≢ 0 → get_or xs (n - 1) x ≡ x
+pub added : {A T E : Type 0} (r : Result T E) (change : A → A) (xs : List A) (n number : ℕ) (x new : A) → n ≡ number
+    → number ≢ 0 → get_or xs (n - 1) x ≡ x
     → n - 1 < length xs → OnOk r (new ≡ change x) → OnOk r (slice_set xs (n - 1) new ≡ changed change number xs)
 added r change xs n number x new same some is below h =
     on_ok r (new ≡ change x) (slice_set xs (n - 1) new ≡ changed change number xs)
-    (λ e. ap (slice_set xs (n - 1)) (e ∙ ap change (sym is)) ∙ written change xs (n - 1) x below ∙ ap (λ m. changed change m xs) (sym (number_less n (λ z. some (sym same ∙ z))) ∙ same)) h
+    (λ e. ap (slice_set xs (n - 1)) (e ∙ ap change (sym is)) ∙ written change xs (n - 1) x below
+    ∙ ap (λ m. changed change m xs) (sym (number_less n (λ z. some (sym same ∙ z))) ∙ same)) h
 
 -- no element has this number
-pub not_there : {A : Type 0} (change : A → A) (xs : List A) (n number : ℕ) → n ≡ number → number ≢ 0 → length xs ≤ n - 1 → xs ≡ changed change number xs
+pub not_there : {A : Type 0} (change : A → A) (xs : List A) (n number : ℕ) → n ≡ number → number ≢ 0 → length xs ≤ n - 1
+    → xs ≡ changed change number xs
 not_there change xs n number same some past =
-    sym (ap (λ m. changed change m xs) (sym same ∙ number_less n (λ z. some (sym same ∙ z))) ∙ nothing_changed change xs (n - 1) past)
+    sym (ap (λ m. changed change m xs) (sym same ∙ number_less n (λ z. some (sym same ∙ z)))
+    ∙ nothing_changed change xs (n - 1) past)
 
-module _ (F G : Kept → Gathered) (change : Gathered → Gathered) (id : ℕ) (same : (s : Kept) → s.id ≡ id → change (F s) ≡ G s)
+module _ (F G : Kept → Gathered) (change : Gathered → Gathered) (id : ℕ)
+    (same : (s : Kept) → s.id ≡ id → change (F s) ≡ G s)
     (other : (s : Kept) → s.id ≢ id → F s ≡ G s) where
   others : (xs : List Kept) → ((s : Kept) → In s xs → s.id ≢ id) → map F xs ≡ map G xs
   others [] ne = refl
   others (x ∷ xs) ne = λ i. other x (ne x (in_first x xs)) i ∷ others xs (λ s j. ne s (in_later s x xs j)) i
 
   -- a change further on
-  changed_later : (x : Gathered) (ys : List Gathered) (o : Option ℕ) → changed change (from_one (option_map (λ n. suc n) o)) (x ∷ ys) ≡ x ∷ changed change (from_one o) ys
+  changed_later : (x : Gathered) (ys : List Gathered) (o : Option ℕ)
+      → changed change (from_one (option_map (λ n. suc n) o)) (x ∷ ys) ≡ x ∷ changed change (from_one o) ys
   changed_later x ys None = refl
   changed_later x ys (Some n) = refl
 
   changed_by : (x : Kept) (xs : List Kept) (b : Bool) → (x.id == id) ≡ b → ((s : Kept) → In s xs → x.id < s.id)
       → changed change (from_one (place_in (ids xs) id)) (map F xs) ≡ map G xs
-      → changed change (from_one (cond b (Some 0) (option_map (λ n. suc n) (place_in (ids xs) id)))) (F x ∷ map F xs) ≡ G x ∷ map G xs
+      → changed change (from_one (cond b (Some 0) (option_map (λ n. suc n) (place_in (ids xs) id)))) (F x ∷ map F xs)
+      ≡ G x ∷ map G xs
   changed_by x xs true test less go =
       let e : x.id ≡ id = eqb-true x.id id test in
       λ i. same x e i ∷ others xs (λ s j f. let l = less s j in absurd (omega (arith, l, e, f))) i
@@ -93,22 +106,27 @@ module _ (lines : List LineTree) (a : Assignment) where
   -- what these lines, from line k on, give to a segment
   abbrev placed_from : ℕ → ℕ → List LineTree → List (ℕ × EmittedContent)
   placed_from id k [] = []
-  placed_from id k (line ∷ more) = cond ((a.segment k).id == id) (placed_at lines a k ∷ placed_from id (suc k) more) (placed_from id (suc k) more)
+  placed_from id k (line ∷ more) =
+      cond ((a.segment k).id == id) (placed_at lines a k ∷ placed_from id (suc k) more) (placed_from id (suc k) more)
 
   one_more : (id k : ℕ) (b : Bool) (rest : List (ℕ × EmittedContent)) → ((a.segment k).id == id) ≡ b
-      → placed_before lines a id k ++ cond b (placed_at lines a k ∷ rest) rest ≡ placed_before lines a id (suc k) ++ rest
+      → placed_before lines a id k ++ cond b (placed_at lines a k ∷ rest) rest ≡ placed_before lines a id (suc k)
+      ++ rest
   unfolding placed_before
   one_more id k true rest test =
       sym (append_assoc (placed_before lines a id k) (placed_at lines a k ∷ []) rest)
-      ∙ ap (λ b. cond b (placed_before lines a id k ++ placed_at lines a k ∷ []) (placed_before lines a id k) ++ rest) (sym test)
+      ∙ ap (λ b. cond b (placed_before lines a id k ++ placed_at lines a k ∷ []) (placed_before lines a id k) ++ rest)
+      (sym test)
   one_more id k false rest test =
-      ap (λ b. cond b (placed_before lines a id k ++ placed_at lines a k ∷ []) (placed_before lines a id k) ++ rest) (sym test)
+      ap (λ b. cond b (placed_before lines a id k ++ placed_at lines a k ∷ []) (placed_before lines a id k) ++ rest)
+      (sym test)
 
   stays : (n : ℕ) → n ≡ n + 0
   stays n = omega arith
 
   -- what is given before, with what these lines give, is what all of them give
-  before_and : (id k : ℕ) (ls : List LineTree) → placed_before lines a id k ++ placed_from id k ls ≡ placed_before lines a id (k + length ls)
+  before_and : (id k : ℕ) (ls : List LineTree)
+      → placed_before lines a id k ++ placed_from id k ls ≡ placed_before lines a id (k + length ls)
   before_and id k [] = append-nil (placed_before lines a id k) ∙ ap (placed_before lines a id) (stays k)
   before_and id k (line ∷ ls) =
       one_more id k ((a.segment k).id == id) (placed_from id (suc k) ls) refl ∙ before_and id (suc k) ls
@@ -122,29 +140,38 @@ module _ (lines : List LineTree) (a : Assignment) where
   all_placed id = sym (before_and id 0 lines ∙ ap (placed_before lines a id) (zero_more (length lines)))
 
   runs_by : (b : Bool) (k : ℕ) (rest : List (ℕ × EmittedContent)) (runs : List Run) → runs_of (map run_of rest) ≡ runs
-      → runs_of (map run_of (cond b (placed_at lines a k ∷ rest) rest)) ≡ cond b (if_bytes (offset_at lines a k) (content_at lines a k).bytes runs) runs
+      → runs_of (map run_of (cond b (placed_at lines a k ∷ rest) rest))
+      ≡ cond b (if_bytes (offset_at lines a k) (content_at lines a k).bytes runs) runs
   runs_by true k rest runs e = ap (if_bytes (offset_at lines a k) (content_at lines a k).bytes) e
   runs_by false k rest runs e = e
 
   runs_are : (id k : ℕ) (ls : List LineTree) → runs_of (map run_of (placed_from id k ls)) ≡ runs_from lines a id k ls
   runs_are id k [] = refl
-  runs_are id k (line ∷ ls) = runs_by ((a.segment k).id == id) k (placed_from id (suc k) ls) (runs_from lines a id (suc k) ls) (runs_are id (suc k) ls)
+  runs_are id k (line ∷ ls) =
+      runs_by ((a.segment k).id == id) k (placed_from id (suc k) ls) (runs_from lines a id (suc k) ls)
+      (runs_are id (suc k) ls)
 
-  fixups_by : (b : Bool) (number k : ℕ) (rest : List (ℕ × EmittedContent)) (found : List Fixup) → fixups_of (object_segments lines a) number rest ≡ found
-      → fixups_of (object_segments lines a) number (cond b (placed_at lines a k ∷ rest) rest) ≡ cond b (line_fixups lines a number k ++ found) found
+  fixups_by : (b : Bool) (number k : ℕ) (rest : List (ℕ × EmittedContent)) (found : List Fixup)
+      → fixups_of (object_segments lines a) number rest ≡ found
+      → fixups_of (object_segments lines a) number (cond b (placed_at lines a k ∷ rest) rest)
+      ≡ cond b (line_fixups lines a number k ++ found) found
   fixups_by true number k rest found e = ap (λ fs. line_fixups lines a number k ++ fs) e
   fixups_by false number k rest found e = e
 
-  fixups_are : (s : Kept) (k : ℕ) (ls : List LineTree) → fixups_of (object_segments lines a) (segment_number lines a s.id) (placed_from s.id k ls) ≡ fixups_from lines a s k ls
+  fixups_are : (s : Kept) (k : ℕ) (ls : List LineTree)
+      → fixups_of (object_segments lines a) (segment_number lines a s.id) (placed_from s.id k ls)
+      ≡ fixups_from lines a s k ls
   fixups_are s k [] = refl
   fixups_are s k (line ∷ ls) =
-      fixups_by ((a.segment k).id == s.id) (segment_number lines a s.id) k (placed_from s.id (suc k) ls) (fixups_from lines a s (suc k) ls) (fixups_are s (suc k) ls)
+      fixups_by ((a.segment k).id == s.id) (segment_number lines a s.id) k (placed_from s.id (suc k) ls)
+      (fixups_from lines a s (suc k) ls) (fixups_are s (suc k) ls)
 
   -- what is gathered of all lines
   abbrev all_of : List Gathered
   all_of = gathered_before lines a (length lines)
 
-  flat_same : {B : Type 0} (f g : Kept → List B) (xs : List Kept) → ((s : Kept) → f s ≡ g s) → flat_map f xs ≡ flat_map g xs
+  flat_same : {B : Type 0} (f g : Kept → List B) (xs : List Kept) → ((s : Kept) → f s ≡ g s)
+      → flat_map f xs ≡ flat_map g xs
   flat_same f g [] e = refl
   flat_same f g (x ∷ xs) e = λ i. e x i ++ flat_same f g xs e i
 
@@ -158,8 +185,10 @@ module _ (lines : List LineTree) (a : Assignment) where
   pub fixups_all : all_fixups all_of ≡ fixups lines a
   fixups_all =
       flat_map-map (λ (g : Gathered). g.fixups) (gathered_in lines a (length lines)) (kept lines a)
-      ∙ flat_same (λ s. (gathered_in lines a (length lines) s).fixups) (λ s. fixups_from lines a s 0 lines) (kept lines a)
-      (λ s. ap (fixups_of (object_segments lines a) (segment_number lines a s.id)) (all_placed s.id) ∙ fixups_are s 0 lines)
+      ∙ flat_same (λ s. (gathered_in lines a (length lines) s).fixups) (λ s. fixups_from lines a s 0 lines)
+      (kept lines a)
+      (λ s. ap (fixups_of (object_segments lines a) (segment_number lines a s.id)) (all_placed s.id)
+      ∙ fixups_are s 0 lines)
 
   abbrev content_of : List Piece → List Fixup → ModuleContent
   content_of pieces fixups = record { pieces = pieces; fixups = fixups }
@@ -170,30 +199,39 @@ module _ (lines : List LineTree) (a : Assignment) where
   whole gathered e = λ i. content_of ((ap all_pieces e ∙ pieces_are) i) ((ap all_fixups e ∙ fixups_all) i)
 
   -- the segment of line k with that line added
-  here_grows : (k : ℕ) (s : Kept) → s.id ≡ (a.segment k).id → with_line (object_segments lines a) (gathered_in lines a k s) (placed_at lines a k) ≡ gathered_in lines a (suc k) s
+  here_grows : (k : ℕ) (s : Kept) → s.id ≡ (a.segment k).id
+      → with_line (object_segments lines a) (gathered_in lines a k s) (placed_at lines a k)
+      ≡ gathered_in lines a (suc k) s
   unfolding placed_before
   here_grows k s e =
-      sym (gathered_grows (object_segments lines a) (segment_number lines a s.id) (placed_before lines a s.id k) (placed_at lines a k))
-      ∙ ap (λ b. gathered_of (object_segments lines a) (segment_number lines a s.id) (cond b (placed_before lines a s.id k ++ placed_at lines a k ∷ []) (placed_before lines a s.id k)))
+      sym (gathered_grows (object_segments lines a) (segment_number lines a s.id) (placed_before lines a s.id k)
+      (placed_at lines a k))
+      ∙ ap (λ b. gathered_of (object_segments lines a) (segment_number lines a s.id)
+      (cond b (placed_before lines a s.id k ++ placed_at lines a k ∷ []) (placed_before lines a s.id k)))
       (sym (eq-eqb (a.segment k).id s.id (sym e)))
 
   -- any other stays
   there_stays : (k : ℕ) (s : Kept) → s.id ≢ (a.segment k).id → gathered_in lines a k s ≡ gathered_in lines a (suc k) s
   unfolding placed_before
   there_stays k s ne =
-      ap (λ b. gathered_of (object_segments lines a) (segment_number lines a s.id) (cond b (placed_before lines a s.id k ++ placed_at lines a k ∷ []) (placed_before lines a s.id k)))
+      ap (λ b. gathered_of (object_segments lines a) (segment_number lines a s.id)
+      (cond b (placed_before lines a s.id k ++ placed_at lines a k ∷ []) (placed_before lines a s.id k)))
       (sym (ne_eqb (a.segment k).id s.id (λ e. ne (sym e))))
 
 module _ (lines : List LineTree) (a : Assignment) (c : IsClean lines a) where
   order : Ascend (kept lines a)
-  order = let all : AreKept lines a (free_text lines a c) (length lines) (kept lines a) = all_kept lines a (free_text lines a c) in all.order
+  order = let all : AreKept lines a (free_text lines a c) (length lines) (kept lines a) =
+      all_kept lines a (free_text lines a c) in all.order
 
   -- with one more line
-  pub gathered_more : (k : ℕ) → changed (λ g. with_line (object_segments lines a) g (placed_at lines a k)) (segment_number lines a (a.segment k).id) (gathered_before lines a k)
+  pub gathered_more : (k : ℕ)
+      → changed (λ g. with_line (object_segments lines a) g (placed_at lines a k))
+      (segment_number lines a (a.segment k).id) (gathered_before lines a k)
       ≡ gathered_before lines a (suc k)
   unfolding number_in
   gathered_more k =
-      changed_is (gathered_in lines a k) (gathered_in lines a (suc k)) (λ g. with_line (object_segments lines a) g (placed_at lines a k)) (a.segment k).id
+      changed_is (gathered_in lines a k) (gathered_in lines a (suc k))
+      (λ g. with_line (object_segments lines a) g (placed_at lines a k)) (a.segment k).id
       (here_grows lines a k) (there_stays lines a k) (kept lines a) order
 
   -- what a line gives ends in memory
@@ -202,13 +240,15 @@ module _ (lines : List LineTree) (a : Assignment) (c : IsClean lines a) where
       let s = a.segment k in
       let test : (s.id == s.id) ≡ true = eq-eqb s.id s.id refl in
       let end = line_ends lines a c k s.id below test in
-      elim (room lines a (free_text lines a c) (suc k) (omega (arith, below)) s (known lines a (free_text lines a c) k).same) [
+      elim (room lines a (free_text lines a c) (suc k) (omega (arith, below)) s
+      (known lines a (free_text lines a c) k).same) [
         | inl none ↦ omega (arith, end, none)
         | inr r ↦ let most = r.most in omega (arith, end, most)
       ]
 
   -- the same of a place and content that are those of the line
-  pub given_fits : (k at : ℕ) (x : EmittedContent) → k < length lines → at ≡ offset_at lines a k → x ≡ content_at lines a k → at + length x.bytes ≤ 65536
+  pub given_fits : (k at : ℕ) (x : EmittedContent) → k < length lines → at ≡ offset_at lines a k
+      → x ≡ content_at lines a k → at + length x.bytes ≤ 65536
   given_fits k at x below placed given =
       let fit = line_fits k below in
       let len = ap (λ (y : EmittedContent). length y.bytes) given in
@@ -233,7 +273,8 @@ zero_first n = omega arith
 nothing_and : (n m : ℕ) → nothing_gathered n ++ nothing_from n m ≡ nothing_gathered (n + m)
 nothing_and n zero = append-nil (nothing_gathered n) ∙ ap nothing_gathered (no_more n)
 nothing_and n (suc m) =
-    sym (append_assoc (nothing_gathered n) (nothing_in (suc n) ∷ []) (nothing_from (suc n) m)) ∙ nothing_and (suc n) m ∙ ap nothing_gathered (moved n m)
+    sym (append_assoc (nothing_gathered n) (nothing_in (suc n) ∷ []) (nothing_from (suc n) m)) ∙ nothing_and (suc n) m
+    ∙ ap nothing_gathered (moved n m)
 
 -- the number of a segment is its place, counted from 1
 index_is : (xs : List Kept) → Ascend xs → (j : ℕ) (s : Kept) → slice_get xs j ≡ Some s → place_in (ids xs) s.id ≡ Some j
@@ -241,13 +282,17 @@ unfolding Pairs Every
 index_is [] order j s e = absurd (cc e)
 index_is (x ∷ xs) order zero s e =
     let same : x ≡ s = cc e in
-    ap (λ b. cond b (Some 0) (option_map (λ n. suc n) (place_in (ids xs) s.id))) (eq-eqb x.id s.id (ap (λ (k : Kept). k.id) same))
+    ap (λ b. cond b (Some 0) (option_map (λ n. suc n) (place_in (ids xs) s.id)))
+    (eq-eqb x.id s.id (ap (λ (k : Kept). k.id) same))
 index_is (x ∷ xs) order (suc j) s e =
     let less : x.id < s.id = order.0 s (got_in xs j s e) in
-    ap (λ b. cond b (Some 0) (option_map (λ n. suc n) (place_in (ids xs) s.id))) (ne_eqb x.id s.id (omega (arith, less)))
+    ap (λ b. cond b (Some 0) (option_map (λ n. suc n) (place_in (ids xs) s.id)))
+    (ne_eqb x.id s.id (omega (arith, less)))
     ∙ ap (option_map (λ n. suc n)) (index_is xs order.1 j s e)
 
-nothing_by : (f : Kept → ℕ) (n : ℕ) (xs : List Kept) → ((j : ℕ) (s : Kept) → slice_get xs j ≡ Some s → f s ≡ suc (n + j)) → nothing_from n (length xs) ≡ map (λ s. nothing_in (f s)) xs
+nothing_by : (f : Kept → ℕ) (n : ℕ) (xs : List Kept)
+    → ((j : ℕ) (s : Kept) → slice_get xs j ≡ Some s → f s ≡ suc (n + j))
+    → nothing_from n (length xs) ≡ map (λ s. nothing_in (f s)) xs
 nothing_by f n [] h = refl
 nothing_by f n (x ∷ xs) h = λ i. nothing_in (sym (h 0 x refl ∙ ap (λ m. suc m) (sym (no_more n))) i)
     ∷ nothing_by f (suc n) xs (λ j s e. h (suc j) s e ∙ ap (λ m. suc m) (sym (moved n j))) i
@@ -257,7 +302,8 @@ module _ (lines : List LineTree) (a : Assignment) (c : IsClean lines a) where
   unfolding placed_before
   no_line s = refl
 
-  none_before : (xs : List Kept) → map (gathered_in lines a 0) xs ≡ map (λ s. nothing_in (segment_number lines a s.id)) xs
+  none_before : (xs : List Kept)
+      → map (gathered_in lines a 0) xs ≡ map (λ s. nothing_in (segment_number lines a s.id)) xs
   none_before [] = refl
   none_before (x ∷ xs) = λ i. no_line x i ∷ none_before xs i
 
@@ -267,26 +313,35 @@ module _ (lines : List LineTree) (a : Assignment) (c : IsClean lines a) where
   gathered_first =
       let xs = kept lines a in
       sym (nothing_and 0 (length xs) ∙ ap nothing_gathered (zero_first (length xs)))
-      ∙ nothing_by (λ s. segment_number lines a s.id) 0 xs (λ j s e. ap from_one (index_is xs (order lines a c) j s e) ∙ ap (λ n. suc n) (sym (zero_first j)))
+      ∙ nothing_by (λ s. segment_number lines a s.id) 0 xs
+      (λ j s e. ap from_one (index_is xs (order lines a c) j s e) ∙ ap (λ n. suc n) (sym (zero_first j)))
       ∙ sym (none_before xs)
 
   -- what is gathered grows with what is added of a line
-  pub next_gathered : (k number at : ℕ) (content : EmittedContent) (segments : List Segment) (old new : List Gathered) → segments ≡ object_segments lines a
-      → number ≡ segment_number lines a (a.segment k).id → at ≡ offset_at lines a k → content ≡ content_at lines a k → old ≡ gathered_before lines a k
+  pub next_gathered : (k number at : ℕ) (content : EmittedContent) (segments : List Segment) (old new : List Gathered)
+      → segments ≡ object_segments lines a
+      → number ≡ segment_number lines a (a.segment k).id → at ≡ offset_at lines a k → content ≡ content_at lines a k
+      → old ≡ gathered_before lines a k
       → new ≡ changed (λ g. with_line segments g (at, content)) number old → new ≡ gathered_before lines a (suc k)
   next_gathered k number at content segments old new same numbered placed given before e =
-      e ∙ (λ i. changed (λ g. with_line (same i) g (placed i, given i)) (numbered i) (before i)) ∙ gathered_more lines a c k
+      e ∙ (λ i. changed (λ g. with_line (same i) g (placed i, given i)) (numbered i) (before i))
+      ∙ gathered_more lines a c k
 
   -- the segments of the module are not too many
   pub segments_few : (segments : List Segment) → segments ≡ object_segments lines a → length segments ≤ 254
   segments_few segments e =
       let few = few_segments lines a (free_text lines a c) in
-      let len : length segments ≡ length (kept lines a) = ap length e ∙ length-map (kept lines a) (λ (k : Kept). k.segment) in
+      let len : length segments ≡ length (kept lines a) =
+      ap length e ∙ length-map (kept lines a) (λ (k : Kept). k.segment) in
       omega (arith, few, len)
 
-  pub first_gathered : (segments : List Segment) → segments ≡ object_segments lines a → nothing_gathered (length segments) ≡ gathered_before lines a 0
-  first_gathered segments e = ap nothing_gathered (ap length e ∙ length-map (kept lines a) (λ (k : Kept). k.segment)) ∙ gathered_first
+  pub first_gathered : (segments : List Segment) → segments ≡ object_segments lines a
+      → nothing_gathered (length segments) ≡ gathered_before lines a 0
+  first_gathered segments e = ap nothing_gathered (ap length e ∙ length-map (kept lines a) (λ (k : Kept). k.segment))
+      ∙ gathered_first
 
 -- a text that gives this has no fault
-pub clean_text : (lines : List LineTree) (a : Assignment) (t : PlacedText) (given : List EmittedContent) → IsText lines → IsGiven lines a t given → IsClean lines a
-clean_text lines a t given text is = clean_where text.source text.includes lines a text.read is.ready.fits is.ready.placed.free is.content
+pub clean_text : (lines : List LineTree) (a : Assignment) (t : PlacedText) (given : List EmittedContent) → IsText lines
+    → IsGiven lines a t given → IsClean lines a
+clean_text lines a t given text is =
+    clean_where text.source text.includes lines a text.read is.ready.fits is.ready.placed.free is.content

@@ -1,6 +1,8 @@
--- What the lines of a text without faults give: bytes in segments of program memory, within what is counted, and at most
+-- What the lines of a text without faults give: bytes in segments of program memory, within what is counted, and at
+-- most
 -- 65,535 references.
-use Rattle.std.proofs.Common.{◌≡◌, ◌⊎◌, inl, inr, ℕ, zero, suc, ◌+◌, ◌<◌, ◌≤◌, false, not, List, [], length, refl, sym, subst, arith}
+use Rattle.std.proofs.Common.{◌≡◌, ◌⊎◌, inl, inr, ℕ, zero, suc, ◌+◌, ◌<◌, ◌≤◌, false, not, List, [], length, refl, sym}
+use Rattle.std.proofs.Common.{subst, arith}
 use Rattle.std.proofs.lemmas.Bool.{not-false}
 use Rattle.m51_cells.specs.declared.kind.Kind.TheVariants as kind
 use Rattle.m51_cells.specs.Kinds.{same_kind}
@@ -9,7 +11,7 @@ use Rattle.m51_isa.specs.declared.generics.Jump.{Jump}
 use Rattle.m51_expr.specs.Meanings.{Meanings}
 use Rattle.m51_stmt.specs.Statement as body
 use Rattle.m51_stmt.specs.Statement.{BodyTree}
-use Rattle.m51_encode.specs.declared.outcome.Outcome.{Outcome}
+use Rattle.m51_encode.specs.declared.outcome.OperandOutcome.{OperandOutcome}
 use Rattle.m51_encode.proofs.FormRows.{forms_have_rows}
 use Rattle.m51_text.specs.Answer.{LineTree}
 use Rattle.m51_asm.specs.Assignment.{TextSegment, Assignment, body_at, above}
@@ -26,7 +28,8 @@ use Rattle.m51_asm.proofs.CodeContents.{code_given}
 use Rattle.m51_asm.proofs.ItemContents.{bytes_given, words_given}
 
 -- what a line gives, by what it says
-record IsGivenBy (names : Meanings) (size : ℕ) (parts : List Outcome) (segment : TextSegment) (c : EmittedContent) : Type 0 where
+record IsGivenBy (names : Meanings) (size : ℕ) (parts : List OperandOutcome) (segment : TextSegment)
+    (c : EmittedContent) : Type 0 where
   content : IsContent names c
   within : length c.bytes ≤ size
   few : length c.references ≤ fixes parts
@@ -35,28 +38,40 @@ record IsGivenBy (names : Meanings) (size : ℕ) (parts : List Outcome) (segment
 in_code : (s : TextSegment) → not (same_kind s.kind kind.Code) ≡ false → s.kind ≡ kind.Code
 in_code s h = kind_same s.kind kind.Code (not-false (same_kind s.kind kind.Code) h)
 
-exactly : (names : Meanings) (size : ℕ) (parts : List Outcome) (s : TextSegment) (c : EmittedContent) → IsGiven names size parts c → s.kind ≡ kind.Code → IsGivenBy names size parts s c
-exactly names size parts s c g code = record { content = g.content; within = let e = g.size_is in omega (arith, e); few = g.few; code = inr code }
+exactly : (names : Meanings) (size : ℕ) (parts : List OperandOutcome) (s : TextSegment) (c : EmittedContent)
+    → IsGiven names size parts c → s.kind ≡ kind.Code → IsGivenBy names size parts s c
+exactly names size parts s c g code =
+    record { content = g.content; within = let e = g.size_is in omega (arith, e); few = g.few; code = inr code }
 
-none_given : (names : Meanings) (size : ℕ) (parts : List Outcome) (s : TextSegment) → IsGivenBy names size parts s nothing
+none_given : (names : Meanings) (size : ℕ) (parts : List OperandOutcome) (s : TextSegment)
+    → IsGivenBy names size parts s nothing
 none_given names size parts s =
     let g = nothing_given names parts in
     record { content = g.content; within = omega arith; few = g.few; code = inl refl }
 
-given_by : (lines : List LineTree) (a : Assignment) (k : ℕ) (names counts : Meanings) (form : Jump) (s : TextSegment) (b : BodyTree) → IsGood b → is_misplaced s b ≡ false → AreFine (outcomes_by names form b)
+given_by : (lines : List LineTree) (a : Assignment) (k : ℕ) (names counts : Meanings) (form : Jump) (s : TextSegment)
+    (b : BodyTree) → IsGood b → is_misplaced s b ≡ false → AreFine (outcomes_by names form b)
     → IsGivenBy names (size_by counts form b) (outcomes_by names form b) s (content_by names form b)
 given_by lines a k names counts form s (body.Code mnemonic operands) good stands fine =
-    exactly names _ _ s _ (code_given names mnemonic operands form (forms_have_rows mnemonic operands good form) fine) (in_code s stands)
-given_by lines a k names counts form s (body.Db items) good stands fine = exactly names _ _ s _ (bytes_given names items fine) (in_code s stands)
-given_by lines a k names counts form s (body.Dw items) good stands fine = exactly names _ _ s _ (words_given names items good fine) (in_code s stands)
+    exactly names _ _ s _ (code_given names mnemonic operands form (forms_have_rows mnemonic operands good form) fine)
+    (in_code s stands)
+given_by lines a k names counts form s (body.Db items) good stands fine =
+    exactly names _ _ s _ (bytes_given names items fine) (in_code s stands)
+given_by lines a k names counts form s (body.Dw items) good stands fine =
+    exactly names _ _ s _ (words_given names items good fine) (in_code s stands)
 given_by lines a k names counts form s b good stands fine = none_given names (size_by counts form b) [] s
 
-line_given : (lines : List LineTree) (a : Assignment) (k : ℕ) (names counts : Meanings) (form : Jump) (s : TextSegment) (b : BodyTree) → final lines a k ≡ names → a.form k ≡ form → IsGood b
-    → is_misplaced s b ≡ false → AreFine (line_outcomes_by lines a k b) → IsGivenBy names (size_by counts form b) (line_outcomes_by lines a k b) s (content_by names form b)
-line_given lines a k names counts form s (body.Public ps) is same good stands fine = none_given names 0 (line_outcomes_by lines a k (body.Public ps)) s
+line_given : (lines : List LineTree) (a : Assignment) (k : ℕ) (names counts : Meanings) (form : Jump) (s : TextSegment)
+    (b : BodyTree) → final lines a k ≡ names → a.form k ≡ form → IsGood b
+    → is_misplaced s b ≡ false → AreFine (line_outcomes_by lines a k b)
+    → IsGivenBy names (size_by counts form b) (line_outcomes_by lines a k b) s (content_by names form b)
+line_given lines a k names counts form s (body.Public ps) is same good stands fine =
+    none_given names 0 (line_outcomes_by lines a k (body.Public ps)) s
 line_given lines a k names counts form s b is same good stands fine =
-    let e : outcomes_by (final lines a k) (a.form k) b ≡ outcomes_by names form b = λ i. outcomes_by (is i) (same i) b in
-    subst (λ ps. IsGivenBy names (size_by counts form b) ps s (content_by names form b)) (sym e) (given_by lines a k names counts form s b good stands (subst AreFine e fine))
+    let e : outcomes_by (final lines a k) (a.form k) b ≡ outcomes_by names form b =
+    λ i. outcomes_by (is i) (same i) b in
+    subst (λ ps. IsGivenBy names (size_by counts form b) ps s (content_by names form b)) (sym e)
+    (given_by lines a k names counts form s b good stands (subst AreFine e fine))
 
 -- what line k gives
 pub record IsLineGiven (lines : List LineTree) (a : Assignment) (k : ℕ) : Type 0 where
@@ -74,7 +89,8 @@ module _ (lines : List LineTree) (a : Assignment) (c : IsClean lines a) where
   unfolding content_at size_at made_before line_outcomes
   given k below =
       let m = made_at k below in
-      let g = line_given lines a k (final lines a k) (above lines a k) (a.form k) (a.segment k) (body_at lines k) refl refl (c.good k) (free lines a k (c.placed k below)).stands m.fine in
+      let g = line_given lines a k (final lines a k) (above lines a k) (a.form k) (a.segment k) (body_at lines k) refl
+      refl (c.good k) (free lines a k (c.placed k below)).stands m.fine in
       let few = g.few in
       let sum = m.made_is in
       record { content = g.content; within = g.within; few = omega (arith, few, sum); code = g.code }

@@ -1,12 +1,14 @@
 -- What a line gives to names is what their definitions say, and its externals have numbers.
-use Rattle.std.proofs.Common.{◌≡◌, ℕ, suc, ◌+◌, ◌≤◌, length, Bool, true, false, cond, List, [], ◌∷◌, ◌++◌, map, Option, Some, None, refl, ap, sym, subst, arith, option_map}
+use Rattle.std.proofs.Common.{◌≡◌, ℕ, suc, ◌+◌, ◌≤◌, length, Bool, true, false, cond, List, [], ◌∷◌, ◌++◌, map, Option}
+use Rattle.std.proofs.Common.{Some, None, refl, ap, sym, subst, arith, option_map}
 use Rattle.std.specs.Str.{bytes_eq}
 use Rattle.m51_cells.specs.declared.kind.Kind.{Kind}
 use Rattle.m51_stmt.specs.Statement.{BodyTree, StmtTree, Segment, Equ, Set, Address, Extrn}
 use Rattle.m51_text.specs.Answer.{LineTree}
 use Rattle.m51_asm.specs.declared.values.Located.{Located}
 use Rattle.m51_asm.specs.declared.giving.Giving.{Giving}
-use Rattle.m51_asm.specs.Definitions.{Definition, Label, SegmentOf, EquOf, SetOf, AddressOf, ExternOf, externals_from, defined_by, label_defined, definitions_in, found_in}
+use Rattle.m51_asm.specs.Definitions.{Definition, Label, SegmentOf, EquOf, SetOf, AddressOf, ExternOf, externals_from}
+use Rattle.m51_asm.specs.Definitions.{defined_by, label_defined, definitions_in, found_in}
 use Rattle.m51_asm.specs.Assignment.{Assignment, here_at, above}
 use Rattle.m51_asm.specs.Fitting.{externals_in, externals_before}
 use Rattle.m51_asm.specs.Located.{located_value}
@@ -14,7 +16,8 @@ use Rattle.m51_asm.specs.Table.{Brief, how_of, brief}
 use Rattle.m51_asm.specs.ValuesAbove.{line_value, or_kept}
 use Rattle.m51_asm.specs.GivenValues.{expression_given, given_by, given_or, HaveNumbers}
 
-module _ (lines : List LineTree) (a : Assignment) (k : ℕ) (g : Giving) (here : located_value g.here ≡ here_at a k) (line : g.line ≡ k)
+module _ (lines : List LineTree) (a : Assignment) (k : ℕ) (g : Giving) (here : located_value g.here ≡ here_at a k)
+    (line : g.line ≡ k)
     (externals : g.externals ≡ externals_before lines k) (name : List ℕ) (kept : Option Located) where
   -- one more definition, which is first
   first_given : (b : Bool) (d : Definition) (f : Option Definition) (later : Option Located)
@@ -26,8 +29,11 @@ module _ (lines : List LineTree) (a : Assignment) (k : ℕ) (g : Giving) (here :
   first_given false d f later h m = m
 
   external_is : (kind : Kind) (number : ℕ)
-      → option_map located_value (given_by g (how_of (ExternOf kind number))) ≡ line_value lines a k (ExternOf kind number)
-  external_is kind number = ap (λ n. option_map located_value (given_by (record g { externals = n }) (how_of (ExternOf kind number)))) externals
+      → option_map located_value (given_by g (how_of (ExternOf kind number)))
+      ≡ line_value lines a k (ExternOf kind number)
+  external_is kind number =
+      ap (λ n. option_map located_value (given_by (record g { externals = n }) (how_of (ExternOf kind number))))
+      externals
 
   externals_given : (number : ℕ) (names : List (List ℕ × Kind))
       → option_map located_value (given_or g (map brief (externals_from number names)) name kept)
@@ -35,7 +41,8 @@ module _ (lines : List LineTree) (a : Assignment) (k : ℕ) (g : Giving) (here :
   externals_given number [] = refl
   externals_given number (e ∷ names) =
       first_given (bytes_eq name e.0) (ExternOf e.1 number) (found_in (externals_from (suc number) names) name)
-      (given_or g (map brief (externals_from (suc number) names)) name kept) (external_is e.1 number) (externals_given (suc number) names)
+      (given_or g (map brief (externals_from (suc number) names)) name kept) (external_is e.1 number)
+      (externals_given (suc number) names)
 
   body_given : (body : BodyTree) → option_map located_value g.expression ≡ expression_given (above lines a k) body
       → option_map located_value (given_or g (map brief (defined_by body)) name kept)
@@ -49,28 +56,34 @@ module _ (lines : List LineTree) (a : Assignment) (k : ℕ) (g : Giving) (here :
   body_given (Extrn names) h = externals_given 0 names
   body_given body h = refl
 
-  label_given : (label : Option (List ℕ)) (body : BodyTree) → option_map located_value g.expression ≡ expression_given (above lines a k) body
+  label_given : (label : Option (List ℕ)) (body : BodyTree)
+      → option_map located_value g.expression ≡ expression_given (above lines a k) body
       → option_map located_value (given_or g (map brief (label_defined label ++ defined_by body)) name kept)
       ≡ or_kept lines a k (found_in (label_defined label ++ defined_by body) name) (option_map located_value kept)
   label_given None body h = body_given body h
   label_given (Some label) body h =
-      first_given (bytes_eq name label) Label (found_in (defined_by body) name) (given_or g (map brief (defined_by body)) name kept)
+      first_given (bytes_eq name label) Label (found_in (defined_by body) name)
+      (given_or g (map brief (defined_by body)) name kept)
       (ap Some here) (body_given body h)
 
 -- after a line a name has the value that its definition there gives it, or else the one that it had
-pub given : (lines : List LineTree) (a : Assignment) (k : ℕ) (g : Giving) → located_value g.here ≡ here_at a k → g.line ≡ k
+pub given : (lines : List LineTree) (a : Assignment) (k : ℕ) (g : Giving) → located_value g.here ≡ here_at a k
+    → g.line ≡ k
     → g.externals ≡ externals_before lines k → (name : List ℕ) (kept : Option Located) (stmt : StmtTree)
     → option_map located_value g.expression ≡ expression_given (above lines a k) stmt.body
     → option_map located_value (given_or g (map brief (definitions_in stmt)) name kept)
     ≡ or_kept lines a k (found_in (definitions_in stmt) name) (option_map located_value kept)
-given lines a k g here line externals name kept stmt h = label_given lines a k g here line externals name kept stmt.label stmt.body h
+given lines a k g here line externals name kept stmt h =
+    label_given lines a k g here line externals name kept stmt.label stmt.body h
 
 externals_have : (above number : ℕ) (names : List (List ℕ × Kind)) → above + number + length names ≤ 255
     → HaveNumbers above (map brief (externals_from number names))
 externals_have above number [] h = tt
-externals_have above number (e ∷ names) h = (omega (arith, h), externals_have above (suc number) names (omega (arith, h)))
+externals_have above number (e ∷ names) h =
+    (omega (arith, h), externals_have above (suc number) names (omega (arith, h)))
 
-body_has : (above : ℕ) (body : BodyTree) → above + externals_in body ≤ 255 → HaveNumbers above (map brief (defined_by body))
+body_has : (above : ℕ) (body : BodyTree) → above + externals_in body ≤ 255
+    → HaveNumbers above (map brief (defined_by body))
 body_has above (Extrn names) h = externals_have above 0 names (omega (arith, h))
 body_has above (Segment other kind reloc overlayable) h = (tt, tt)
 body_has above (Equ other e) h = (tt, tt)

@@ -1,5 +1,6 @@
 -- What lines of a text say, as far as modules ask for it, and that no line of a text without faults has one.
-use Rattle.std.proofs.Common.{◌≡◌, ◌≢◌, inl, inr, ℕ, zero, suc, ◌+◌, ◌<◌, nat_lt, Bool, true, false, cond, List, [], ◌∷◌, length, Option, Some, None, Result, Ok, Err, refl, ap, subst, ◌∙◌, arith, add-zero}
+use Rattle.std.proofs.Common.{◌≡◌, ◌≢◌, inl, inr, ℕ, zero, suc, ◌+◌, ◌<◌, nat_lt, Bool, true, false, cond, List, []}
+use Rattle.std.proofs.Common.{◌∷◌, length, Option, Some, None, Result, Ok, Err, refl, ap, subst, ◌∙◌, arith, add-zero}
 use Rattle.std.specs.List.{AllByRecursion, list_all}
 use Rattle.std.proofs.lemmas.Bool.{and_parts}
 use Rattle.std.proofs.lemmas.Bool.Decides.{nat_tests}
@@ -86,8 +87,10 @@ good_body at (body.Segment name k r overlayable) is = record {
   allowed = is.1.allowed;
 }
 good_body at (body.Select k e) is = selected k is.0
-good_body at (body.Public names) is = each_weaker IsLeafName IsWritten (λ name h. h.written) names (some_each IsLeafName names is)
-good_body at (body.Extrn externs) is = each_weaker IsExtern (λ e. IsWritten e.0) (λ e h. h.leaf.written) externs (some_each IsExtern externs is)
+good_body at (body.Public names) is =
+    each_weaker IsLeafName IsWritten (λ name h. h.written) names (some_each IsLeafName names is)
+good_body at (body.Extrn externs) is =
+    each_weaker IsExtern (λ e. IsWritten e.0) (λ e h. h.leaf.written) externs (some_each IsExtern externs is)
 good_body at (body.ModuleName name) is = is.written
 good_body at b is = tt
 
@@ -110,12 +113,14 @@ character_byte b h = grind (arith, nat_tests)
 
 pub bytes_all : (line : List ℕ) → list_all is_character line ≡ true → AllByRecursion IsByte line
 bytes_all [] h = tt
-bytes_all (b ∷ line) h = let p = and_parts (is_character b) (list_all is_character line) h in (character_byte b p.0, bytes_all line p.1)
+bytes_all (b ∷ line) h = let p = and_parts (is_character b) (list_all is_character line) h in
+    (character_byte b p.0, bytes_all line p.1)
 
 abbrev read_as : StmtTree → Result StmtTree ℕ
 read_as s = Ok s
 
-pub passes : (b : Bool) (k : ℕ) (r : Result StmtTree ℕ) (s : StmtTree) → cond b r (Err k) ≡ read_as s → (b ≡ true) × (r ≡ Ok s)
+pub passes : (b : Bool) (k : ℕ) (r : Result StmtTree ℕ) (s : StmtTree) → cond b r (Err k) ≡ read_as s
+    → (b ≡ true) × (r ≡ Ok s)
 passes true k r s h = (refl, h)
 passes false k r s h = absurd (cc h)
 
@@ -128,12 +133,14 @@ unfolding said
 good_said line s h =
     let p = passes (list_all is_character line) _ (statement_of line) s h in
     let reads : any_line line ≡ Ok s = short (nat_lt 255 (length line)) _ (any_line line) s p.1 in
-    good_line s.label s.body (written_is_good line s (record { bytes = All-from_recursion IsByte line (bytes_all line p.0); reads = reads }))
+    good_line s.label s.body
+    (written_is_good line s (record { bytes = All-from_recursion IsByte line (bytes_all line p.0); reads = reads }))
 
 abbrev GoodTree : LineTree → Type 0
 GoodTree l = IsGood l.stmt.body
 
-one_good : (line : TextLine) (r : Result StmtTree ℕ) (more : List LineTree) → said line.bytes ≡ r → AllByRecursion GoodTree more → AllByRecursion GoodTree (with_statement line r more)
+one_good : (line : TextLine) (r : Result StmtTree ℕ) (more : List LineTree) → said line.bytes ≡ r
+    → AllByRecursion GoodTree more → AllByRecursion GoodTree (with_statement line r more)
 one_good line (Ok s) more e all = (good_said line.bytes s e, all)
 one_good line (Err number) more e all = all
 
@@ -163,27 +170,33 @@ pub record IsClean (lines : List LineTree) (a : Assignment) : Type 0 where
   pub placed : (k : ℕ) → k < length lines → placed_fault lines a k ≡ None
   pub content : (k : ℕ) → k < length lines → content_fault lines a k ≡ None
 
-none_first : (l : LineTree) (o : Option ℕ) (later : Option Fault) → fault_or l o later ≡ None → (o ≡ None) × (later ≡ None)
+none_first : (l : LineTree) (o : Option ℕ) (later : Option Fault) → fault_or l o later ≡ None
+    → (o ≡ None) × (later ≡ None)
 none_first l None later h = (refl, h)
 none_first l (Some n) later h = absurd (cc h)
 
-none_placed : (fault : ℕ → Option ℕ) (ls : List LineTree) (n j : ℕ) → first_fault fault n ls ≡ None → j < length ls → fault (n + j) ≡ None
+none_placed : (fault : ℕ → Option ℕ) (ls : List LineTree) (n j : ℕ) → first_fault fault n ls ≡ None → j < length ls
+    → fault (n + j) ≡ None
 none_placed fault [] n j h below = absurd (omega (arith, below))
-none_placed fault (l ∷ ls) n zero h below = ap fault (add-zero n) ∙ (none_first l (fault n) (first_fault fault (suc n) ls) h).0
+none_placed fault (l ∷ ls) n zero h below =
+    ap fault (add-zero n) ∙ (none_first l (fault n) (first_fault fault (suc n) ls) h).0
 none_placed fault (l ∷ ls) n (suc j) h below =
     let e : n + suc j ≡ suc n + j = omega arith in
-    ap fault e ∙ none_placed fault ls (suc n) j (none_first l (fault n) (first_fault fault (suc n) ls) h).1 (omega (arith, below))
+    ap fault e ∙ none_placed fault ls (suc n) j (none_first l (fault n) (first_fault fault (suc n) ls) h).1
+    (omega (arith, below))
 
 no_more : (l : LineTree) (o : Option ℕ) (more : List Fault) → if_fault l o more ≡ [] → (o ≡ None) × (more ≡ [])
 no_more l None more h = (refl, h)
 no_more l (Some n) more h = absurd (cc h)
 
-none_in : (fault : ℕ → Option ℕ) (ls : List LineTree) (n j : ℕ) → faults_from fault n ls ≡ [] → j < length ls → fault (n + j) ≡ None
+none_in : (fault : ℕ → Option ℕ) (ls : List LineTree) (n j : ℕ) → faults_from fault n ls ≡ [] → j < length ls
+    → fault (n + j) ≡ None
 none_in fault [] n j h below = absurd (omega (arith, below))
 none_in fault (l ∷ ls) n zero h below = ap fault (add-zero n) ∙ (no_more l (fault n) (faults_from fault (suc n) ls) h).0
 none_in fault (l ∷ ls) n (suc j) h below =
     let e : n + suc j ≡ suc n + j = omega arith in
-    ap fault e ∙ none_in fault ls (suc n) j (no_more l (fault n) (faults_from fault (suc n) ls) h).1 (omega (arith, below))
+    ap fault e ∙ none_in fault ls (suc n) j (no_more l (fault n) (faults_from fault (suc n) ls) h).1
+    (omega (arith, below))
 
 from_zero : (k : ℕ) → k ≡ 0 + k
 from_zero k = omega arith
@@ -191,28 +204,36 @@ from_zero k = omega arith
 pub free_text : (lines : List LineTree) (a : Assignment) → IsClean lines a → IsFreeText lines a
 free_text lines a c = record { fits = c.fits; good = c.good; placed = c.placed }
 
-pub free_where : (source : SourceFile) (includes : List SourceFile) (lines : List LineTree) (a : Assignment) → text_of source includes ≡ Lines lines → Fits lines a
+pub free_where : (source : SourceFile) (includes : List SourceFile) (lines : List LineTree) (a : Assignment)
+    → text_of source includes ≡ Lines lines → Fits lines a
     → AreFree lines a (length lines) → IsFreeText lines a
 free_where source includes lines a read fits placed =
     let ls : List TextLine = text_lines source includes in
     let is : statements_of ls ≡ lines = found_are (faults_of includes ls) (statements_of ls) lines read in
-    record { fits = fits; good = λ k. good_at lines k (subst (AllByRecursion GoodTree) is (all_good ls)); placed = placed }
+    record {
+      fits = fits;
+      good = λ k. good_at lines k (subst (AllByRecursion GoodTree) is (all_good ls));
+      placed = placed;
+    }
 
 -- the lines of a text, of which none has a fault
-pub clean_where : (source : SourceFile) (includes : List SourceFile) (lines : List LineTree) (a : Assignment) → text_of source includes ≡ Lines lines → Fits lines a
+pub clean_where : (source : SourceFile) (includes : List SourceFile) (lines : List LineTree) (a : Assignment)
+    → text_of source includes ≡ Lines lines → Fits lines a
     → AreFree lines a (length lines) → content_faults lines a ≡ [] → IsClean lines a
 clean_where source includes lines a read fits placed content =
     record {
       fits = fits;
       good = (free_where source includes lines a read fits placed).good;
       placed = placed;
-      content = λ k below. ap (content_fault lines a) (from_zero k) ∙ none_in (content_fault lines a) lines 0 k content below;
+      content = λ k below. ap (content_fault lines a) (from_zero k)
+          ∙ none_in (content_fault lines a) lines 0 k content below;
     }
 
 pub clean : (lines : List LineTree) (a : Assignment) → IsFaultless lines a → IsClean lines a
 clean lines a f =
     clean_where f.source f.includes lines a f.read f.fits
-    (λ k below. ap (placed_fault lines a) (from_zero k) ∙ none_placed (placed_fault lines a) lines 0 k f.placed below) f.content
+    (λ k below. ap (placed_fault lines a) (from_zero k) ∙ none_placed (placed_fault lines a) lines 0 k f.placed below)
+    f.content
 
 -- a line that has no fault by the lines above it
 pub record IsFaultFree (lines : List LineTree) (a : Assignment) (k : ℕ) : Type 0 where

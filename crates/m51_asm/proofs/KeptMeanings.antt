@@ -1,5 +1,6 @@
 -- What names mean by the state after the lines above.
-use Rattle.std.proofs.Common.{◌≡◌, ℕ, Bool, true, false, cond, List, [], ◌∷◌, Option, Some, None, refl, ap, sym, ◌∙◌, option_map}
+use Rattle.std.proofs.Common.{◌≡◌, ℕ, Bool, true, false, cond, List, [], ◌∷◌, Option, Some, None, refl, ap, sym, ◌∙◌}
+use Rattle.std.proofs.Common.{option_map}
 use Rattle.std.proofs.lemmas.Slice.Eq.{bytes_eq-Decides}
 use Rattle.std.specs.Map.{lookup}
 use Rattle.std.specs.Global.{Vec}
@@ -20,13 +21,15 @@ use Rattle.m51_asm.specs.Above.{Valuation, valuation_of, value_in, known, value_
 use Rattle.m51_asm.proofs.SeenValues.{seen}
 
 -- the map's entry of a name
-pub lookup_value : (name : List ℕ) (entries : List (Vec ℕ × Option Located)) → known (lookup (λ (k : Vec ℕ). bytes_eq name k.items) entries) ≡ value_in (valuation_of entries) name
+pub lookup_value : (name : List ℕ) (entries : List (Vec ℕ × Option Located))
+    → known (lookup (λ (k : Vec ℕ). bytes_eq name k.items) entries) ≡ value_in (valuation_of entries) name
 lookup_value name [] = refl
 lookup_value name (e ∷ es) =
     known_if (bytes_eq name e.0.items) e.1 (lookup (λ (k : Vec ℕ). bytes_eq name k.items) es)
     ∙ ap (λ o. cond (bytes_eq name e.0.items) e.1 o) (lookup_value name es)
   where
-    known_if : (b : Bool) (v : Option Located) (o : Option (Option Located)) → known (cond b (Some v) o) ≡ cond b v (known o)
+    known_if : (b : Bool) (v : Option Located) (o : Option (Option Located))
+        → known (cond b (Some v) o) ≡ cond b v (known o)
     known_if true v o = refl
     known_if false v o = refl
 
@@ -44,13 +47,15 @@ exchanged true true v w o h = absurd (h refl refl)
 exchanged true false v w o h = refl
 exchanged false c v w o h = refl
 
-put_step : (b : Bool) (e : Vec ℕ × Option Located) (es rest : List (Vec ℕ × Option Located)) (key : Vec ℕ) (v : Option Located) (other : List ℕ) → bytes_eq key.items e.0.items ≡ b
+put_step : (b : Bool) (e : Vec ℕ × Option Located) (es rest : List (Vec ℕ × Option Located)) (key : Vec ℕ)
+    (v : Option Located) (other : List ℕ) → bytes_eq key.items e.0.items ≡ b
     → value_in (valuation_of rest) other ≡ cond (bytes_eq other key.items) v (value_in (valuation_of es) other)
     → value_in (valuation_of (cond b ((e.0, v) ∷ es) (e ∷ rest))) other
     ≡ cond (bytes_eq other key.items) v (cond (bytes_eq other e.0.items) e.1 (value_in (valuation_of es) other))
 put_step true e es rest key v other h k =
     in_place (bytes_eq other e.0.items) v e.1 (value_in (valuation_of es) other)
-    ∙ ap (λ n. cond (bytes_eq other n) v (cond (bytes_eq other e.0.items) e.1 (value_in (valuation_of es) other))) (sym ((bytes_eq-Decides key.items e.0.items).0 h))
+    ∙ ap (λ n. cond (bytes_eq other n) v (cond (bytes_eq other e.0.items) e.1 (value_in (valuation_of es) other)))
+    (sym ((bytes_eq-Decides key.items e.0.items).0 h))
 put_step false e es rest key v other h k =
     ap (λ o. cond (bytes_eq other e.0.items) e.1 o) k
     ∙ exchanged (bytes_eq other e.0.items) (bytes_eq other key.items) v e.1 (value_in (valuation_of es) other)
@@ -61,17 +66,22 @@ put_step false e es rest key v other h k =
 
 -- a value that is put in
 pub put_value : (entries : List (Vec ℕ × Option Located)) (key : Vec ℕ) (v : Option Located)
-    → Puts (valuation_of entries) (valuation_of (insert_entry (λ (a b : Vec ℕ). bytes_eq a.items b.items) entries key v)) key.items v
+    → Puts (valuation_of entries)
+    (valuation_of (insert_entry (λ (a b : Vec ℕ). bytes_eq a.items b.items) entries key v)) key.items v
 put_value [] key v other = refl
 put_value (e ∷ es) key v other =
-    put_step (bytes_eq key.items e.0.items) e es (insert_entry (λ (a b : Vec ℕ). bytes_eq a.items b.items) es key v) key v other refl (put_value es key v other)
+    put_step (bytes_eq key.items e.0.items) e es (insert_entry (λ (a b : Vec ℕ). bytes_eq a.items b.items) es key v) key
+    v other refl (put_value es key v other)
 
-seen_first : (k : ℕ) (x undefined : Option Value) (o : Option (ℕ × Definition)) → value_seen k x undefined (option_map first_of o) ≡ seen_value k x undefined o
+seen_first : (k : ℕ) (x undefined : Option Value) (o : Option (ℕ × Definition))
+    → value_seen k x undefined (option_map first_of o) ≡ seen_value k x undefined o
 seen_first k x undefined (Some d) = refl
 seen_first k x undefined None = refl
 
-pub means : (lines : List LineTree) (a : Assignment) → Fits lines a → (k : ℕ) (table : Table) (values : Valuation) (predefines : Bool) (bank : ℕ) (here : Located)
-    → IsKeptOf lines a k table values predefines bank here → kept_meanings lines table values k predefines bank here ≡ above lines a k
+pub means : (lines : List LineTree) (a : Assignment) → Fits lines a
+    → (k : ℕ) (table : Table) (values : Valuation) (predefines : Bool) (bank : ℕ) (here : Located)
+    → IsKeptOf lines a k table values predefines bank here → kept_meanings lines table values k predefines bank here
+    ≡ above lines a k
 unfolding above undefined_value
 means lines a f k table values predefines bank here s =
     λ i. record {
@@ -82,9 +92,13 @@ means lines a f k table values predefines bank here s =
     }
   where
     value_is : (name : List ℕ)
-        → value_seen k (option_map located_value (value_in values name)) (register_or_predefined predefines bank name (absolute_register_of name)) (first_in table name)
+        → value_seen k (option_map located_value (value_in values name))
+        (register_or_predefined predefines bank name (absolute_register_of name)) (first_in table name)
         ≡ value_before lines a k k name
     value_is name =
-        (λ i. value_seen k (s.known name i) (register_or_predefined (s.predefined i) (s.selected i) name (absolute_register_of name)) (s.names name i))
-        ∙ seen_first k (value_above lines a k name) (register_or_predefined (mod51 lines) (bank_before lines a k) name (absolute_register_of name)) (definition_of lines name)
+        (λ i. value_seen k (s.known name i)
+        (register_or_predefined (s.predefined i) (s.selected i) name (absolute_register_of name)) (s.names name i))
+        ∙ seen_first k (value_above lines a k name)
+        (register_or_predefined (mod51 lines) (bank_before lines a k) name (absolute_register_of name))
+        (definition_of lines name)
         ∙ sym (seen lines a f k name)

@@ -1,5 +1,6 @@
 -- The numbers of segments in a module: each counts from 1 in the order of ids, and leads to the segment.
-use Rattle.std.proofs.Common.{◌≡◌, ◌≢◌, inl, inr, ℕ, suc, ◌<◌, ◌==◌, Bool, true, false, cond, List, [], ◌∷◌, map, Option, Some, None, option_map, refl, sym, ap, ◌∙◌, arith, eq-eqb}
+use Rattle.std.proofs.Common.{◌≡◌, ◌≢◌, inl, inr, ℕ, suc, ◌<◌, ◌==◌, Bool, true, false, cond, List, [], ◌∷◌, map}
+use Rattle.std.proofs.Common.{Option, Some, None, option_map, refl, sym, ap, ◌∙◌, arith, eq-eqb}
 use Rattle.std.specs.Prelude.{slice_get}
 use Rattle.std.proofs.lemmas.Bool.{eqb-true, ne_eqb}
 use Rattle.std.proofs.lemmas.Option.{slice_get-map}
@@ -20,7 +21,8 @@ pub record StandsAt (xs : List Kept) (s : Kept) : Type 0 where
   pub place : place_in (ids xs) s.id ≡ Some index
   pub got : slice_get xs index ≡ Some s
 
-later_place : (x : Kept) (xs : List Kept) (id : ℕ) → x.id ≢ id → place_in (ids (x ∷ xs)) id ≡ option_map (λ n. suc n) (place_in (ids xs) id)
+later_place : (x : Kept) (xs : List Kept) (id : ℕ) → x.id ≢ id
+    → place_in (ids (x ∷ xs)) id ≡ option_map (λ n. suc n) (place_in (ids xs) id)
 later_place x xs id ne = ap (λ b. cond b (Some 0) (option_map (λ n. suc n) (place_in (ids xs) id))) (ne_eqb x.id id ne)
 
 first_place : (x : Kept) (xs : List Kept) (id : ℕ) → x.id ≡ id → place_in (ids (x ∷ xs)) id ≡ Some 0
@@ -34,7 +36,11 @@ stands (x ∷ xs) h s i = elim (in_cons s x xs i) [
   | inr j ↦
       let r = stands xs h.1 s j in
       let less : x.id < s.id = h.0 s j in
-      record { index = suc r.index; place = later_place x xs s.id (omega (arith, less)) ∙ ap (option_map (λ n. suc n)) r.place; got = r.got }
+      record {
+        index = suc r.index;
+        place = later_place x xs s.id (omega (arith, less)) ∙ ap (option_map (λ n. suc n)) r.place;
+        got = r.got;
+      }
 ]
 
 pub number_is : (xs : List Kept) (s : Kept) (r : StandsAt xs s) → number_in xs s.id ≡ suc r.index
@@ -42,10 +48,12 @@ unfolding number_in
 number_is xs s r = ap from_one r.place
 
 -- the number of a segment of the module leads to it
-pub leads_to : (xs : List Kept) → Ascend xs → (s : Kept) → In s xs → numbered (map (λ k. k.segment) xs) (number_in xs s.id) ≡ Some s.segment
+pub leads_to : (xs : List Kept) → Ascend xs → (s : Kept) → In s xs
+    → numbered (map (λ k. k.segment) xs) (number_in xs s.id) ≡ Some s.segment
 leads_to xs h s i =
     let r = stands xs h s i in
-    ap (numbered (map (λ k. k.segment) xs)) (number_is xs s r) ∙ slice_get-map (λ (k : Kept). k.segment) xs r.index ∙ ap (option_map (λ (k : Kept). k.segment)) r.got
+    ap (numbered (map (λ k. k.segment) xs)) (number_is xs s r) ∙ slice_get-map (λ (k : Kept). k.segment) xs r.index
+    ∙ ap (option_map (λ (k : Kept). k.segment)) r.got
 
 -- a number other than 0 is that of a segment of the module with this id
 pub record IsNumbered (xs : List Kept) (id : ℕ) : Type 0 where
@@ -53,14 +61,16 @@ pub record IsNumbered (xs : List Kept) (id : ℕ) : Type 0 where
   pub there : In kept xs
   pub id_is : kept.id ≡ id
 
-found_by : (x : Kept) (xs : List Kept) (id n : ℕ) (b : Bool) → (x.id == id) ≡ b → ((m : ℕ) → place_in (ids xs) id ≡ Some m → IsNumbered xs id)
+found_by : (x : Kept) (xs : List Kept) (id n : ℕ) (b : Bool) → (x.id == id) ≡ b
+    → ((m : ℕ) → place_in (ids xs) id ≡ Some m → IsNumbered xs id)
     → cond b (Some 0) (option_map (λ n. suc n) (place_in (ids xs) id)) ≡ Some n → IsNumbered (x ∷ xs) id
 found_by x xs id n true test go h = record { kept = x; there = in_first x xs; id_is = eqb-true x.id id test }
 found_by x xs id n false test go h = by_place (place_in (ids xs) id) refl h
   where
     by_place : (o : Option ℕ) → place_in (ids xs) id ≡ o → option_map (λ n. suc n) o ≡ Some n → IsNumbered (x ∷ xs) id
     by_place None e h = absurd (cc h)
-    by_place (Some m) e h = let r = go m e in record { kept = r.kept; there = in_later r.kept x xs r.there; id_is = r.id_is }
+    by_place (Some m) e h = let r = go m e in
+        record { kept = r.kept; there = in_later r.kept x xs r.there; id_is = r.id_is }
 
 found_place : (xs : List Kept) (id n : ℕ) → place_in (ids xs) id ≡ Some n → IsNumbered xs id
 found_place [] id n h = absurd (cc h)
@@ -86,7 +96,8 @@ numbers_ascend (x ∷ xs) h = (
       let r = stands xs h.1 t i in
       let less : x.id < t.id = h.0 t i in
       let first : from_one (place_in (ids (x ∷ xs)) x.id) ≡ 1 = ap from_one (first_place x xs x.id refl) in
-      let second : from_one (place_in (ids (x ∷ xs)) t.id) ≡ suc (suc r.index) = ap from_one (later_place x xs t.id (omega (arith, less)) ∙ ap (option_map (λ n. suc n)) r.place) in
+      let second : from_one (place_in (ids (x ∷ xs)) t.id) ≡ suc (suc r.index) =
+      ap from_one (later_place x xs t.id (omega (arith, less)) ∙ ap (option_map (λ n. suc n)) r.place) in
       omega (arith, first, second),
   shifted xs x h.1 h.0 xs (λ s i. i) (numbers_ascend xs h.1),
 )
@@ -96,16 +107,21 @@ numbers_ascend (x ∷ xs) h = (
     one_more xs x order above s i =
         let r = stands xs order s i in
         let less : x.id < s.id = above s i in
-        ap from_one (later_place x xs s.id (omega (arith, less)) ∙ ap (option_map (λ n. suc n)) r.place) ∙ ap suc (sym (number_is xs s r))
+        ap from_one (later_place x xs s.id (omega (arith, less)) ∙ ap (option_map (λ n. suc n)) r.place)
+        ∙ ap suc (sym (number_is xs s r))
 
-    shifted : (xs : List Kept) (x : Kept) → Ascend xs → ((t : Kept) → In t xs → x.id < t.id) → (ys : List Kept) → ((s : Kept) → In s ys → In s xs)
-        → Pairs (λ s t. number_in xs s.id < number_in xs t.id) ys → Pairs (λ s t. number_in (x ∷ xs) s.id < number_in (x ∷ xs) t.id) ys
+    shifted : (xs : List Kept) (x : Kept) → Ascend xs → ((t : Kept) → In t xs → x.id < t.id) → (ys : List Kept)
+        → ((s : Kept) → In s ys → In s xs)
+        → Pairs (λ s t. number_in xs s.id < number_in xs t.id) ys
+        → Pairs (λ s t. number_in (x ∷ xs) s.id < number_in (x ∷ xs) t.id) ys
     shifted xs x order above [] sub h = tt
     shifted xs x order above (y ∷ ys) sub h = (
       λ t i.
           let less : number_in xs y.id < number_in xs t.id = h.0 t i in
-          let one : number_in (x ∷ xs) y.id ≡ suc (number_in xs y.id) = one_more xs x order above y (sub y (in_first y ys)) in
-          let two : number_in (x ∷ xs) t.id ≡ suc (number_in xs t.id) = one_more xs x order above t (sub t (in_later t y ys i)) in
+          let one : number_in (x ∷ xs) y.id ≡ suc (number_in xs y.id) =
+          one_more xs x order above y (sub y (in_first y ys)) in
+          let two : number_in (x ∷ xs) t.id ≡ suc (number_in xs t.id) =
+          one_more xs x order above t (sub t (in_later t y ys i)) in
           omega (arith, less, one, two),
       shifted xs x order above ys (λ s i. sub s (in_later s y ys i)) h.1,
     )

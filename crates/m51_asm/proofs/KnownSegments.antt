@@ -1,5 +1,6 @@
 -- The segments of a text are known by their ids: that of a line is the one of its id, and has a kind.
-use Rattle.std.proofs.Common.{◌≡◌, ◌≢◌, ◌⊎◌, inl, inr, ℕ, zero, suc, ◌+◌, ◌<◌, ◌≤◌, nat_lt, Bool, true, false, cond, List, [], ◌∷◌, ◌++◌, Option, Some, None, refl, sym, ap, subst, ◌∙◌, arith}
+use Rattle.std.proofs.Common.{◌≡◌, ◌≢◌, ◌⊎◌, inl, inr, ℕ, zero, suc, ◌+◌, ◌<◌, ◌≤◌, nat_lt, Bool, true, false, cond}
+use Rattle.std.proofs.Common.{List, [], ◌∷◌, ◌++◌, Option, Some, None, refl, sym, ap, subst, ◌∙◌, arith}
 use Rattle.std.specs.Prelude.{unwrap_or}
 use Rattle.std.specs.Str.{bytes_eq}
 use Rattle.std.proofs.lemmas.Bool.{ltb-true}
@@ -13,14 +14,17 @@ use Rattle.m51_expr.specs.Tree.{Tree}
 use Rattle.m51_stmt.specs.Statement as body
 use Rattle.m51_stmt.specs.Statement.{BodyTree}
 use Rattle.m51_text.specs.Answer.{LineTree}
-use Rattle.m51_asm.specs.Definitions.{Definition, Label, SegmentOf, EquOf, SetOf, AddressOf, ExternOf, definitions_in, label_defined, defined_by, externals_from, found_in, or_later, definition_from, definition_of}
+use Rattle.m51_asm.specs.Definitions.{Definition, Label, SegmentOf, EquOf, SetOf, AddressOf, ExternOf, definitions_in}
+use Rattle.m51_asm.specs.Definitions.{label_defined, defined_by, externals_from, found_in, or_later, definition_from}
+use Rattle.m51_asm.specs.Definitions.{definition_of}
 use Rattle.m51_asm.specs.Assignment.{TextSegment, Assignment, absolute, opening, body_at, above, number_of}
 use Rattle.m51_asm.specs.Fitting.{is_absolute_of, last_absolute, declared_in, declared_by, segment_by, segment_behind}
 use Rattle.m51_asm.specs.ObjectSegments.{declared_or, segment_of}
 use Rattle.m51_asm.proofs.GoodLines.{IsFreeText, IsGood}
 
 -- what is found is of a test that passes
-pub found_if : (b : Bool) (x y : Definition) (o : Option Definition) → cond b (Some x) o ≡ Some y → (x ≡ y) ⊎ (o ≡ Some y)
+pub found_if : (b : Bool) (x y : Definition) (o : Option Definition) → cond b (Some x) o ≡ Some y
+    → (x ≡ y) ⊎ (o ≡ Some y)
 found_if true x y o h = inl (cc h)
 found_if false x y o h = inr h
 
@@ -31,17 +35,21 @@ pub record Declares (b : BodyTree) (k : Kind) : Type 0 where
   pub overlayable : Bool
   pub is : b ≡ body.Segment name k type overlayable
 
-extern_found : (xs : List (List ℕ × Kind)) (n : ℕ) (name : List ℕ) (k : Kind) → found_in (externals_from n xs) name ≡ Some (SegmentOf k) → ⊥
+extern_found : (xs : List (List ℕ × Kind)) (n : ℕ) (name : List ℕ) (k : Kind)
+    → found_in (externals_from n xs) name ≡ Some (SegmentOf k) → ⊥
 extern_found [] n name k h = cc h
-extern_found (x ∷ xs) n name k h = elim (found_if (bytes_eq name x.0) (ExternOf x.1 n) (SegmentOf k) (found_in (externals_from (suc n) xs) name) h) [
-  | inl e ↦ cc e
-  | inr e ↦ extern_found xs (suc n) name k e
-]
+extern_found (x ∷ xs) n name k h =
+    elim (found_if (bytes_eq name x.0) (ExternOf x.1 n) (SegmentOf k) (found_in (externals_from (suc n) xs) name) h) [
+      | inl e ↦ cc e
+      | inr e ↦ extern_found xs (suc n) name k e
+    ]
 
-one_found : (t : List ℕ) (d : Definition) (name : List ℕ) (k : Kind) → found_in ((t, d) ∷ []) name ≡ Some (SegmentOf k) → d ≡ SegmentOf k
+one_found : (t : List ℕ) (d : Definition) (name : List ℕ) (k : Kind) → found_in ((t, d) ∷ []) name ≡ Some (SegmentOf k)
+    → d ≡ SegmentOf k
 one_found t d name k h = elim (found_if (bytes_eq name t) d (SegmentOf k) None h) [ inl e ↦ e | inr e ↦ absurd (cc e) ]
 
-body_found : (b : BodyTree) (name : List ℕ) (k : Kind) → found_in (defined_by b) name ≡ Some (SegmentOf k) → Declares b k
+body_found : (b : BodyTree) (name : List ℕ) (k : Kind) → found_in (defined_by b) name ≡ Some (SegmentOf k)
+    → Declares b k
 body_found (body.Segment t j type overlayable) name k h =
     let e : SegmentOf j ≡ SegmentOf k = one_found t (SegmentOf j) name k h in
     let same : j ≡ k = cc e in
@@ -52,7 +60,8 @@ body_found (body.Address t j e) name k h = absurd (cc (one_found t (AddressOf j 
 body_found (body.Extrn xs) name k h = absurd (extern_found xs 0 name k h)
 body_found b name k h = absurd (cc h)
 
-line_found : (label : Option (List ℕ)) (b : BodyTree) (name : List ℕ) (k : Kind) → found_in (label_defined label ++ defined_by b) name ≡ Some (SegmentOf k) → Declares b k
+line_found : (label : Option (List ℕ)) (b : BodyTree) (name : List ℕ) (k : Kind)
+    → found_in (label_defined label ++ defined_by b) name ≡ Some (SegmentOf k) → Declares b k
 line_found None b name k h = body_found b name k h
 line_found (Some t) b name k h = elim (found_if (bytes_eq name t) Label (SegmentOf k) (found_in (defined_by b) name) h) [
   | inl e ↦ absurd (cc e)
@@ -62,12 +71,14 @@ line_found (Some t) b name k h = elim (found_if (bytes_eq name t) Label (Segment
 abbrev pub defined_there : ℕ → Definition → Option (ℕ × Definition)
 defined_there line d = Some (line, d)
 
-pub later_is : (n : ℕ) (f : Option Definition) (later : Option (ℕ × Definition)) (line : ℕ) (d : Definition) → or_later n f later ≡ defined_there line d
+pub later_is : (n : ℕ) (f : Option Definition) (later : Option (ℕ × Definition)) (line : ℕ) (d : Definition)
+    → or_later n f later ≡ defined_there line d
     → ((n ≡ line) × (f ≡ Some d)) ⊎ (later ≡ defined_there line d)
 later_is n (Some x) later line d h = let p = some_pair_parts n line x d h in inl (p.0, ap (λ y. Some y) p.1)
 later_is n None later line d h = inr h
 
-declared_from : (lines : List LineTree) (n : ℕ) (name : List ℕ) (line : ℕ) (k : Kind) → definition_from n lines name ≡ Some (line, SegmentOf k)
+declared_from : (lines : List LineTree) (n : ℕ) (name : List ℕ) (line : ℕ) (k : Kind)
+    → definition_from n lines name ≡ Some (line, SegmentOf k)
     → (j : ℕ) × (line ≡ n + j) × Declares (body_at lines j) k
 declared_from [] n name line k h = absurd (cc h)
 declared_from (l ∷ lines) n name line k h =
@@ -77,7 +88,8 @@ declared_from (l ∷ lines) n name line k h =
     ]
 
 -- what is defined as a segment is declared by its line
-pub declares : (lines : List LineTree) (name : List ℕ) (line : ℕ) (k : Kind) → definition_of lines name ≡ Some (line, SegmentOf k) → Declares (body_at lines line) k
+pub declares : (lines : List LineTree) (name : List ℕ) (line : ℕ) (k : Kind)
+    → definition_of lines name ≡ Some (line, SegmentOf k) → Declares (body_at lines line) k
 unfolding definition_of
 declares lines name line k h =
     let r = declared_from lines 0 name line k h in
@@ -99,22 +111,28 @@ pub record IsKnown (lines : List LineTree) (a : Assignment) (k : ℕ) (s : TextS
   pub kind_is : s.kind ≢ kind.Number
   pub type_is : IsTyped lines s
 
-known_later : (lines : List LineTree) (a : Assignment) (j k : ℕ) (s : TextSegment) → j ≤ k → IsKnown lines a j s → IsKnown lines a k s
-known_later lines a j k s h known = record { same = known.same; low = omega (arith, h, known.low); kind_is = known.kind_is; type_is = known.type_is }
+known_later : (lines : List LineTree) (a : Assignment) (j k : ℕ) (s : TextSegment) → j ≤ k → IsKnown lines a j s
+    → IsKnown lines a k s
+known_later lines a j k s h known =
+    record { same = known.same; low = omega (arith, h, known.low); kind_is = known.kind_is; type_is = known.type_is }
 
-of_declared : (lines : List LineTree) (a : Assignment) (line : ℕ) (k : Kind) → Declares (body_at lines line) k → segment_of lines a (line + 2) ≡ declared_in lines line k
-of_declared lines a line k d = ap (segment_of lines a) (two_more line) ∙ ap (declared_or lines line (a.segment (suc line))) d.is
+of_declared : (lines : List LineTree) (a : Assignment) (line : ℕ) (k : Kind) → Declares (body_at lines line) k
+    → segment_of lines a (line + 2) ≡ declared_in lines line k
+of_declared lines a line k d = ap (segment_of lines a) (two_more line)
+    ∙ ap (declared_or lines line (a.segment (suc line))) d.is
 
 -- the line begins no segment by SEGMENT
 abbrev IsOther : BodyTree → Type 0
 IsOther b = (lines : List LineTree) (k : ℕ) (s : TextSegment) → declared_or lines k s b ≡ s
 
-begun : (lines : List LineTree) (a : Assignment) (k : ℕ) (b : BodyTree) (s : TextSegment) → b ≡ body_at lines k → IsOther b → a.segment (suc k) ≡ s → s.id ≡ k + 2 → s.kind ≢ kind.Number → s.reloc ≡ reloc.Abs
+begun : (lines : List LineTree) (a : Assignment) (k : ℕ) (b : BodyTree) (s : TextSegment) → b ≡ body_at lines k
+    → IsOther b → a.segment (suc k) ≡ s → s.id ≡ k + 2 → s.kind ≢ kind.Number → s.reloc ≡ reloc.Abs
     → IsKnown lines a (suc k) (a.segment (suc k))
 begun lines a k b s is other e id some type =
     let id_is : (a.segment (suc k)).id ≡ suc (suc k) = ap (λ (x : TextSegment). x.id) e ∙ id ∙ two_more k in
     record {
-      same = ap (segment_of lines a) id_is ∙ ap (declared_or lines k (a.segment (suc k))) (sym is) ∙ other lines k (a.segment (suc k));
+      same = ap (segment_of lines a) id_is ∙ ap (declared_or lines k (a.segment (suc k))) (sym is)
+          ∙ other lines k (a.segment (suc k));
       low = omega (arith, id_is);
       kind_is = subst (λ (x : TextSegment). x.kind ≢ kind.Number) (sym e) some;
       type_is = Absolute (ap (λ (x : TextSegment). x.reloc) e ∙ type);
@@ -124,27 +142,38 @@ module _ (lines : List LineTree) (a : Assignment) (c : IsFreeText lines a) where
   Below : ℕ → Type 0
   Below k = (j : ℕ) → j ≤ k → IsKnown lines a j (a.segment j)
 
-  known_as : (j k : ℕ) → j ≤ k → a.segment k ≡ a.segment j → IsKnown lines a j (a.segment j) → IsKnown lines a k (a.segment k)
+  known_as : (j k : ℕ) → j ≤ k → a.segment k ≡ a.segment j → IsKnown lines a j (a.segment j)
+      → IsKnown lines a k (a.segment k)
   known_as j k h e known = subst (IsKnown lines a k) (sym e) (known_later lines a j k (a.segment j) h known)
 
-  declared_known : (k : ℕ) (name : List ℕ) (o : Option (ℕ × Definition)) → Below k → definition_of lines name ≡ o → a.segment (suc k) ≡ unwrap_or (declared_by lines k o) (a.segment k)
+  declared_known : (k : ℕ) (name : List ℕ) (o : Option (ℕ × Definition)) → Below k → definition_of lines name ≡ o
+      → a.segment (suc k) ≡ unwrap_or (declared_by lines k o) (a.segment k)
       → IsKnown lines a (suc k) (a.segment (suc k))
   unfolding Below
   declared_known k name (Some (line, SegmentOf j)) below is e = by_test (nat_lt line k) refl e
     where
-      by_test : (b : Bool) → nat_lt line k ≡ b → a.segment (suc k) ≡ unwrap_or (cond b (Some (declared_in lines line j)) None) (a.segment k) → IsKnown lines a (suc k) (a.segment (suc k))
+      by_test : (b : Bool) → nat_lt line k ≡ b
+          → a.segment (suc k) ≡ unwrap_or (cond b (Some (declared_in lines line j)) None) (a.segment k)
+          → IsKnown lines a (suc k) (a.segment (suc k))
       by_test true test e =
           let d : Declares (body_at lines line) j = declares lines name line j is in
           let less : line < k = ltb-true line k test in
           let good : IsGood (body.Segment d.name j d.type d.overlayable) = subst IsGood d.is (c.good line) in
-          subst (IsKnown lines a (suc k)) (sym e) (record { same = of_declared lines a line j d; low = omega (arith, less); kind_is = good.kind_is; type_is = Relocatable line j refl d })
+          subst (IsKnown lines a (suc k)) (sym e)
+          (record {
+            same = of_declared lines a line j d;
+            low = omega (arith, less);
+            kind_is = good.kind_is;
+            type_is = Relocatable line j refl d;
+          })
       by_test false test e = known_as k (suc k) (omega arith) e (below k (omega arith))
   declared_known k name o below is e = known_as k (suc k) (omega arith) e (below k (omega arith))
 
   Opened : ℕ → TextSegment → Type 0
   Opened k s = (i : ℕ) × (i ≤ k) × (a.segment i ≡ s)
 
-  here_or : (k : ℕ) (s : TextSegment) (rest : Option TextSegment) (b : Bool) → (rest ≡ Some s → Opened k s) → cond b (Some (a.segment k)) rest ≡ Some s → Opened k s
+  here_or : (k : ℕ) (s : TextSegment) (rest : Option TextSegment) (b : Bool) → (rest ≡ Some s → Opened k s)
+      → cond b (Some (a.segment k)) rest ≡ Some s → Opened k s
   unfolding Opened
   here_or k s rest true go h = (k, omega arith, cc h)
   here_or k s rest false go h = go h
@@ -153,30 +182,37 @@ module _ (lines : List LineTree) (a : Assignment) (c : IsFreeText lines a) where
   unfolding last_absolute Opened
   last_is zero j s h = here_or 0 s None (is_absolute_of j (a.segment 0)) (λ e. absurd (cc e)) h
   last_is (suc k) j s h =
-      here_or (suc k) s (last_absolute a.segment j k) (is_absolute_of j (a.segment (suc k))) (λ e. let r = last_is k j s e in (r.0, omega (arith, r.1), r.2)) h
+      here_or (suc k) s (last_absolute a.segment j k) (is_absolute_of j (a.segment (suc k)))
+      (λ e. let r = last_is k j s e in (r.0, omega (arith, r.1), r.2)) h
 
-  selected_known : (k : ℕ) (j : Kind) (o : Option TextSegment) → Below k → body_at lines k ≡ body.Select j None → last_absolute a.segment j k ≡ o → a.segment (suc k) ≡ unwrap_or o (absolute (k + 2) j 0)
+  selected_known : (k : ℕ) (j : Kind) (o : Option TextSegment) → Below k → body_at lines k ≡ body.Select j None
+      → last_absolute a.segment j k ≡ o → a.segment (suc k) ≡ unwrap_or o (absolute (k + 2) j 0)
       → IsKnown lines a (suc k) (a.segment (suc k))
   unfolding Below Opened
   selected_known k j (Some s) below is last e =
       let r = last_is k j s last in
       known_as r.0 (suc k) (omega (arith, r.1)) (e ∙ sym r.2) (below r.0 r.1)
   selected_known k j None below is last e =
-      begun lines a k (body.Select j None) (absolute (k + 2) j 0) (sym is) (λ ls n s. refl) e refl (subst IsGood is (c.good k)) refl
+      begun lines a k (body.Select j None) (absolute (k + 2) j 0) (sym is) (λ ls n s. refl) e refl
+      (subst IsGood is (c.good k)) refl
 
   org_known : (k : ℕ) (t : Tree) (b : Bool) → Below k → body_at lines k ≡ body.Org t
-      → a.segment (suc k) ≡ cond b (absolute (k + 2) (a.segment k).kind (number_of (above lines a k) t)) (a.segment k) → IsKnown lines a (suc k) (a.segment (suc k))
+      → a.segment (suc k) ≡ cond b (absolute (k + 2) (a.segment k).kind (number_of (above lines a k) t)) (a.segment k)
+      → IsKnown lines a (suc k) (a.segment (suc k))
   unfolding Below
   org_known k t true below is e =
-      begun lines a k (body.Org t) (absolute (k + 2) (a.segment k).kind (number_of (above lines a k) t)) (sym is) (λ ls n s. refl) e refl (below k (omega arith)).kind_is refl
+      begun lines a k (body.Org t) (absolute (k + 2) (a.segment k).kind (number_of (above lines a k) t)) (sym is)
+      (λ ls n s. refl) e refl (below k (omega arith)).kind_is refl
   org_known k t false below is e = known_as k (suc k) (omega arith) e (below k (omega arith))
 
   next_known : (k : ℕ) (b : BodyTree) → Below k → body_at lines k ≡ b
-      → a.segment (suc k) ≡ segment_by lines k (above lines a k) (λ j. last_absolute a.segment j k) (a.segment k) b → IsKnown lines a (suc k) (a.segment (suc k))
+      → a.segment (suc k) ≡ segment_by lines k (above lines a k) (λ j. last_absolute a.segment j k) (a.segment k) b
+      → IsKnown lines a (suc k) (a.segment (suc k))
   unfolding Below
   next_known k (body.Rseg name) below is e = declared_known k name (definition_of lines name) below refl e
   next_known k (body.Select j (Some t)) below is e =
-      begun lines a k (body.Select j (Some t)) (absolute (k + 2) j (number_of (above lines a k) t)) (sym is) (λ ls n s. refl) e refl (subst IsGood is (c.good k)) refl
+      begun lines a k (body.Select j (Some t)) (absolute (k + 2) j (number_of (above lines a k) t)) (sym is)
+      (λ ls n s. refl) e refl (subst IsGood is (c.good k)) refl
   next_known k (body.Select j None) below is e = selected_known k j (last_absolute a.segment j k) below is refl e
   next_known k (body.Org t) below is e = org_known k t (is_absolute (a.segment k).reloc) below is e
   next_known k b below is e = known_as k (suc k) (omega arith) e (below k (omega arith))
@@ -185,10 +221,12 @@ module _ (lines : List LineTree) (a : Assignment) (c : IsFreeText lines a) where
   unfolding Below segment_behind
   known_below zero j h =
       let e : j ≡ 0 = omega (arith, h) in
-      let first : IsKnown lines a 0 opening = record { same = refl; low = omega arith; kind_is = λ e. cc e; type_is = Absolute refl } in
+      let first : IsKnown lines a 0 opening =
+      record { same = refl; low = omega arith; kind_is = λ e. cc e; type_is = Absolute refl } in
       subst (λ n. IsKnown lines a n (a.segment n)) (sym e) (subst (IsKnown lines a 0) (sym c.fits.first) first)
   known_below (suc k) j h = elim (last_or_below j k h) [
-    | inl e ↦ subst (λ n. IsKnown lines a n (a.segment n)) (sym e) (next_known k (body_at lines k) (known_below k) refl (c.fits.segments k))
+    | inl e ↦ subst (λ n. IsKnown lines a n (a.segment n)) (sym e)
+        (next_known k (body_at lines k) (known_below k) refl (c.fits.segments k))
     | inr l ↦ known_below k j l
   ]
     where

@@ -1,5 +1,6 @@
 -- The form of a JMP or CALL follows from the lines above and the label of its own line.
-use Rattle.std.proofs.Common.{◌≡◌, ℕ, suc, nat_lt, Bool, true, false, not, ◌&&◌, cond, List, [], take, Option, Some, None, refl, ap, sym, ◌∙◌, option_map, slice_get}
+use Rattle.std.proofs.Common.{◌≡◌, ℕ, suc, nat_lt, Bool, true, false, not, ◌&&◌, cond, List, [], take, Option, Some}
+use Rattle.std.proofs.Common.{None, refl, ap, sym, ◌∙◌, option_map, slice_get}
 use Rattle.std.specs.Str.{bytes_eq}
 use Rattle.m51_cells.specs.Kinds.{is_absolute}
 use Rattle.m51_expr.specs.declared.value.Value.{Value}
@@ -7,7 +8,8 @@ use Rattle.m51_expr.specs.Meanings.{Meanings}
 use Rattle.m51_stmt.specs.Statement.{BodyTree, Code}
 use Rattle.m51_text.specs.Answer.{LineTree}
 use Rattle.m51_asm.specs.Definitions.{Definition, Label, found_in, definitions_in, definition_of}
-use Rattle.m51_asm.specs.Assignment.{Assignment, line_definitions, defined_of, body_of, reloc_of, is_bitaddressable, here_at, if_before, value_before, above, down_to}
+use Rattle.m51_asm.specs.Assignment.{Assignment, line_definitions, defined_of, body_of, reloc_of, is_bitaddressable}
+use Rattle.m51_asm.specs.Assignment.{here_at, if_before, value_before, above, down_to}
 use Rattle.m51_asm.specs.Fitting.{named_value, form_by, Fits}
 use Rattle.m51_asm.specs.Repeats.{is_set, clashes, or_here, is_repeated}
 use Rattle.m51_asm.specs.LabelledNames.{or_label, with_label}
@@ -32,7 +34,8 @@ labels (Some label) name = bytes_eq name label
 
 -- an instruction defines its label and nothing else
 label_found : (label : Option (List ℕ)) (body : BodyTree) (name : List ℕ) → is_code body ≡ true
-    → found_in (definitions_in (record { label = label; body = body })) name ≡ cond (labels label name) (Some Label) None
+    → found_in (definitions_in (record { label = label; body = body })) name
+    ≡ cond (labels label name) (Some Label) None
 label_found None (Code mnemonic operands) name h = refl
 label_found (Some label) (Code mnemonic operands) name h = refl
 label_found label body name h = absurd (cc h)
@@ -46,7 +49,8 @@ fresh_label : (o : Option (ℕ × Definition)) → clashes (option_map (λ d. d.
 fresh_label None h = refl
 fresh_label (Some d) h = never (is_set d.1) h
 
-both : {A B : Type 0} (p q : Bool) (d : A) (v : Option B) → cond p (Some d) None ≡ cond q (Some d) None → cond p v None ≡ cond q v None
+both : {A B : Type 0} (p q : Bool) (d : A) (v : Option B) → cond p (Some d) None ≡ cond q (Some d) None
+    → cond p v None ≡ cond q v None
 both true true d v e = refl
 both false false d v e = refl
 both true false d v e = absurd (cc e)
@@ -58,7 +62,8 @@ at_label k true = refl
 at_label k false = refl
 
 -- what line k sees of a name with its own label, by the first definition d of the name in the text
-seen_label : (named : Option (ℕ × Definition) → Option Value) (here : Value) (k : ℕ) (d : Option (ℕ × Definition)) (b : Bool)
+seen_label : (named : Option (ℕ × Definition) → Option Value) (here : Value) (k : ℕ) (d : Option (ℕ × Definition))
+    (b : Bool)
     → named (Some (k, Label)) ≡ Some here → (b ≡ true → below k d ≡ None)
     → below (suc k) d ≡ or_here (below k d) (cond b (Some (k, Label)) None)
     → if_before (suc k) (named d) d ≡ cond b (Some here) (if_before k (named d) d)
@@ -75,7 +80,8 @@ seen_label named here k (Some d) true h n e =
 
 module _ (lines : List LineTree) (a : Assignment) (k : ℕ) (line : LineTree) (is : slice_get lines k ≡ Some line)
     (once : is_repeated lines k ≡ false) (code : is_code line.stmt.body ≡ true) where
-  label_here : (name : List ℕ) → found_in (definitions_in line.stmt) name ≡ cond (labels line.stmt.label name) (Some Label) None
+  label_here : (name : List ℕ)
+      → found_in (definitions_in line.stmt) name ≡ cond (labels line.stmt.label name) (Some Label) None
   label_here name = label_found line.stmt.label line.stmt.body name code
 
   not_above : (name : List ℕ) → labels line.stmt.label name ≡ true → below k (definition_of lines name) ≡ None
@@ -93,16 +99,19 @@ module _ (lines : List LineTree) (a : Assignment) (k : ℕ) (line : LineTree) (i
   unfolding definition_of
   one_more name =
       sym (front_of_text lines (suc k) name) ∙ defined_more lines k line name is
-      ∙ ap (or_here (definition_of (take k lines) name)) (ap (option_map (at_line k)) (label_here name) ∙ at_label k (labels line.stmt.label name))
+      ∙ ap (or_here (definition_of (take k lines) name))
+      (ap (option_map (at_line k)) (label_here name) ∙ at_label k (labels line.stmt.label name))
       ∙ ap (λ o. or_here o (cond (labels line.stmt.label name) (Some (k, Label)) None)) (front_of_text lines k name)
 
   by_label : (name : List ℕ) (label : Option (List ℕ))
-      → cond (labels label name) (Some (here_at a k)) (value_before lines a k k name) ≡ or_label (above lines a k) label name
+      → cond (labels label name) (Some (here_at a k)) (value_before lines a k k name)
+      ≡ or_label (above lines a k) label name
   unfolding above
   by_label name None = refl
   by_label name (Some label) = refl
 
-  down_value : Fits lines a → (name : List ℕ) → or_label (above lines a k) line.stmt.label name ≡ value_before lines a (suc k) k name
+  down_value : Fits lines a → (name : List ℕ)
+      → or_label (above lines a k) line.stmt.label name ≡ value_before lines a (suc k) k name
   down_value f name =
       let d : Option (ℕ × Definition) = definition_of lines name in
       let b : Bool = labels line.stmt.label name in
@@ -120,10 +129,12 @@ module _ (lines : List LineTree) (a : Assignment) (k : ℕ) (line : LineTree) (i
     bitaddressable = λ id. is_bitaddressable (reloc_of lines id);
   }
 
-pub form_told : (lines : List LineTree) (a : Assignment) → Fits lines a → (k : ℕ) (line : LineTree) → slice_get lines k ≡ Some line
+pub form_told : (lines : List LineTree) (a : Assignment) → Fits lines a → (k : ℕ) (line : LineTree)
+    → slice_get lines k ≡ Some line
     → is_repeated lines k ≡ false
     → form_by (with_label (above lines a k) line.stmt.label) line.stmt.body ≡ a.form k
 form_told lines a f k line is once =
-    same_form (with_label (above lines a k) line.stmt.label) (down_to lines a k) line.stmt.body (λ code. down lines a k line is once code f)
+    same_form (with_label (above lines a k) line.stmt.label) (down_to lines a k) line.stmt.body
+    (λ code. down lines a k line is once code f)
     ∙ ap (λ l. form_by (down_to lines a k) (body_of l)) (sym is)
     ∙ sym (f.forms k)

@@ -1,5 +1,7 @@
 -- An expression has the same value by the numbers of a table that has the segments of its names.
-use Rattle.std.proofs.Common.{◌≡◌, ℕ, suc, ◌-◌, ◌==◌, ◌&&◌, Bool, true, false, cond, List, [], ◌∷◌, ◌++◌, Option, Some, None, Ok, Err, refl, ap, sym, subst, ◌∙◌, arith, option_map, is_some, slice_get, unwrap_or, inl, inr, length, take, ◌≤◌}
+use Rattle.std.proofs.Common.{◌≡◌, ℕ, suc, ◌-◌, ◌==◌, ◌&&◌, Bool, true, false, cond, List, [], ◌∷◌, ◌++◌, Option, Some}
+use Rattle.std.proofs.Common.{None, Ok, Err, refl, ap, sym, subst, ◌∙◌, arith, option_map, is_some, slice_get}
+use Rattle.std.proofs.Common.{unwrap_or, inl, inr, length, take, ◌≤◌}
 use Rattle.std.proofs.lemmas.List.{take_all}
 use Rattle.std.proofs.lemmas.Bool.{eqb-true, eq-eqb, ne_eqb, and_from, and_parts}
 use Rattle.std.proofs.lemmas.Bool.Decides.{eqb_tells}
@@ -19,11 +21,13 @@ use Rattle.m51_encode.specs.JumpForm.{jump_form_of}
 use Rattle.m51_asm.specs.ObjectSegments.{from_one, place_in, local_number}
 use Rattle.m51_asm.specs.ObjectMeanings.{object_base, object_value}
 use Rattle.m51_asm.specs.Renumbering.{SameBase, with_base, SameValue, SameValued, Renumbers, IsRenumbering, IsUnchanged}
-use Rattle.m51_asm.specs.Located.{is_in, id_at, base_ids, value_ids, ids_in, has_base, if_there, restricted, local, global_value, global, AreIn, IsEnough}
+use Rattle.m51_asm.specs.Located.{is_in, id_at, base_ids, value_ids, ids_in, has_base, if_there, restricted, local}
+use Rattle.m51_asm.specs.Located.{global_value, global, AreIn, IsEnough}
 use Rattle.m51_asm.proofs.RenumberedValues.{unchanged}
 
 step_in : (b : Bool) (o p : Option ℕ) → (is_some o ≡ true → is_some p ≡ true)
-    → is_some (cond b (Some 0) (option_map (λ n. suc n) o)) ≡ true → is_some (cond b (Some 0) (option_map (λ n. suc n) p)) ≡ true
+    → is_some (cond b (Some 0) (option_map (λ n. suc n) o)) ≡ true
+    → is_some (cond b (Some 0) (option_map (λ n. suc n) p)) ≡ true
 step_in true o p h k = refl
 step_in false (Some m) (Some n) h k = refl
 step_in false (Some m) None h k = h refl
@@ -46,8 +50,10 @@ abbrev at_place : List ℕ → Option ℕ → ℕ
 at_place table (Some n) = unwrap_or (slice_get table n) 0
 at_place table None = 0
 
-step_back : (x id : ℕ) (xs : List ℕ) (b : Bool) (o : Option ℕ) → (b ≡ true → x ≡ id) → (is_some o ≡ true → at_place xs o ≡ id)
-    → is_some (cond b (Some 0) (option_map (λ n. suc n) o)) ≡ true → at_place (x ∷ xs) (cond b (Some 0) (option_map (λ n. suc n) o)) ≡ id
+step_back : (x id : ℕ) (xs : List ℕ) (b : Bool) (o : Option ℕ) → (b ≡ true → x ≡ id)
+    → (is_some o ≡ true → at_place xs o ≡ id)
+    → is_some (cond b (Some 0) (option_map (λ n. suc n) o)) ≡ true
+    → at_place (x ∷ xs) (cond b (Some 0) (option_map (λ n. suc n) o)) ≡ id
 step_back x id xs true o e h k = e refl
 step_back x id xs false (Some n) e h k = h refl
 step_back x id xs false None e h k = absurd (cc k)
@@ -80,7 +86,8 @@ there : (table : List ℕ) (v : Option Value) → AreIn table (value_ids v) → 
 there table (Some v) s = ap (λ b. cond b (Some v) None) (there_base table v.base s)
 there table None s = refl
 
-pub unrestricted : (names : Meanings) (table : List ℕ) (e : Tree) → AreIn table (ids_in names e) → value_of (restricted names table) e ≡ value_of names e
+pub unrestricted : (names : Meanings) (table : List ℕ) (e : Tree) → AreIn table (ids_in names e)
+    → value_of (restricted names table) e ≡ value_of names e
 unfolding value_of
 unrestricted names table (Number n) s = refl
 unrestricted names table Here s = refl
@@ -88,9 +95,11 @@ unrestricted names table (Name name) s = ap or_unknown (there table (names.value
 unrestricted names table (One op inner) s = ap (λ v. and_then v (unary names op)) (unrestricted names table inner s)
 unrestricted names table (Two op left right) s =
     let l : value_of (restricted names table) left ≡ value_of names left =
-    unrestricted names table left (record { each = λ id h. s.each id (in_left (ids_in names left) (ids_in names right) id h) }) in
+    unrestricted names table left
+    (record { each = λ id h. s.each id (in_left (ids_in names left) (ids_in names right) id h) }) in
     let r : value_of (restricted names table) right ≡ value_of names right =
-    unrestricted names table right (record { each = λ id h. s.each id (in_right (ids_in names left) (ids_in names right) id h) }) in
+    unrestricted names table right
+    (record { each = λ id h. s.each id (in_right (ids_in names left) (ids_in names right) id h) }) in
     λ i. and_then (l i) (λ x. and_then (r i) (applied names op x))
 
 same_number : (s u t v : ℕ) → (s ≡ u → t ≡ v) → (t ≡ v → s ≡ u) → (s == u) ≡ (t == v)
@@ -114,7 +123,8 @@ module _ (names : Meanings) (table : List ℕ) (here_in : AreIn table (base_ids 
   number_of s t h = sym (eqb-true (local_number table s) t (and_parts (is_in table s) (local_number table s == t) h).1)
 
   back : (s t : ℕ) → links table s t ≡ true → id_at table t ≡ s
-  back s t h = ap (id_at table) (number_of s t h) ∙ id_back table s (and_parts (is_in table s) (local_number table s == t) h).0
+  back s t h = ap (id_at table) (number_of s t h)
+      ∙ id_back table s (and_parts (is_in table s) (local_number table s == t) h).0
 
   linked_apart : (s t u v : ℕ) → links table s t ≡ true → links table u v ≡ true → (s == u) ≡ (t == v)
   linked_apart s t u v h k =
@@ -129,21 +139,27 @@ module _ (names : Meanings) (table : List ℕ) (here_in : AreIn table (base_ids 
   current_at s t base.None k h = refl
   current_at s t (base.External n) k h = refl
 
-  same_base_of : (b : Base) → has_base table b ≡ true → SameBase (Renumbers (links table)) b (object_base (local_number table) b)
-  same_base_of (base.Segment id) h = and_from (is_in table id) (local_number table id == local_number table id) h (eq-eqb (local_number table id) (local_number table id) refl)
+  same_base_of : (b : Base) → has_base table b ≡ true
+      → SameBase (Renumbers (links table)) b (object_base (local_number table) b)
+  same_base_of (base.Segment id) h =
+      and_from (is_in table id) (local_number table id == local_number table id) h
+      (eq-eqb (local_number table id) (local_number table id) refl)
   same_base_of base.None h = tt
   same_base_of (base.External n) h = refl
 
-  same_value_of : (v : Value) → has_base table v.base ≡ true → SameValue (Renumbers (links table)) v (object_value (local_number table) v)
+  same_value_of : (v : Value) → has_base table v.base ≡ true
+      → SameValue (Renumbers (links table)) v (object_value (local_number table) v)
   same_value_of v h = record { base = same_base_of v.base h; is = refl }
 
   named_if : (v : Value) (b : Bool) → has_base table v.base ≡ b
-      → SameValued (Renumbers (links table)) (or_unknown (cond b (Some v) None)) (or_unknown (option_map (object_value (local_number table)) (cond b (Some v) None)))
+      → SameValued (Renumbers (links table)) (or_unknown (cond b (Some v) None))
+      (or_unknown (option_map (object_value (local_number table)) (cond b (Some v) None)))
   named_if v true h = same_value_of v h
   named_if v false h = refl
 
   named_at : (o : Option Value)
-      → SameValued (Renumbers (links table)) (or_unknown (if_there table o)) (or_unknown (option_map (object_value (local_number table)) (if_there table o)))
+      → SameValued (Renumbers (links table)) (or_unknown (if_there table o))
+      (or_unknown (option_map (object_value (local_number table)) (if_there table o)))
   named_at (Some v) = named_if v (has_base table v.base) refl
   named_at None = refl
 
@@ -165,7 +181,8 @@ module _ (names : Meanings) (table : List ℕ) (here_in : AreIn table (base_ids 
 
   value_back : (v w : Value) → SameValue (Renumbers (links table)) v w → global_value table w ≡ v
   value_back v w s =
-      ap (λ u. with_base u (object_base (id_at table) w.base)) s.is ∙ ap (λ b. with_base v b) (base_back v.base w.base s.base)
+      ap (λ u. with_base u (object_base (id_at table) w.base)) s.is
+      ∙ ap (λ b. with_base v b) (base_back v.base w.base s.base)
 
   valued_back : (m n : Valued Value) → SameValued (Renumbers (links table)) m n → global table n ≡ m
   valued_back (Ok v) (Ok w) s = ap valued (value_back v w s)
@@ -173,7 +190,8 @@ module _ (names : Meanings) (table : List ℕ) (here_in : AreIn table (base_ids 
   valued_back (Ok v) (Err f) s = absurd s
   valued_back (Err e) (Ok w) s = absurd s
 
-  form_of_restricted : (verb : Verb) (m : Valued Value) → jump_form_of (restricted names table) verb m ≡ jump_form_of names verb m
+  form_of_restricted : (verb : Verb) (m : Valued Value)
+      → jump_form_of (restricted names table) verb m ≡ jump_form_of names verb m
   unfolding jump_form_of
   form_of_restricted verb (Ok v) = refl
   form_of_restricted verb (Err e) = refl
@@ -185,11 +203,13 @@ module _ (names : Meanings) (table : List ℕ) (here_in : AreIn table (base_ids 
       let same : value_of (restricted names table) e ≡ value_of names e = unrestricted names table e s in
       record {
         value = valued_back (value_of (restricted names table) e) (value_of (local names table) e) u.value ∙ same;
-        form = λ verb. sym (u.form verb) ∙ form_of_restricted verb (value_of (restricted names table) e) ∙ ap (jump_form_of names verb) same;
+        form = λ verb. sym (u.form verb) ∙ form_of_restricted verb (value_of (restricted names table) e)
+            ∙ ap (jump_form_of names verb) same;
       }
 
 -- the first 255 of a table that has no more, and that has the segments of the place and of the names of an expression
-pub front_enough : (names : Meanings) (table : List ℕ) (e : Tree) → table ≡ base_ids names.here.base ++ ids_in names e → length table ≤ 255
+pub front_enough : (names : Meanings) (table : List ℕ) (e : Tree) → table ≡ base_ids names.here.base ++ ids_in names e
+    → length table ≤ 255
     → IsEnough names (take 255 table) e
 front_enough names table e is short =
     let whole : take 255 table ≡ base_ids names.here.base ++ ids_in names e = take_all 255 table short ∙ is in

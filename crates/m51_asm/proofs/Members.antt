@@ -1,5 +1,6 @@
 -- Elements of lists, and what holds of each or of any two in their order.
-use Rattle.std.proofs.Common.{◌≡◌, ◌⊎◌, inl, inr, ℕ, zero, suc, ◌+◌, ◌<◌, ◌≤◌, List, [], ◌∷◌, ◌++◌, map, length, get_or, Some, refl, sym, ap, subst, arith}
+use Rattle.std.proofs.Common.{◌≡◌, ◌⊎◌, inl, inr, ℕ, zero, suc, ◌+◌, ◌<◌, ◌≤◌, List, [], ◌∷◌, ◌++◌, map, length, get_or}
+use Rattle.std.proofs.Common.{Some, refl, sym, ap, subst, arith}
 use Rattle.std.specs.Prelude.{slice_get}
 use Rattle.std.specs.List.{All, AllPairs, Contains, flat_map, range_with_len}
 
@@ -81,7 +82,8 @@ in_flat f (x ∷ xs) y h = elim (in_append y (f x) (flat_map f xs) h) [
   | inr r ↦ let c = in_flat f xs y r in record { from = c.from; there = inr c.there; is = c.is }
 ]
 
-pub flat_in : {A B : Type 0} (f : A → List B) (xs : List A) (x : A) (y : B) → In x xs → In y (f x) → In y (flat_map f xs)
+pub flat_in : {A B : Type 0} (f : A → List B) (xs : List A) (x : A) (y : B) → In x xs → In y (f x)
+    → In y (flat_map f xs)
 unfolding In
 flat_in f [] x y h k = absurd h
 flat_in f (z ∷ xs) x y (inl e) k = in_left y (f z) (flat_map f xs) (subst (λ w. In y (f w)) (sym e) k)
@@ -109,7 +111,8 @@ pub at_in : {A : Type 0} (xs : List A) (x : A) → In x xs → At xs x
 unfolding In
 at_in [] x h = absurd h
 at_in (y ∷ xs) x (inl e) = record { index = 0; below = omega arith; got = ap (λ z. Some z) e }
-at_in (y ∷ xs) x (inr h) = let r = at_in xs x h in record { index = suc r.index; below = omega (arith, r.below); got = r.got }
+at_in (y ∷ xs) x (inr h) = let r = at_in xs x h in
+    record { index = suc r.index; below = omega (arith, r.below); got = r.got }
 
 pub contains_in : {A : Type 0} (xs : List A) (x : A) → In x xs → Contains xs x
 unfolding In
@@ -142,7 +145,8 @@ pub every_append : {A : Type 0} (P : A → Type 0) (xs ys : List A) → Every P 
 unfolding Every
 every_append P xs ys h k x i = elim (in_append x xs ys i) [ inl l ↦ h x l | inr r ↦ k x r ]
 
-pub pairs_append : {A : Type 0} (R : A → A → Type 0) (xs ys : List A) → Pairs R xs → Pairs R ys → ((x y : A) → In x xs → In y ys → R x y) → Pairs R (xs ++ ys)
+pub pairs_append : {A : Type 0} (R : A → A → Type 0) (xs ys : List A) → Pairs R xs → Pairs R ys
+    → ((x y : A) → In x xs → In y ys → R x y) → Pairs R (xs ++ ys)
 unfolding Pairs Every In
 pairs_append R [] ys h k cross = k
 pairs_append R (x ∷ xs) ys h k cross = (
@@ -150,17 +154,20 @@ pairs_append R (x ∷ xs) ys h k cross = (
   pairs_append R xs ys h.1 k (λ u y i j. cross u y (inr i) j),
 )
 
-pub pairs_at : {A : Type 0} (R : A → A → Type 0) (xs : List A) (i j : ℕ) (d : A) → Pairs R xs → i < j → j < length xs → R (get_or xs i d) (get_or xs j d)
+pub pairs_at : {A : Type 0} (R : A → A → Type 0) (xs : List A) (i j : ℕ) (d : A) → Pairs R xs → i < j → j < length xs
+    → R (get_or xs i d) (get_or xs j d)
 unfolding Pairs Every In
 pairs_at R [] i j d h less below = absurd (omega (arith, below))
 pairs_at R (x ∷ xs) i zero d h less below = absurd (omega (arith, less))
 pairs_at R (x ∷ xs) zero (suc j) d h less below = h.0 (get_or xs j d) (in_at xs j d (omega (arith, below)))
-pairs_at R (x ∷ xs) (suc i) (suc j) d h less below = pairs_at R xs i j d h.1 (omega (arith, less)) (omega (arith, below))
+pairs_at R (x ∷ xs) (suc i) (suc j) d h less below =
+    pairs_at R xs i j d h.1 (omega (arith, less)) (omega (arith, below))
 
 pub pairs_all : {A : Type 0} (R : A → A → Type 0) (xs : List A) → Pairs R xs → AllPairs R xs
 pairs_all R xs h i j d less below = pairs_at R xs i j d h less below
 
-pub pairs_map : {A B : Type 0} (f : A → B) (R : B → B → Type 0) (xs : List A) → Pairs (λ x y. R (f x) (f y)) xs → Pairs R (map f xs)
+pub pairs_map : {A B : Type 0} (f : A → B) (R : B → B → Type 0) (xs : List A) → Pairs (λ x y. R (f x) (f y)) xs
+    → Pairs R (map f xs)
 unfolding Pairs Every
 pairs_map f R [] h = tt
 pairs_map f R (x ∷ xs) h = (
@@ -168,7 +175,8 @@ pairs_map f R (x ∷ xs) h = (
   pairs_map f R xs h.1,
 )
 
-pub pairs_weaker : {A : Type 0} (Q R : A → A → Type 0) (xs : List A) → ((x y : A) → In x xs → In y xs → Q x y → R x y) → Pairs Q xs → Pairs R xs
+pub pairs_weaker : {A : Type 0} (Q R : A → A → Type 0) (xs : List A) → ((x y : A) → In x xs → In y xs → Q x y → R x y)
+    → Pairs Q xs → Pairs R xs
 unfolding Pairs Every In
 pairs_weaker Q R [] w h = tt
 pairs_weaker Q R (x ∷ xs) w h = (
@@ -178,7 +186,8 @@ pairs_weaker Q R (x ∷ xs) w h = (
 
 -- lists of one element after another: each in order, and each element of an earlier one before each of a later one
 pub pairs_flat : {A B : Type 0} (f : A → List B) (R : B → B → Type 0) (Q : A → A → Type 0) (xs : List A) → Pairs Q xs
-    → ((x : A) → In x xs → Pairs R (f x)) → ((x y : A) → In x xs → In y xs → Q x y → (u v : B) → In u (f x) → In v (f y) → R u v) → Pairs R (flat_map f xs)
+    → ((x : A) → In x xs → Pairs R (f x))
+    → ((x y : A) → In x xs → In y xs → Q x y → (u v : B) → In u (f x) → In v (f y) → R u v) → Pairs R (flat_map f xs)
 unfolding Pairs Every In
 pairs_flat f R Q [] h each cross = tt
 pairs_flat f R Q (x ∷ xs) h each cross =

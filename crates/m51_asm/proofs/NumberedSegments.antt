@@ -1,5 +1,7 @@
 -- The segments of a module and the numbers of ids, line by line.
-use Rattle.std.proofs.Common.{◌≡◌, ℕ, zero, suc, ◌+◌, ◌<◌, ◌≤◌, ◌==◌, Bool, true, false, cond, List, [], ◌∷◌, ◌++◌, map, length, length-append, Option, Some, None, option_map, is_some, ◌&&◌, refl, ap, sym, ◌∙◌, arith, eq-eqb, append-nil}
+use Rattle.std.proofs.Common.{◌≡◌, ℕ, zero, suc, ◌+◌, ◌<◌, ◌≤◌, ◌==◌, Bool, true, false, cond, List, [], ◌∷◌, ◌++◌, map}
+use Rattle.std.proofs.Common.{length, length-append, Option, Some, None, option_map, is_some, ◌&&◌, refl, ap, sym, ◌∙◌}
+use Rattle.std.proofs.Common.{arith, eq-eqb, append-nil}
 use Rattle.std.proofs.lemmas.Bool.{eqb-true, eqb-false, ne_eqb}
 use Rattle.std.proofs.lemmas.List.{map-append, length-map}
 use Rattle.m51_module.specs.declared.segment.Segment.{Segment}
@@ -9,10 +11,12 @@ use Rattle.m51_asm.specs.declared.numbering.Numbering.{Numbering}
 use Rattle.m51_asm.specs.Assignment.{TextSegment, Assignment, opening, body_at}
 use Rattle.m51_asm.specs.Repeats.{or_here}
 use Rattle.m51_asm.proofs.DefinedLines.{or_none}
-use Rattle.m51_asm.specs.ObjectSegments.{Kept, size_of, if_filled, kept_by, kept_before, kept, from_one, place_in, number_in}
+use Rattle.m51_asm.specs.ObjectSegments.{Kept, size_of, if_filled, kept_by, kept_before, kept, from_one, place_in}
+use Rattle.m51_asm.specs.ObjectSegments.{number_in}
 use Rattle.m51_asm.proofs.FewSegments.{kept_most}
 use Rattle.m51_asm.proofs.GoodLines.{IsFreeText}
-use Rattle.m51_asm.specs.Numbering.{number_at, segment_filled, segment_added, as_list, next_number, IsNumberedTo, IsNumbering}
+use Rattle.m51_asm.specs.Numbering.{number_at, segment_filled, segment_added, as_list, next_number, IsNumberedTo}
+use Rattle.m51_asm.specs.Numbering.{IsNumbering}
 
 -- a segment of this id, or none
 unfoldable pub kept_as : ℕ → Option Segment → List Kept
@@ -25,10 +29,12 @@ filled_kept s zero = refl
 filled_kept s (suc more) = refl
 
 begun_kept : (lines : List LineTree) (a : Assignment) (k : ℕ) (s : TextSegment) (b : Bool) → (s.id == k + 2) ≡ b
-    → kept_as (k + 2) (cond b (segment_filled s (size_of lines a s.id)) None) ≡ cond b (if_filled s (size_of lines a s.id)) []
+    → kept_as (k + 2) (cond b (segment_filled s (size_of lines a s.id)) None)
+    ≡ cond b (if_filled s (size_of lines a s.id)) []
 unfolding kept_as
 begun_kept lines a k s true e =
-    ap (λ id. kept_as id (segment_filled s (size_of lines a s.id))) (sym (eqb-true s.id (k + 2) e)) ∙ filled_kept s (size_of lines a s.id)
+    ap (λ id. kept_as id (segment_filled s (size_of lines a s.id))) (sym (eqb-true s.id (k + 2) e))
+    ∙ filled_kept s (size_of lines a s.id)
 begun_kept lines a k s false e = refl
 
 -- what a line adds to the segments
@@ -42,7 +48,8 @@ number_at_end : (numbers : List ℕ) (number : ℕ) → number_at (numbers ++ nu
 number_at_end [] number = refl
 number_at_end (n ∷ numbers) number = number_at_end numbers number
 
-number_not_at_end : (numbers : List ℕ) (number id : ℕ) → (id ≡ length numbers → ⊥) → number_at (numbers ++ number ∷ []) id ≡ number_at numbers id
+number_not_at_end : (numbers : List ℕ) (number id : ℕ) → (id ≡ length numbers → ⊥)
+    → number_at (numbers ++ number ∷ []) id ≡ number_at numbers id
 number_not_at_end [] number zero h = absurd (h refl)
 number_not_at_end [] number (suc id) h = refl
 number_not_at_end (n ∷ numbers) number zero h = refl
@@ -53,12 +60,15 @@ number_pushed : (numbers : List ℕ) (number id : ℕ)
     → number_at (numbers ++ number ∷ []) id ≡ cond (id == length numbers) number (number_at numbers id)
 number_pushed numbers number id = by_test (id == length numbers) refl
   where
-    by_test : (b : Bool) → (id == length numbers) ≡ b → number_at (numbers ++ number ∷ []) id ≡ cond b number (number_at numbers id)
-    by_test true e = ap (number_at (numbers ++ number ∷ [])) (eqb-true id (length numbers) e) ∙ number_at_end numbers number
+    by_test : (b : Bool) → (id == length numbers) ≡ b
+        → number_at (numbers ++ number ∷ []) id ≡ cond b number (number_at numbers id)
+    by_test true e = ap (number_at (numbers ++ number ∷ [])) (eqb-true id (length numbers) e)
+        ∙ number_at_end numbers number
     by_test false e = number_not_at_end numbers number id (eqb-false id (length numbers) e)
 
 or_later : (p : Option ℕ) (b : Bool) (n : ℕ)
-    → option_map (λ m. suc m) (or_here p (cond b (Some n) None)) ≡ or_here (option_map (λ m. suc m) p) (cond b (Some (suc n)) None)
+    → option_map (λ m. suc m) (or_here p (cond b (Some n) None))
+    ≡ or_here (option_map (λ m. suc m) p) (cond b (Some (suc n)) None)
 or_later (Some i) b n = refl
 or_later None true n = refl
 or_later None false n = refl
@@ -69,9 +79,11 @@ pub place_pushed : (table : List ℕ) (new id : ℕ)
 place_pushed [] new id = refl
 place_pushed (other ∷ table) new id = first (other == id) (place_pushed table new id)
   where
-    first : (b : Bool) → place_in (table ++ new ∷ []) id ≡ or_here (place_in table id) (cond (new == id) (Some (length table)) None)
+    first : (b : Bool) → place_in (table ++ new ∷ []) id
+        ≡ or_here (place_in table id) (cond (new == id) (Some (length table)) None)
         → cond b (Some 0) (option_map (λ n. suc n) (place_in (table ++ new ∷ []) id))
-        ≡ or_here (cond b (Some 0) (option_map (λ n. suc n) (place_in table id))) (cond (new == id) (Some (suc (length table))) None)
+        ≡ or_here (cond b (Some 0) (option_map (λ n. suc n) (place_in table id)))
+        (cond (new == id) (Some (suc (length table))) None)
     first true h = refl
     first false h = ap (option_map (λ n. suc n)) h ∙ or_later (place_in table id) (new == id) (length table)
 
@@ -93,7 +105,8 @@ place_added segments id (Some s) other =
     ∙ place_pushed (ids segments) id other
 
 -- ids of later lines have no segment yet
-pub not_yet : (lines : List LineTree) (a : Assignment) (k id : ℕ) → k + 2 ≤ id → place_in (ids (kept_before lines a k)) id ≡ None
+pub not_yet : (lines : List LineTree) (a : Assignment) (k id : ℕ) → k + 2 ≤ id
+    → place_in (ids (kept_before lines a k)) id ≡ None
 unfolding kept_before
 not_yet lines a zero id h = opening_only (size_of lines a opening.id)
   where
@@ -102,8 +115,10 @@ not_yet lines a zero id h = opening_only (size_of lines a opening.id)
     opening_only (suc more) = ap (λ b. cond b (Some 0) None) (ne_eqb 1 id (λ e. omega (arith, h, e)))
 not_yet lines a (suc k) id h =
     ap (λ ks. place_in (ids (kept_before lines a k ++ ks)) id) (sym (added_kept lines a k (body_at lines k)))
-    ∙ place_added (kept_before lines a k) (k + 2) (segment_added (size_of lines a) k (a.segment (suc k)) (body_at lines k)) id
-    ∙ (λ i. or_here (not_yet lines a k id (omega (arith, h)) i) (cond_none (is_some (segment_added (size_of lines a) k (a.segment (suc k)) (body_at lines k))) i))
+    ∙ place_added (kept_before lines a k) (k + 2)
+    (segment_added (size_of lines a) k (a.segment (suc k)) (body_at lines k)) id
+    ∙ (λ i. or_here (not_yet lines a k id (omega (arith, h)) i)
+    (cond_none (is_some (segment_added (size_of lines a) k (a.segment (suc k)) (body_at lines k))) i))
   where
     cond_none : (b : Bool) → cond (b && (k + 2 == id)) (Some (length (ids (kept_before lines a k)))) None ≡ None
     cond_none true = other_id (k + 2) id (λ e. omega (arith, h, e)) (length (ids (kept_before lines a k)))
@@ -114,7 +129,8 @@ module _ (lines : List LineTree) (a : Assignment) (k : ℕ) (segments : List Seg
     (is : o ≡ segment_added (size_of lines a) k (a.segment (suc k)) (body_at lines k)) where
   before_is : kept_before lines a (suc k) ≡ kept_before lines a k ++ kept_as (k + 2) o
   unfolding kept_before
-  before_is = ap (λ ks. kept_before lines a k ++ ks) (sym (ap (kept_as (k + 2)) is ∙ added_kept lines a k (body_at lines k)))
+  before_is = ap (λ ks. kept_before lines a k ++ ks)
+      (sym (ap (kept_as (k + 2)) is ∙ added_kept lines a k (body_at lines k)))
 
   count_is : length segments ≡ length (ids (kept_before lines a k))
   count_is =
@@ -134,22 +150,27 @@ module _ (lines : List LineTree) (a : Assignment) (k : ℕ) (segments : List Seg
 
   number_after : (o : Option Segment) (id : ℕ) (b : Bool) → (id == k + 2) ≡ b
       → cond b (next_number (length segments) o) (number_at numbers id)
-      ≡ from_one (or_here (place_in (ids (kept_before lines a k)) id) (cond (is_some o && (k + 2 == id)) (Some (length (ids (kept_before lines a k)))) None))
+      ≡ from_one (or_here (place_in (ids (kept_before lines a k)) id)
+      (cond (is_some o && (k + 2 == id)) (Some (length (ids (kept_before lines a k)))) None))
   unfolding number_in
   number_after None id true e =
       let same : id ≡ k + 2 = eqb-true id (k + 2) e in
-      sym (ap from_one (or_none (place_in (ids (kept_before lines a k)) id) ∙ not_yet lines a k id (omega (arith, same))))
+      sym (ap from_one (or_none (place_in (ids (kept_before lines a k)) id)
+      ∙ not_yet lines a k id (omega (arith, same))))
   number_after None id false e =
       h.each id ∙ sym (ap from_one (or_none (place_in (ids (kept_before lines a k)) id)))
   number_after (Some s) id true e =
       let same : id ≡ k + 2 = eqb-true id (k + 2) e in
       ap (λ n. suc n) count_is
-      ∙ sym (λ i. from_one (or_here (not_yet lines a k id (omega (arith, same)) i) (cond (eq-eqb (k + 2) id (sym same) i) (Some (length (ids (kept_before lines a k)))) None)))
+      ∙ sym (λ i. from_one (or_here (not_yet lines a k id (omega (arith, same)) i)
+      (cond (eq-eqb (k + 2) id (sym same) i) (Some (length (ids (kept_before lines a k)))) None)))
   number_after (Some s) id false e =
       h.each id ∙ sym (ap from_one (ap (or_here (place_in (ids (kept_before lines a k)) id))
-      (other_id (k + 2) id (λ p. eqb-false id (k + 2) e (sym p)) (length (ids (kept_before lines a k)))) ∙ or_none (place_in (ids (kept_before lines a k)) id)))
+      (other_id (k + 2) id (λ p. eqb-false id (k + 2) e (sym p)) (length (ids (kept_before lines a k))))
+      ∙ or_none (place_in (ids (kept_before lines a k)) id)))
 
-  each_more : (id : ℕ) → number_at (numbers ++ next_number (length segments) o ∷ []) id ≡ number_in (kept_before lines a (suc k)) id
+  each_more : (id : ℕ) → number_at (numbers ++ next_number (length segments) o ∷ []) id
+      ≡ number_in (kept_before lines a (suc k)) id
   unfolding number_in
   each_more id =
       number_pushed numbers (next_number (length segments) o) id
@@ -158,7 +179,8 @@ module _ (lines : List LineTree) (a : Assignment) (k : ℕ) (segments : List Seg
       ∙ sym (ap from_one (place_added (kept_before lines a k) (k + 2) o id))
       ∙ ap (λ ks. number_in ks id) (sym before_is)
 
-  pub numbered_more : IsNumberedTo lines a (suc k) (segments ++ as_list o) (numbers ++ next_number (length segments) o ∷ [])
+  pub numbered_more : IsNumberedTo lines a (suc k) (segments ++ as_list o)
+      (numbers ++ next_number (length segments) o ∷ [])
   numbered_more = record {
     same = same_more;
     counted = omega (arith, length-append numbers (next_number (length segments) o ∷ []), h.counted);
@@ -168,13 +190,15 @@ module _ (lines : List LineTree) (a : Assignment) (k : ℕ) (segments : List Seg
 -- before the first line there is the opening segment, or none
 module _ (lines : List LineTree) (a : Assignment) where
   first_number : (size id : ℕ)
-      → number_at (0 ∷ next_number 0 (segment_filled opening size) ∷ []) id ≡ from_one (place_in (ids (if_filled opening size)) id)
+      → number_at (0 ∷ next_number 0 (segment_filled opening size) ∷ []) id
+      ≡ from_one (place_in (ids (if_filled opening size)) id)
   first_number zero zero = refl
   first_number zero (suc zero) = refl
   first_number zero (suc (suc id)) = refl
   first_number (suc more) zero = refl
   first_number (suc more) (suc zero) = refl
-  first_number (suc more) (suc (suc id)) = sym (ap (λ b. from_one (cond b (Some 0) None)) (ne_eqb 1 (suc (suc id)) (λ p. omega (arith, p))))
+  first_number (suc more) (suc (suc id)) =
+      sym (ap (λ b. from_one (cond b (Some 0) None)) (ne_eqb 1 (suc (suc id)) (λ p. omega (arith, p))))
 
   first_segments : (size : ℕ) → as_list (segment_filled opening size) ≡ map (λ s. s.segment) (if_filled opening size)
   first_segments zero = refl
@@ -190,7 +214,8 @@ module _ (lines : List LineTree) (a : Assignment) where
   }
 
 -- the segments of all lines are those of the module
-pub numbered_all : (lines : List LineTree) (a : Assignment) (n : Numbering) → IsNumberedTo lines a (length lines) n.segments n.numbers → IsNumbering lines a n
+pub numbered_all : (lines : List LineTree) (a : Assignment) (n : Numbering)
+    → IsNumberedTo lines a (length lines) n.segments n.numbers → IsNumbering lines a n
 unfolding kept
 numbered_all lines a n h = record { segments = h.same; each = h.each }
 
@@ -199,7 +224,8 @@ few_first before (Some s) h = omega (arith, h)
 few_first before None h = omega (arith, h)
 
 -- the segments of the first lines are no more than a module may have
-pub few_more : (lines : List LineTree) (a : Assignment) → IsFreeText lines a → (k : ℕ) → k < length lines → (segments : List Segment)
+pub few_more : (lines : List LineTree) (a : Assignment) → IsFreeText lines a → (k : ℕ) → k < length lines
+    → (segments : List Segment)
     (o : Option Segment) (numbers : List ℕ) → IsNumberedTo lines a (suc k) (segments ++ as_list o) numbers
     → length segments + length (as_list o) ≤ 254
 few_more lines a c k below segments o numbers h =
@@ -210,7 +236,8 @@ few_more lines a c k below segments o numbers h =
     omega (arith, few, len, same, whole)
 
 -- the same with equal lists
-pub numbered_as : (lines : List LineTree) (a : Assignment) (k : ℕ) (segments others : List Segment) (numbers more : List ℕ)
+pub numbered_as : (lines : List LineTree) (a : Assignment) (k : ℕ) (segments others : List Segment)
+    (numbers more : List ℕ)
     → IsNumberedTo lines a k segments numbers → others ≡ segments → more ≡ numbers → IsNumberedTo lines a k others more
 numbered_as lines a k segments others numbers more h p q = record {
   same = p ∙ h.same;

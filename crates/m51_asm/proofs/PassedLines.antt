@@ -1,9 +1,10 @@
 -- Pass 1 line by line: where it stops, and how one more line is passed.
-use Rattle.std.proofs.Common.{◌≡◌, ℕ, zero, suc, ◌<◌, ◌≤◌, true, false, List, [], ◌∷◌, ◌++◌, length, Option, Some, None, refl, ap, sym, subst, ◌∙◌, slice_get, arith, add-one, below_more, length-append}
+use Rattle.std.proofs.Common.{◌≡◌, ℕ, zero, suc, ◌<◌, ◌≤◌, true, false, List, [], ◌∷◌, ◌++◌, length, Option, Some, None}
+use Rattle.std.proofs.Common.{refl, ap, sym, subst, ◌∙◌, slice_get, arith, add-one, below_more, length-append}
 use Rattle.std.proofs.lemmas.Bool.{leb-false, leb-true}
 use Rattle.m51_cells.specs.declared.fault.TheConstants.{DEFINED_TWICE}
 use Rattle.m51_text.specs.Answer.{LineTree}
-use Rattle.m51_asm.specs.declared.placing.Placing.{Placing}
+use Rattle.m51_asm.specs.declared.placing.PassOneState.{PassOneState}
 use Rattle.m51_asm.specs.declared.stepping.LinePlace.{LinePlace}
 use Rattle.m51_asm.specs.Assignment.{Assignment}
 use Rattle.m51_asm.specs.Repeats.{is_repeated, IsFirstRepeat}
@@ -12,18 +13,21 @@ use Rattle.m51_asm.specs.Placing.{IsAt, IsPlaceOf}
 use Rattle.m51_asm.specs.FirstFault.{AreFree, IsFirstFault}
 use Rattle.m51_asm.specs.Passing.{is_reached, ArePlaces, IsPassedTo}
 
-repeat_is_fault : (lines : List LineTree) (a : Assignment) (k : ℕ) → is_repeated lines k ≡ true → placed_fault lines a k ≡ Some DEFINED_TWICE
+repeat_is_fault : (lines : List LineTree) (a : Assignment) (k : ℕ) → is_repeated lines k ≡ true
+    → placed_fault lines a k ≡ Some DEFINED_TWICE
 unfolding placed_fault
 repeat_is_fault lines a k h = rw h refl
 
 -- a line above the first one that repeats does not
-pub not_reached : (lines : List LineTree) (repeated : Option ℕ) (k : ℕ) → IsFirstRepeat lines repeated → k < length lines
+pub not_reached : (lines : List LineTree) (repeated : Option ℕ) (k : ℕ) → IsFirstRepeat lines repeated
+    → k < length lines
     → is_reached repeated k ≡ false → is_repeated lines k ≡ false
 not_reached lines None k h b e = h k b
 not_reached lines (Some first) k h b e = h.1 k (leb-false first k e)
 
 -- where no line above has a fault, a line that is not above the first one that repeats is that one
-pub reached : (lines : List LineTree) (a : Assignment) (repeated : Option ℕ) (k : ℕ) → IsFirstRepeat lines repeated → AreFree lines a k
+pub reached : (lines : List LineTree) (a : Assignment) (repeated : Option ℕ) (k : ℕ) → IsFirstRepeat lines repeated
+    → AreFree lines a k
     → is_reached repeated k ≡ true → IsFirstFault lines a k DEFINED_TWICE
 reached lines a None k h free e = absurd (cc e)
 reached lines a (Some first) k h free e =
@@ -42,7 +46,8 @@ reached lines a (Some first) k h free e =
         }
 
 -- what holds of each item of a list, and of one more
-pub pushed_each : {T : Type 0} (P : ℕ → T → Type 0) (xs : List T) (y : T) → ((j : ℕ) (x : T) → slice_get xs j ≡ Some x → P j x)
+pub pushed_each : {T : Type 0} (P : ℕ → T → Type 0) (xs : List T) (y : T)
+    → ((j : ℕ) (x : T) → slice_get xs j ≡ Some x → P j x)
     → P (length xs) y → (j : ℕ) (x : T) → slice_get (xs ++ y ∷ []) j ≡ Some x → P j x
 pushed_each P [] y h here zero x e =
     let same : y ≡ x = cc e in
@@ -57,8 +62,10 @@ no_places lines a zero p e = absurd (cc e)
 no_places lines a (suc j) p e = absurd (cc e)
 
 -- one more line is passed
-pub passed_more : (lines : List LineTree) (a : Assignment) (k : ℕ) (places more : List LinePlace) (p : LinePlace) (before end : Placing)
-    → IsPassedTo lines a k places before → more ≡ places ++ p ∷ [] → placed_fault lines a k ≡ None → IsAt lines a (suc k) end
+pub passed_more : (lines : List LineTree) (a : Assignment) (k : ℕ) (places more : List LinePlace) (p : LinePlace)
+    (before end : PassOneState)
+    → IsPassedTo lines a k places before → more ≡ places ++ p ∷ [] → placed_fault lines a k ≡ None
+    → IsAt lines a (suc k) end
     → IsPlaceOf lines a k p → IsPassedTo lines a (suc k) more end
 passed_more lines a k places more p before end h e free at place = record {
   free = free_more;

@@ -1,5 +1,7 @@
 -- What is kept grows with a line as the definitions say, and the fault of the line follows from what is counted.
-use Rattle.std.proofs.Common.{◌≡◌, inl, inr, ℕ, suc, ◌+◌, ◌-◌, ◌^◌, ◌<◌, ◌≤◌, ◌==◌, ◌&&◌, ◌||◌, not, min, nat_lt, Bool, true, false, cond, List, [], ◌∷◌, map, Option, Some, None, refl, ap, sym, subst, ◌∙◌, option_map, slice_get, add-zero, arith}
+use Rattle.std.proofs.Common.{◌≡◌, inl, inr, ℕ, suc, ◌+◌, ◌-◌, ◌^◌, ◌<◌, ◌≤◌, ◌==◌, ◌&&◌, ◌||◌, not, min, nat_lt, Bool}
+use Rattle.std.proofs.Common.{true, false, cond, List, [], ◌∷◌, map, Option, Some, None, refl, ap, sym, subst, ◌∙◌}
+use Rattle.std.proofs.Common.{option_map, slice_get, add-zero, arith}
 use Rattle.std.proofs.lemmas.Bool.{eqb-true, ltb-false, or_parts}
 use Rattle.m51_cells.specs.declared.kind.Kind.{Kind}
 use Rattle.m51_cells.specs.declared.kind.Kind.TheVariants as kind
@@ -8,13 +10,15 @@ use Rattle.m51_stmt.specs.Statement.{BodyTree, Segment}
 use Rattle.m51_text.specs.Answer.{LineTree}
 use Rattle.m51_asm.specs.declared.counts.Counts.{Counts}
 use Rattle.m51_asm.specs.declared.giving.Giving.{Giving}
-use Rattle.m51_asm.specs.declared.placing.Placing.{Placing}
-use Rattle.m51_asm.specs.declared.told.Told.{Told}
+use Rattle.m51_asm.specs.declared.placing.PassOneState.{PassOneState}
+use Rattle.m51_asm.specs.declared.told.LineFacts.{LineFacts}
 use Rattle.m51_asm.specs.Definitions.{definitions_in, found_in, definition_of}
 use Rattle.m51_asm.specs.Assignment.{TextSegment, Assignment, body_of, defined_of, body_at, above}
-use Rattle.m51_asm.specs.Fitting.{is_absolute_of, last_absolute, size_at, given_to, filled, bank_by, bank_before, externals_in, externals_before, Fits}
+use Rattle.m51_asm.specs.Fitting.{is_absolute_of, last_absolute, size_at, given_to, filled, bank_by, bank_before}
+use Rattle.m51_asm.specs.Fitting.{externals_in, externals_before, Fits}
 use Rattle.m51_asm.specs.Repeats.{is_repeated}
-use Rattle.m51_asm.specs.PlacedFaults.{end_of, is_past, is_misplaced, is_numbered_by, segments_before, is_too_many, operand_fault, placed_fault}
+use Rattle.m51_asm.specs.PlacedFaults.{end_of, is_past, is_misplaced, is_numbered_by, segments_before, is_too_many}
+use Rattle.m51_asm.specs.PlacedFaults.{operand_fault, placed_fault}
 use Rattle.m51_asm.specs.Table.{brief}
 use Rattle.m51_asm.specs.ValuesAbove.{value_above, or_kept}
 use Rattle.m51_asm.specs.Located.{located_value}
@@ -30,7 +34,8 @@ use Rattle.m51_asm.proofs.GoodLines.{IsFaultFree}
 use Rattle.m51_asm.proofs.SegmentRoom.{stays}
 
 numbers_same : (lines : List LineTree) (a : Assignment) (k : ℕ) (body : BodyTree)
-    → numbers_one (a.segment k) (filled lines a (a.segment k).id k) (size_at lines a k) body ≡ is_numbered_by lines a k body
+    → numbers_one (a.segment k) (filled lines a (a.segment k).id k) (size_at lines a k) body
+    ≡ is_numbered_by lines a k body
 numbers_same lines a k (Segment name kind reloc overlayable) = refl
 numbers_same lines a k body = refl
 
@@ -70,7 +75,8 @@ passes_same s n =
     let less : end_of s.kind < 2 ^ 64 - 1 = below_most (end_of s.kind) (end_most s.kind) in
     λ i. small_end (end_of s.kind) s.base n (2 ^ 64 - 1) less i || small_over 65535 n (2 ^ 64 - 1) (omega arith) i
 
-numbers_whole : (s : TextSegment) (before n : ℕ) (body : BodyTree) → numbers_one s before (saturated n) body ≡ numbers_one s before n body
+numbers_whole : (s : TextSegment) (before n : ℕ) (body : BodyTree)
+    → numbers_one s before (saturated n) body ≡ numbers_one s before n body
 numbers_whole s before n (Segment name kind reloc overlayable) = refl
 numbers_whole s before n body =
     ap (λ b. is_absolute s.reloc && (before == 0 && not b)) (small_zero n (2 ^ 64 - 1) (omega arith))
@@ -80,10 +86,12 @@ nothing_more n true = add-zero n
 nothing_more n false = add-zero n
 
 -- what is counted
-pub counted : (lines : List LineTree) (a : Assignment) (k : ℕ) (s : Placing) (t : Told) (c : Counts) (body : BodyTree)
+pub counted : (lines : List LineTree) (a : Assignment) (k : ℕ) (s : PassOneState) (t : LineFacts) (c : Counts)
+    (body : BodyTree)
     → IsAt lines a k s → IsTold lines a k t → body ≡ body_at lines k
     → c.next ≡ saturated (size_in s.filled t.next.id + given_to t.next.id (text_segment s.segment) t.size)
-    → c.segments ≡ s.segments + cond (numbers_one (text_segment s.segment) (size_in s.filled s.segment.id) t.size body) 1 0
+    → c.segments ≡ s.segments + cond (numbers_one (text_segment s.segment) (size_in s.filled s.segment.id) t.size body)
+    1 0
     → c.externals ≡ saturated (s.externals + externals_in body)
     → IsCounted lines a k c
 unfolding filled segments_before externals_before
@@ -91,30 +99,42 @@ counted lines a k s t c body at told is next segments externals = record {
   next =
       next ∙ ap (λ n. saturated (n + given_to t.next.id (text_segment s.segment) t.size)) (at.sizes t.next.id)
       ∙ (λ i. saturated (filled lines a (told.next i).id k + given_to (told.next i).id (at.segment i) (told.size i)))
-      ∙ given_sum ((a.segment k).id == (a.segment (suc k)).id) (filled lines a (a.segment (suc k)).id k) (size_at lines a k);
+      ∙ given_sum ((a.segment k).id == (a.segment (suc k)).id) (filled lines a (a.segment (suc k)).id k)
+      (size_at lines a k);
   segments =
       segments
       ∙ ap (λ n. s.segments + cond (numbers_one (text_segment s.segment) n t.size body) 1 0) (at.sizes s.segment.id)
-      ∙ (λ i. at.numbered i + cond (numbers_one (at.segment i) (filled lines a (at.segment i).id k) (told.size i) (is i)) 1 0)
+      ∙ (λ i. at.numbered i + cond
+      (numbers_one (at.segment i) (filled lines a (at.segment i).id k) (told.size i) (is i)) 1 0)
       ∙ ap (λ b. segments_before lines a k + cond b 1 0)
-      (numbers_whole (a.segment k) (filled lines a (a.segment k).id k) (size_at lines a k) (body_at lines k) ∙ numbers_same lines a k (body_at lines k));
+      (numbers_whole (a.segment k) (filled lines a (a.segment k).id k) (size_at lines a k) (body_at lines k)
+      ∙ numbers_same lines a k (body_at lines k));
   externals = externals ∙ (λ i. saturated (at.declared i + externals_in (is i)));
 }
 
 -- the fault of a line that repeats nothing
-pub fault_told : (lines : List LineTree) (a : Assignment) (k : ℕ) (s : Placing) (t : Told) (c : Counts) (body : BodyTree) → Fits lines a
-    → IsAt lines a k s → IsTold lines a k t → IsCounted lines a k c → body ≡ body_at lines k → is_repeated lines k ≡ false
-    → fault_by (passes (text_segment t.next) c.next) (is_misplaced (text_segment s.segment) body) (are_too_many c.segments c.externals) (fault_of t.operand)
+pub fault_told : (lines : List LineTree) (a : Assignment) (k : ℕ) (s : PassOneState) (t : LineFacts) (c : Counts)
+    (body : BodyTree) → Fits lines a
+    → IsAt lines a k s → IsTold lines a k t → IsCounted lines a k c → body ≡ body_at lines k
+    → is_repeated lines k ≡ false
+    → fault_by (passes (text_segment t.next) c.next) (is_misplaced (text_segment s.segment) body)
+    (are_too_many c.segments c.externals) (fault_of t.operand)
     ≡ placed_fault lines a k
 unfolding placed_fault
 fault_told lines a k s t c body f at told counts is once =
-    (λ i. fault_by (passes (told.next i) (counts.next i)) (is_misplaced (at.segment i) (is i)) (are_too_many (counts.segments i) (counts.externals i)) (told.operand.fault_is i))
-    ∙ (λ i. fault_by (passes_same (a.segment (suc k)) (filled lines a (a.segment (suc k)).id (suc k)) i) (is_misplaced (a.segment k) (body_at lines k))
-    (nat_lt 254 (segments_before lines a (suc k)) || small_over 255 (externals_before lines (suc k)) (2 ^ 64 - 1) (omega arith) i)
+    (λ i. fault_by (passes (told.next i) (counts.next i)) (is_misplaced (at.segment i) (is i))
+    (are_too_many (counts.segments i) (counts.externals i)) (told.operand.fault_is i))
+    ∙ (λ i. fault_by (passes_same (a.segment (suc k)) (filled lines a (a.segment (suc k)).id (suc k)) i)
+    (is_misplaced (a.segment k) (body_at lines k))
+    (nat_lt 254 (segments_before lines a (suc k)) || small_over 255 (externals_before lines (suc k)) (2 ^ 64 - 1)
+    (omega arith) i)
     (operand_fault lines (above lines a k) k (body_at lines k)))
-    ∙ ap (λ p. fault_by (nat_lt (end_of (a.segment (suc k)).kind) p || nat_lt 65535 (filled lines a (a.segment (suc k)).id (suc k)))
-    (is_misplaced (a.segment k) (body_at lines k)) (is_too_many lines a k) (operand_fault lines (above lines a k) k (body_at lines k))) (sym (f.places (suc k)))
-    ∙ sym (ap (λ b. cond b (Some 13) (fault_by (is_past lines a k) (is_misplaced (a.segment k) (body_at lines k)) (is_too_many lines a k)
+    ∙ ap (λ p. fault_by (nat_lt (end_of (a.segment (suc k)).kind) p
+    || nat_lt 65535 (filled lines a (a.segment (suc k)).id (suc k)))
+    (is_misplaced (a.segment k) (body_at lines k)) (is_too_many lines a k)
+    (operand_fault lines (above lines a k) k (body_at lines k))) (sym (f.places (suc k)))
+    ∙ sym (ap (λ b. cond b (Some 13)
+    (fault_by (is_past lines a k) (is_misplaced (a.segment k) (body_at lines k)) (is_too_many lines a k)
     (operand_fault lines (above lines a k) k (body_at lines k)))) once)
 
 -- what is counted down to a line without a fault
@@ -123,7 +143,8 @@ pub record IsSmall (c : Counts) : Type 0 where
   pub segments : c.segments ≤ 255
   pub externals : c.externals ≤ 255
 
-none_past : (past misplaced many : Bool) (operand : Option ℕ) → fault_by past misplaced many operand ≡ None → (past ≡ false) × (many ≡ false)
+none_past : (past misplaced many : Bool) (operand : Option ℕ) → fault_by past misplaced many operand ≡ None
+    → (past ≡ false) × (many ≡ false)
 none_past false false false operand h = (refl, refl)
 none_past true misplaced many operand h = absurd (cc h)
 none_past false true many operand h = absurd (cc h)
@@ -136,7 +157,11 @@ small_counts s c misplaced operand h =
     let past = or_parts (nat_lt (end_of s.kind) (s.base + c.next)) (nat_lt 65535 c.next) p.0 in
     let many = or_parts (nat_lt 254 c.segments) (nat_lt 255 c.externals) p.1 in
     let segments : c.segments ≤ 254 = ltb-false 254 c.segments many.0 in
-    record { next = ltb-false 65535 c.next past.1; segments = omega (arith, segments); externals = ltb-false 255 c.externals many.1 }
+    record {
+      next = ltb-false 65535 c.next past.1;
+      segments = omega (arith, segments);
+      externals = ltb-false 255 c.externals many.1;
+    }
 
 -- the externals of a line that are not too many by their count are not too many
 pub small_sum_is : (above here counted : ℕ) → counted ≡ saturated (above + here) → counted ≤ 255 → above + here ≤ 255
@@ -146,22 +171,27 @@ small_sum_is above here counted h less =
     omega (arith, same, e)
 
 -- the bank after a line without a fault
-pub bank_after : (lines : List LineTree) (a : Assignment) (k : ℕ) → IsFaultFree lines a k → (s : Placing) → IsAt lines a k s
-    → (t : Told) → IsTold lines a k t → bank_in s.bank t.operand ≡ bank_before lines a (suc k)
+pub bank_after : (lines : List LineTree) (a : Assignment) (k : ℕ) → IsFaultFree lines a k → (s : PassOneState)
+    → IsAt lines a k s
+    → (t : LineFacts) → IsTold lines a k t → bank_in s.bank t.operand ≡ bank_before lines a (suc k)
 unfolding bank_before
 bank_after lines a k free s at t told =
     told.operand.bank_is free.operand s.bank ∙ ap (λ b. bank_by (above lines a k) b (body_at lines k)) at.selected
 
-module _ (lines : List LineTree) (a : Assignment) (f : Fits lines a) (k : ℕ) (line : LineTree) (is : slice_get lines k ≡ Some line)
-    (free : IsFaultFree lines a k) (s : Placing) (at : IsAt lines a k s) (t : Told) (told : IsTold lines a k t)
+module _ (lines : List LineTree) (a : Assignment) (f : Fits lines a) (k : ℕ) (line : LineTree)
+    (is : slice_get lines k ≡ Some line)
+    (free : IsFaultFree lines a k) (s : PassOneState) (at : IsAt lines a k s) (t : LineFacts)
+    (told : IsTold lines a k t)
     (c : Counts) (counts : IsCounted lines a k c) (small : IsSmall c) (g : Giving) (here : g.here ≡ t.here)
     (expression : option_map located_value g.expression ≡ given_in t.operand) (number : g.line ≡ k)
-    (externals : g.externals ≡ s.externals) (n : Placing) where
-  known_next : ((name : List ℕ) → value_in n.values name ≡ given_or g (map brief (definitions_in line.stmt)) name (value_in s.values name))
+    (externals : g.externals ≡ s.externals) (n : PassOneState) where
+  known_next : ((name : List ℕ)
+      → value_in n.values name ≡ given_or g (map brief (definitions_in line.stmt)) name (value_in s.values name))
       → (name : List ℕ) → option_map located_value (value_in n.values name) ≡ value_above lines a (suc k) name
   known_next h name =
       ap (option_map located_value) (h name)
-      ∙ given lines a k g (ap located_value here ∙ told.here) number (externals ∙ at.declared) name (value_in s.values name) line.stmt
+      ∙ given lines a k g (ap located_value here ∙ told.here) number (externals ∙ at.declared) name
+      (value_in s.values name) line.stmt
       (expression ∙ told.operand.given_is free.operand ∙ ap (λ l. expression_given (above lines a k) (body_of l)) is)
       ∙ ap (or_kept lines a k (found_in (definitions_in line.stmt) name)) (at.known name)
       ∙ ap (λ l. or_kept lines a k (found_in (defined_of l) name) (value_above lines a k name)) (sym is)
@@ -173,8 +203,10 @@ module _ (lines : List LineTree) (a : Assignment) (f : Fits lines a) (k : ℕ) (
   unfolding filled
   size_by_test id true e = ap (λ x. filled lines a x (suc k)) (eqb-true (a.segment (suc k)).id id e)
   size_by_test id false e = elim (stays lines a f k) [
-    | inl none ↦ sym (ap (λ n. filled lines a id k + cond ((a.segment k).id == id) n 0) none ∙ nothing_more (filled lines a id k) ((a.segment k).id == id))
-    | inr same ↦ sym (ap (λ b. filled lines a id k + cond b (size_at lines a k) 0) (ap (λ (x : TextSegment). x.id == id) (sym same) ∙ e) ∙ add-zero (filled lines a id k))
+    | inl none ↦ sym (ap (λ n. filled lines a id k + cond ((a.segment k).id == id) n 0) none
+        ∙ nothing_more (filled lines a id k) ((a.segment k).id == id))
+    | inr same ↦ sym (ap (λ b. filled lines a id k + cond b (size_at lines a k) 0)
+        (ap (λ (x : TextSegment). x.id == id) (sym same) ∙ e) ∙ add-zero (filled lines a id k))
   ]
 
   sizes_next : Sets s.filled n.filled t.next.id c.next → (id : ℕ) → size_in n.filled id ≡ filled lines a id (suc k)
@@ -182,7 +214,8 @@ module _ (lines : List LineTree) (a : Assignment) (f : Fits lines a) (k : ℕ) (
       h id
       ∙ (λ i. cond ((told.next i).id == id) (counts.next i) (at.sizes id i))
       ∙ ap (λ x. cond ((a.segment (suc k)).id == id) x (filled lines a id k))
-      (small_is (filled lines a (a.segment (suc k)).id (suc k)) 65535 (omega arith) (subst (λ x. x ≤ 65535) counts.next small.next))
+      (small_is (filled lines a (a.segment (suc k)).id (suc k)) 65535 (omega arith)
+      (subst (λ x. x ≤ 65535) counts.next small.next))
       ∙ size_by_test id ((a.segment (suc k)).id == id) refl
 
   latest_next : ((kind : Kind) → last_in n.last kind ≡ last_with (text_segment t.next) (last_in s.last) kind)
@@ -190,10 +223,12 @@ module _ (lines : List LineTree) (a : Assignment) (f : Fits lines a) (k : ℕ) (
   unfolding last_absolute
   latest_next h kind = h kind ∙ (λ i. cond (is_absolute_of kind (told.next i)) (Some (told.next i)) (at.latest kind i))
 
-  pub at_next : ((name : List ℕ) → value_in n.values name ≡ given_or g (map brief (definitions_in line.stmt)) name (value_in s.values name))
+  pub at_next : ((name : List ℕ)
+      → value_in n.values name ≡ given_or g (map brief (definitions_in line.stmt)) name (value_in s.values name))
       → Sets s.filled n.filled t.next.id c.next
       → ((kind : Kind) → last_in n.last kind ≡ last_with (text_segment t.next) (last_in s.last) kind)
-      → n.segment ≡ t.next → n.bank ≡ bank_in s.bank t.operand → n.segments ≡ c.segments → n.externals ≡ c.externals → IsAt lines a (suc k) n
+      → n.segment ≡ t.next → n.bank ≡ bank_in s.bank t.operand → n.segments ≡ c.segments → n.externals ≡ c.externals
+      → IsAt lines a (suc k) n
   at_next values sizes latest segment selected segments declared = record {
     known = known_next values;
     sizes = sizes_next sizes;
@@ -203,7 +238,8 @@ module _ (lines : List LineTree) (a : Assignment) (f : Fits lines a) (k : ℕ) (
     numbered = segments ∙ counts.segments;
     declared =
         declared ∙ counts.externals
-        ∙ small_is (externals_before lines (suc k)) 255 (omega arith) (subst (λ x. x ≤ 255) counts.externals small.externals);
+        ∙ small_is (externals_before lines (suc k)) 255 (omega arith)
+        (subst (λ x. x ≤ 255) counts.externals small.externals);
   }
 
 nothing_above : (lines : List LineTree) (a : Assignment) (name : List ℕ) → value_above lines a 0 name ≡ None
@@ -212,7 +248,8 @@ nothing_above [] a name = refl
 nothing_above (l ∷ lines) a name = refl
 
 -- before the first line nothing is kept
-pub at_start : (lines : List LineTree) (a : Assignment) → Fits lines a → (s : Placing) → ((name : List ℕ) → value_in s.values name ≡ None)
+pub at_start : (lines : List LineTree) (a : Assignment) → Fits lines a → (s : PassOneState)
+    → ((name : List ℕ) → value_in s.values name ≡ None)
     → ((id : ℕ) → size_in s.filled id ≡ 0) → text_segment s.segment ≡ a.segment 0
     → ((kind : Kind) → last_in s.last kind ≡ last_with (text_segment s.segment) (λ k. None) kind)
     → s.bank ≡ 0 → s.segments ≡ 0 → s.externals ≡ 0 → IsAt lines a 0 s

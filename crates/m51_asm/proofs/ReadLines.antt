@@ -11,8 +11,10 @@ use Rattle.m51_asm.specs.Passing.{ArePlaces}
 pub line_at : (lines : List Line) (k : ℕ) (line : Line) → k < length lines → line ≡ get_or lines k line
     → slice_get (map line_tree lines) k ≡ Some (line_tree line)
 line_at lines k line within is =
-    slice_get-map line_tree lines k ∙ ap (option_map line_tree) (slice_get_read lines (length lines) k line refl within is)
+    slice_get-map line_tree lines k
+    ∙ ap (option_map line_tree) (slice_get_read lines (length lines) k line refl within is)
 
-pub place_at : (lines : List LineTree) (a : Assignment) (places : List LinePlace) (k : ℕ) (d : LinePlace) → k < length places
+pub place_at : (lines : List LineTree) (a : Assignment) (places : List LinePlace) (k : ℕ) (d : LinePlace)
+    → k < length places
     → ArePlaces lines a places → IsPlaceOf lines a k (get_or places k d)
 place_at lines a places k d within each = each k (get_or places k d) (slice_get-get_or places k d within)

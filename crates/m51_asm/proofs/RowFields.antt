@@ -1,6 +1,7 @@
 -- The fields of a row of the instruction table end in its bytes, and none lies over another.
 -- lie in these bytes, one after another.
-use Rattle.std.proofs.Common.{◌≡◌, ◌⊎◌, inl, inr, ℕ, ◌+◌, ◌<◌, ◌≤◌, nat_le, Bool, true, ◌&&◌, ◌||◌, Option, Some, None, refl, sym, ap, ◌∙◌, arith}
+use Rattle.std.proofs.Common.{◌≡◌, ◌⊎◌, inl, inr, ℕ, ◌+◌, ◌<◌, ◌≤◌, nat_le, Bool, true, ◌&&◌, ◌||◌, Option, Some, None}
+use Rattle.std.proofs.Common.{refl, sym, ap, ◌∙◌, arith}
 use Rattle.std.proofs.lemmas.Bool.{leb-true, or_cases, and_parts}
 use Rattle.m51_isa.specs.declared.instr.Instr.{Instr}
 use Rattle.m51_isa.specs.declared.instr.Instr.TheVariants.{Nop}
@@ -29,7 +30,9 @@ apart f g = true
 abbrev fields_lie : ℕ → Option FieldSlot → Option FieldSlot → Option FieldSlot → Bool
 fields_lie len f g h = (ends_in len f && (ends_in len g && ends_in len h)) && (apart f g && (apart f h && apart g h))
 
-rows_lie : (i : Instr) → fields_lie (row_length i) (field_in (text_of i).first) (field_in (text_of i).second) (field_in (text_of i).third) ≡ true
+rows_lie : (i : Instr)
+    → fields_lie (row_length i) (field_in (text_of i).first) (field_in (text_of i).second) (field_in (text_of i).third)
+    ≡ true
 rows_lie Nop = refl
 rows_lie i = refl
 
@@ -37,13 +40,15 @@ rows_lie i = refl
 unfoldable pub HasField : Option FieldSlot → Option FieldSlot → Option FieldSlot → FieldSlot → Type 0
 HasField f g h s = (f ≡ Some s) ⊎ ((g ≡ Some s) ⊎ (h ≡ Some s))
 
-ends_there : (len : ℕ) (f : Option FieldSlot) (s : FieldSlot) → f ≡ Some s → ends_in len f ≡ true → s.byte + width s.field ≤ len
+ends_there : (len : ℕ) (f : Option FieldSlot) (s : FieldSlot) → f ≡ Some s → ends_in len f ≡ true
+    → s.byte + width s.field ≤ len
 ends_there len f s is h = leb-true (s.byte + width s.field) len (sym (ap (ends_in len) is) ∙ h)
 
 slot_same : (s t : FieldSlot) → ◌≡◌ {A = Option FieldSlot} (Some s) (Some t) → s ≡ t
 slot_same s t h = cc h
 
-apart_there : (f g : Option FieldSlot) (s t : FieldSlot) → f ≡ Some s → g ≡ Some t → apart f g ≡ true → (s.byte + width s.field ≤ t.byte) ⊎ (t.byte + width t.field ≤ s.byte)
+apart_there : (f g : Option FieldSlot) (s t : FieldSlot) → f ≡ Some s → g ≡ Some t → apart f g ≡ true
+    → (s.byte + width s.field ≤ t.byte) ⊎ (t.byte + width t.field ≤ s.byte)
 apart_there f g s t is it h =
     let e : apart (Some s) (Some t) ≡ true = sym (λ i. apart (is i) (it i)) ∙ h in
     elim (or_cases (nat_le (s.byte + width s.field) t.byte) (nat_le (t.byte + width t.field) s.byte) e) [
@@ -54,16 +59,23 @@ apart_there f g s t is it h =
 -- what the test of fields says
 pub record DoLie (len : ℕ) (f g h : Option FieldSlot) : Type 0 where
   pub ends : (s : FieldSlot) → HasField f g h s → s.byte + width s.field ≤ len
-  pub orders : (s t : FieldSlot) → HasField f g h s → HasField f g h t → s.byte < t.byte → s.byte + width s.field ≤ t.byte
+  pub orders : (s t : FieldSlot) → HasField f g h s → HasField f g h t → s.byte < t.byte
+      → s.byte + width s.field ≤ t.byte
 
-before_by : (f g : Option FieldSlot) (s t : FieldSlot) → f ≡ Some s → g ≡ Some t → apart f g ≡ true → s.byte < t.byte → s.byte + width s.field ≤ t.byte
-before_by f g s t is it h less = elim (apart_there f g s t is it h) [ inl l ↦ l | inr r ↦ absurd (omega (arith, r, less)) ]
+before_by : (f g : Option FieldSlot) (s t : FieldSlot) → f ≡ Some s → g ≡ Some t → apart f g ≡ true → s.byte < t.byte
+    → s.byte + width s.field ≤ t.byte
+before_by f g s t is it h less =
+    elim (apart_there f g s t is it h) [ inl l ↦ l | inr r ↦ absurd (omega (arith, r, less)) ]
 
-after_by : (f g : Option FieldSlot) (s t : FieldSlot) → f ≡ Some s → g ≡ Some t → apart f g ≡ true → t.byte < s.byte → t.byte + width t.field ≤ s.byte
-after_by f g s t is it h less = elim (apart_there f g s t is it h) [ inl l ↦ absurd (omega (arith, l, less)) | inr r ↦ r ]
+after_by : (f g : Option FieldSlot) (s t : FieldSlot) → f ≡ Some s → g ≡ Some t → apart f g ≡ true → t.byte < s.byte
+    → t.byte + width t.field ≤ s.byte
+after_by f g s t is it h less =
+    elim (apart_there f g s t is it h) [ inl l ↦ absurd (omega (arith, l, less)) | inr r ↦ r ]
 
-same_field : (f : Option FieldSlot) (s t : FieldSlot) → f ≡ Some s → f ≡ Some t → s.byte < t.byte → s.byte + width s.field ≤ t.byte
-same_field f s t is it less = let e : s.byte ≡ t.byte = ap (λ (x : FieldSlot). x.byte) (slot_same s t (sym is ∙ it)) in absurd (omega (arith, e, less))
+same_field : (f : Option FieldSlot) (s t : FieldSlot) → f ≡ Some s → f ≡ Some t → s.byte < t.byte
+    → s.byte + width s.field ≤ t.byte
+same_field f s t is it less = let e : s.byte ≡ t.byte = ap (λ (x : FieldSlot). x.byte) (slot_same s t (sym is ∙ it)) in
+    absurd (omega (arith, e, less))
 
 do_lie : (len : ℕ) (f g h : Option FieldSlot) → fields_lie len f g h ≡ true → DoLie len f g h
 unfolding HasField
@@ -81,7 +93,8 @@ do_lie len f g h lie =
       orders = λ s t has_s has_t less. elim has_s [
         | inl is ↦ elim has_t [
           | inl it ↦ same_field f s t is it less
-          | inr more ↦ elim more [ inl it ↦ before_by f g s t is it q.0 less | inr it ↦ before_by f h s t is it q2.0 less ]
+          | inr more ↦ elim more
+              [ inl it ↦ before_by f g s t is it q.0 less | inr it ↦ before_by f h s t is it q2.0 less ]
         ]
         | inr others ↦ elim others [
           | inl is ↦ elim has_t [
@@ -97,5 +110,7 @@ do_lie len f g h lie =
     }
 
 -- the fields of a row
-pub rows_do_lie : (i : Instr) → DoLie (row_length i) (field_in (text_of i).first) (field_in (text_of i).second) (field_in (text_of i).third)
-rows_do_lie i = do_lie (row_length i) (field_in (text_of i).first) (field_in (text_of i).second) (field_in (text_of i).third) (rows_lie i)
+pub rows_do_lie : (i : Instr)
+    → DoLie (row_length i) (field_in (text_of i).first) (field_in (text_of i).second) (field_in (text_of i).third)
+rows_do_lie i = do_lie (row_length i) (field_in (text_of i).first) (field_in (text_of i).second)
+    (field_in (text_of i).third) (rows_lie i)

@@ -1,5 +1,6 @@
 -- The names of the module of a text: the module's own, and those of its externals and segments.
-use Rattle.std.proofs.Common.{◌≡◌, ◌≢◌, inl, inr, ℕ, suc, ◌+◌, ◌<◌, ◌≤◌, List, [], ◌∷◌, ◌++◌, length, take, filter, refl, sym, ap, subst, ◌∙◌, arith, add-zero}
+use Rattle.std.proofs.Common.{◌≡◌, ◌≢◌, inl, inr, ℕ, suc, ◌+◌, ◌<◌, ◌≤◌, List, [], ◌∷◌, ◌++◌, length, take, filter}
+use Rattle.std.proofs.Common.{refl, sym, ap, subst, ◌∙◌, arith, add-zero}
 use Rattle.std.specs.List.{flat_map, range_with_len}
 use Rattle.m51_cells.specs.declared.kind.Kind.{Kind}
 use Rattle.m51_cells.specs.Name.{is_name_byte, IsWritten}
@@ -16,7 +17,8 @@ use Rattle.m51_asm.specs.Naming.{stem_of, folderless, with_front, module_name}
 use Rattle.m51_asm.specs.ObjectSegments.{Kept, kept, object_segments}
 use Rattle.m51_asm.specs.Parts.{external, externals_by, externals, name_by, name_in}
 use Rattle.m51_asm.proofs.Written.{file_named}
-use Rattle.m51_asm.proofs.Members.{In, Every, Pairs, Comes, in_cons, no_element, in_first, in_later, in_map, in_flat, in_range, pairs_map, pairs_weaker, pairs_flat, pairs_range}
+use Rattle.m51_asm.proofs.Members.{In, Every, Pairs, Comes, in_cons, no_element, in_first, in_later, in_map, in_flat}
+use Rattle.m51_asm.proofs.Members.{in_range, pairs_map, pairs_weaker, pairs_flat, pairs_range}
 use Rattle.m51_asm.proofs.GoodLines.{IsClean, IsGood, free, free_text}
 use Rattle.m51_asm.proofs.KeptSegments.{IsNamed, Nameless, DeclaredAt, AreKept, all_kept}
 use Rattle.m51_asm.proofs.DefinedOnce.{Apart, IsOnce, once}
@@ -25,27 +27,32 @@ use Rattle.m51_asm.proofs.DefinedOnce.{Apart, IsOnce, once}
 pub file_written : (file : List ℕ) → IsWritten (module_name file)
 unfolding module_name
 file_written file =
-    name_written (take 31 (with_front (filter is_name_byte (stem_of (folderless file))))) _ (file_named (stem_of (folderless file)))
+    name_written (take 31 (with_front (filter is_name_byte (stem_of (folderless file))))) _
+    (file_named (stem_of (folderless file)))
 
 written_by : (other : List ℕ) (b : BodyTree) → IsGood b → IsWritten other → IsWritten (name_by other b)
 written_by other (body.ModuleName name) good is = good
 written_by other b good is = is
 
-pub name_is_written : (other : List ℕ) (ls : List LineTree) → ((k : ℕ) → IsGood (body_at ls k)) → IsWritten other → IsWritten (name_in other ls)
+pub name_is_written : (other : List ℕ) (ls : List LineTree) → ((k : ℕ) → IsGood (body_at ls k)) → IsWritten other
+    → IsWritten (name_in other ls)
 name_is_written other [] good is = is
-name_is_written other (l ∷ ls) good is = written_by (name_in other ls) l.stmt.body (good 0) (name_is_written other ls (λ k. good (suc k)) is)
+name_is_written other (l ∷ ls) good is =
+    written_by (name_in other ls) l.stmt.body (good 0) (name_is_written other ls (λ k. good (suc k)) is)
 
 -- externals by the numbers of lines
 given_at : List LineTree → ℕ → List External
 given_at lines k = externals_by (body_at lines k)
 
-flat_from : (lines ls : List LineTree) (n : ℕ) → ((j : ℕ) → body_at ls j ≡ body_at lines (n + j)) → externals ls ≡ flat_map (given_at lines) (range_with_len n (length ls))
+flat_from : (lines ls : List LineTree) (n : ℕ) → ((j : ℕ) → body_at ls j ≡ body_at lines (n + j))
+    → externals ls ≡ flat_map (given_at lines) (range_with_len n (length ls))
 unfolding given_at
 flat_from lines [] n same = refl
 flat_from lines (l ∷ ls) n same =
     let first : l.stmt.body ≡ body_at lines n = same 0 ∙ ap (body_at lines) (add-zero n) in
     let rest : externals ls ≡ flat_map (given_at lines) (range_with_len (n + 1) (length ls)) =
-    flat_from lines ls (n + 1) (λ j. let e : n + suc j ≡ n + 1 + j = omega arith in same (suc j) ∙ ap (body_at lines) e) in
+    flat_from lines ls (n + 1) (λ j. let e : n + suc j ≡ n + 1 + j = omega arith in same (suc j) ∙ ap (body_at lines) e)
+    in
     λ i. externals_by (first i) ++ rest i
 
 from_first : (k : ℕ) → k ≡ 0 + k
@@ -58,11 +65,14 @@ pub each_in : {A : Type 0} (P : A → Type 0) (xs : List A) → Each P xs → (x
 each_in P [] h x i = absurd (no_element x i)
 each_in P (y ∷ xs) h x i = elim (in_cons x y xs i) [ inl e ↦ subst P e h.0 | inr j ↦ each_in P xs h.1 x j ]
 
-is_extern : (xs : List (List ℕ × Kind)) (n : ℕ) (x : List ℕ × Kind) → In x xs → (m : ℕ) × In (x.0, ExternOf x.1 m) (externals_from n xs)
+is_extern : (xs : List (List ℕ × Kind)) (n : ℕ) (x : List ℕ × Kind) → In x xs
+    → (m : ℕ) × In (x.0, ExternOf x.1 m) (externals_from n xs)
 is_extern [] n x i = absurd (no_element x i)
 is_extern (y ∷ xs) n x i = elim (in_cons x y xs i) [
-  | inl e ↦ subst (λ (z : List ℕ × Kind). (m : ℕ) × In (z.0, ExternOf z.1 m) (externals_from n (y ∷ xs))) e (n, in_first (y.0, ExternOf y.1 n) (externals_from (suc n) xs))
-  | inr j ↦ let r = is_extern xs (suc n) x j in (r.0, in_later (x.0, ExternOf x.1 r.0) (y.0, ExternOf y.1 n) (externals_from (suc n) xs) r.1)
+  | inl e ↦ subst (λ (z : List ℕ × Kind). (m : ℕ) × In (z.0, ExternOf z.1 m) (externals_from n (y ∷ xs))) e
+      (n, in_first (y.0, ExternOf y.1 n) (externals_from (suc n) xs))
+  | inr j ↦ let r = is_extern xs (suc n) x j in
+      (r.0, in_later (x.0, ExternOf x.1 r.0) (y.0, ExternOf y.1 n) (externals_from (suc n) xs) r.1)
 ]
 
 -- an external of a line is defined there
@@ -74,7 +84,10 @@ external_defined : (b : BodyTree) (e : External) → In e (externals_by b) → I
 external_defined (body.Extrn xs) e i =
     let c : Comes external xs e = in_map external xs e i in
     let r = is_extern xs 0 c.from c.there in
-    record { number = r.0; there = subst (λ (x : External). In (x.name, ExternOf x.kind r.0) (externals_from 0 xs)) c.is r.1 }
+    record {
+      number = r.0;
+      there = subst (λ (x : External). In (x.name, ExternOf x.kind r.0) (externals_from 0 xs)) c.is r.1;
+    }
 external_defined b e i = absurd (no_element e i)
 
 extern_pairs : (xs : List (List ℕ × Kind)) (n : ℕ) → Pairs Apart (externals_from n xs) → Pairs (λ x y. x.0 ≢ y.0) xs
@@ -121,24 +134,30 @@ module _ (lines : List LineTree) (a : Assignment) (c : IsClean lines a) where
       let r = in_range n 0 k l in
       let du = external_defined (body_at lines j) u in_u in
       let dv = external_defined (body_at lines k) v in_v in
-      λ e. (once_at k (omega (arith, r.1))).above (v.name, ExternOf v.kind dv.number) dv.there refl j less (u.name, ExternOf u.kind du.number) du.there (sym e)))
+      λ e. (once_at k (omega (arith, r.1))).above (v.name, ExternOf v.kind dv.number) dv.there refl j less
+      (u.name, ExternOf u.kind du.number) du.there (sym e)))
 
   abbrev OtherSegment : Kept → Kept → Type 0
   OtherSegment s t = Differ s.segment.name t.segment.name
 
-  names_differ : (s t : Kept) → s.id < t.id → t.id ≤ suc (length lines) → IsNamed lines s.id s.segment → IsNamed lines t.id t.segment → OtherSegment s t
+  names_differ : (s t : Kept) → s.id < t.id → t.id ≤ suc (length lines) → IsNamed lines s.id s.segment
+      → IsNamed lines t.id t.segment → OtherSegment s t
   names_differ s t less low (Nameless e r) named = λ ne. absurd (ne e)
   names_differ s t less low (DeclaredAt j one kj tj oj at_j is_j name_j) (Nameless e r) = λ ne same. ne (same ∙ e)
   names_differ s t less low (DeclaredAt j one kj tj oj at_j is_j name_j) (DeclaredAt k two kk tk ok at_k is_k name_k) =
-      let in_two : In (two, SegmentOf kk) (defined_by (body_at lines k)) = subst (λ b. In (two, SegmentOf kk) (defined_by b)) (sym is_k) (in_first (two, SegmentOf kk) []) in
-      let in_one : In (one, SegmentOf kj) (defined_by (body_at lines j)) = subst (λ b. In (one, SegmentOf kj) (defined_by b)) (sym is_j) (in_first (one, SegmentOf kj) []) in
+      let in_two : In (two, SegmentOf kk) (defined_by (body_at lines k)) =
+      subst (λ b. In (two, SegmentOf kk) (defined_by b)) (sym is_k) (in_first (two, SegmentOf kk) []) in
+      let in_one : In (one, SegmentOf kj) (defined_by (body_at lines j)) =
+      subst (λ b. In (one, SegmentOf kj) (defined_by b)) (sym is_j) (in_first (one, SegmentOf kj) []) in
       let o = once_at k (omega (arith, low, at_k)) in
-      λ ne same. o.above (two, SegmentOf kk) in_two refl j (omega (arith, less, at_j, at_k)) (one, SegmentOf kj) in_one (sym name_k ∙ sym same ∙ name_j)
+      λ ne same. o.above (two, SegmentOf kk) in_two refl j (omega (arith, less, at_j, at_k)) (one, SegmentOf kj) in_one
+      (sym name_k ∙ sym same ∙ name_j)
 
   pub segments_differ : Pairs (λ s t. Differ s.name t.name) (object_segments lines a)
   unfolding Every
   segments_differ =
-      let all : AreKept lines a (free_text lines a c) (length lines) (kept lines a) = all_kept lines a (free_text lines a c) in
+      let all : AreKept lines a (free_text lines a c) (length lines) (kept lines a) =
+      all_kept lines a (free_text lines a c) in
       pairs_map (λ k. k.segment) (λ s t. Differ s.name t.name) (kept lines a)
       (pairs_weaker (λ s t. s.id < t.id) OtherSegment (kept lines a)
       (λ s t i j less. names_differ s t less (all.low t j) (all.every s i).named (all.every t j).named) all.order)

@@ -1,5 +1,6 @@
 -- The target of each fixup of a text is a segment or an external of its module, and its bit is one that a module takes.
-use Rattle.std.proofs.Common.{◌≡◌, ◌⊎◌, inl, inr, ℕ, zero, suc, ◌%◌, ◌<◌, ◌≤◌, Bool, true, false, cond, List, [], ◌∷◌, length, Option, Some, None, option_map, refl, sym, ap, subst, ◌∙◌, arith}
+use Rattle.std.proofs.Common.{◌≡◌, ◌⊎◌, inl, inr, ℕ, zero, suc, ◌%◌, ◌<◌, ◌≤◌, Bool, true, false, cond, List, [], ◌∷◌}
+use Rattle.std.proofs.Common.{length, Option, Some, None, option_map, refl, sym, ap, subst, ◌∙◌, arith}
 use Rattle.std.specs.Prelude.{slice_get}
 use Rattle.std.proofs.lemmas.Bool.{cases_eq}
 use Rattle.m51_cells.specs.declared.kind.Base.{Base}
@@ -50,27 +51,38 @@ chosen false true absolute n o l r never h = refl
 chosen false false true n o l r never h = absurd (never h)
 chosen false false false n o l r never h = absurd (cc h)
 
-stored : (linked : Bool) (n : ℕ) (l r : Reference) → Some (cond linked (Linked l) (Number n)) ≡ Some (Linked r) → linked ≡ true
+stored : (linked : Bool) (n : ℕ) (l r : Reference) → Some (cond linked (Linked l) (Number n)) ≡ Some (Linked r)
+    → linked ≡ true
 stored true n l r h = refl
 stored false n l r h = absurd (cc h)
 
 -- what is left to the linker has a base that is linked
-taken_linked : (names : Meanings) (at : Field) (next : ℕ) (v : Value) (r : Reference) → taken_of names at next v ≡ Some (Linked r) → is_linked names v.base ≡ true
+taken_linked : (names : Meanings) (at : Field) (next : ℕ) (v : Value) (r : Reference)
+    → taken_of names at next v ≡ Some (Linked r) → is_linked names v.base ≡ true
 taken_linked names field.Rel next v r h =
-    chosen (is_current names v.base) (is_linked names v.base) (stands_absolute names) (rel_of next (counted v)) None (reference_of field.Rel v) r
+    chosen (is_current names v.base) (is_linked names v.base) (stands_absolute names) (rel_of next (counted v)) None
+    (reference_of field.Rel v) r
     (no_link (is_near (distance next (counted v))) (distance next (counted v) % 256) r) h
 taken_linked names field.Addr11 next v r h =
-    chosen false (is_linked names v.base) (stands_absolute names) (addr11_of next (counted v)) None (reference_of field.Addr11 v) r
+    chosen false (is_linked names v.base) (stands_absolute names) (addr11_of next (counted v)) None
+    (reference_of field.Addr11 v) r
     (no_link (same_block (counted v) next) (counted v % 2048) r) h
-taken_linked names field.Data next v r h = stored (is_linked names v.base) (held_of field.Data (counted v)) (reference_of field.Data v) r h
-taken_linked names field.Direct next v r h = stored (is_linked names v.base) (held_of field.Direct (counted v)) (reference_of field.Direct v) r h
-taken_linked names field.Bit next v r h = stored (is_linked names v.base) (held_of field.Bit (counted v)) (reference_of field.Bit v) r h
-taken_linked names field.Data16 next v r h = stored (is_linked names v.base) (held_of field.Data16 (counted v)) (reference_of field.Data16 v) r h
-taken_linked names field.Addr16 next v r h = stored (is_linked names v.base) (held_of field.Addr16 (counted v)) (reference_of field.Addr16 v) r h
+taken_linked names field.Data next v r h =
+    stored (is_linked names v.base) (held_of field.Data (counted v)) (reference_of field.Data v) r h
+taken_linked names field.Direct next v r h =
+    stored (is_linked names v.base) (held_of field.Direct (counted v)) (reference_of field.Direct v) r h
+taken_linked names field.Bit next v r h =
+    stored (is_linked names v.base) (held_of field.Bit (counted v)) (reference_of field.Bit v) r h
+taken_linked names field.Data16 next v r h =
+    stored (is_linked names v.base) (held_of field.Data16 (counted v)) (reference_of field.Data16 v) r h
+taken_linked names field.Addr16 next v r h =
+    stored (is_linked names v.base) (held_of field.Addr16 (counted v)) (reference_of field.Addr16 v) r h
 
-field_linked : (names : Meanings) (at : Field) (next : ℕ) (v : Value) (r : Reference) → field_of names at next v ≡ Some (Linked r) → is_linked names v.base ≡ true
+field_linked : (names : Meanings) (at : Field) (next : ℕ) (v : Value) (r : Reference)
+    → field_of names at next v ≡ Some (Linked r) → is_linked names v.base ≡ true
 unfolding field_of
-field_linked names at next v r h = taken_linked names at next v r (guarded (is_taken names at v) (taken_of names at next v) (Linked r) h).1
+field_linked names at next v r h =
+    taken_linked names at next v r (guarded (is_taken names at v) (taken_of names at next v) (Linked r) h).1
 
 got_below : {A : Type 0} (xs : List A) (k : ℕ) → k < length xs → (x : A) × (slice_get xs k ≡ Some x)
 got_below [] k below = absurd (omega (arith, below))
@@ -97,27 +109,33 @@ module _ (lines : List LineTree) (a : Assignment) (c : IsClean lines a) where
     | inl e ↦ inl e
     | inr ne ↦
         let n : IsNumbered (kept lines a) id = has_number (kept lines a) id ne in
-        let all : AreKept lines a (free_text lines a c) (length lines) (kept lines a) = all_kept lines a (free_text lines a c) in
+        let all : AreKept lines a (free_text lines a c) (length lines) (kept lines a) =
+        all_kept lines a (free_text lines a c) in
         let is : numbered segments (segment_number lines a id) ≡ Some n.kept.segment =
-        ap (λ i. numbered segments (number_in (kept lines a) i)) (sym n.id_is) ∙ leads_to (kept lines a) all.order n.kept n.there in
+        ap (λ i. numbered segments (number_in (kept lines a) i)) (sym n.id_is)
+        ∙ leads_to (kept lines a) all.order n.kept n.there in
         inr (n.kept.segment, is)
   ]
 
   base_there : (b : Base) → IsDeclaredBase lines b → IsThere (object_base (segment_number lines a) b)
   base_there base.None h = tt
   base_there (base.Segment id) h = segment_there id
-  base_there (base.External e) h = let len = externals_count lines in numbered_there (externals lines) e h.0 (let most = h.1 in omega (arith, len, most))
+  base_there (base.External e) h = let len = externals_count lines in
+      numbered_there (externals lines) e h.0 (let most = h.1 in omega (arith, len, most))
 
-  object_there : (v : Value) → IsBased (IsDeclaredBase lines) v → IsBased IsThere (object_value (segment_number lines a) v)
+  object_there : (v : Value) → IsBased (IsDeclaredBase lines) v
+      → IsBased IsThere (object_value (segment_number lines a) v)
   object_there v h = record { base_is = base_there v.base h.base_is; bit_is = h.bit_is }
 
   some_same : (v w : Value) → ◌≡◌ {A = Option Value} (Some v) (Some w) → v ≡ w
   some_same v w h = cc h
 
-  option_there : (o : Option Value) → IfSomeBased (IsDeclaredBase lines) o → IfSomeBased IsThere (option_map (object_value (segment_number lines a)) o)
+  option_there : (o : Option Value) → IfSomeBased (IsDeclaredBase lines) o
+      → IfSomeBased IsThere (option_map (object_value (segment_number lines a)) o)
   option_there None h = record { holds = λ w e. absurd (cc e) }
   option_there (Some v) h = record {
-    holds = λ w e. subst (IsBased IsThere) (some_same (object_value (segment_number lines a) v) w e) (object_there v (h.holds v refl));
+    holds = λ w e. subst (IsBased IsThere) (some_same (object_value (segment_number lines a) v) w e)
+        (object_there v (h.holds v refl));
   }
 
   final_there : (k : ℕ) → AreBased IsThere (final lines a k)
@@ -135,7 +153,8 @@ module _ (lines : List LineTree) (a : Assignment) (c : IsClean lines a) where
   unfolding final
   zero_linked k h = cc h
 
-  linked_there : (k : ℕ) (b : Base) → IsThere b → is_linked (final lines a k) b ≡ true → IsTarget segments (externals lines) b
+  linked_there : (k : ℕ) (b : Base) → IsThere b → is_linked (final lines a k) b ≡ true
+      → IsTarget segments (externals lines) b
   linked_there k base.None h l = none_linked k l
   linked_there k (base.Segment n) h l = elim h [
     | inl e ↦ absurd (zero_linked k (subst (λ m. is_linked (final lines a k) (base.Segment m) ≡ true) e l))
@@ -164,7 +183,8 @@ module _ (lines : List LineTree) (a : Assignment) (c : IsClean lines a) where
   fixups_valid f i =
       let t : IsOfText lines a c f = of_text lines a c f i in
       let o = t.of in
-      let g = good_reference o.line o.reference.1 ((given lines a c o.line o.below).content.linked o.reference o.there) in
+      let g = good_reference o.line o.reference.1
+      ((given lines a c o.line o.below).content.linked o.reference o.there) in
       record {
         bit = subst (λ (x : Fixup). IsBitNumber x.form x.bit) o.is g.bit;
         target = subst (λ (x : Fixup). IsTarget segments (externals lines) x.target) o.is g.target;

@@ -5,17 +5,17 @@ use Rattle.m51_module.specs.declared.source.Fault.{Fault}
 use Rattle.m51_text.specs.Answer.{LineTree}
 use Rattle.m51_asm.specs.Assignment.{Assignment, body_at}
 use Rattle.m51_asm.specs.ObjectMeanings.{final}
-use Rattle.m51_encode.specs.declared.outcome.Outcome.{Outcome}
+use Rattle.m51_encode.specs.declared.outcome.OperandOutcome.{OperandOutcome}
 use Rattle.m51_asm.specs.Outcomes.{made_with_all, leftmost_fault}
 use Rattle.m51_asm.specs.Content.{outcomes_by}
 use Rattle.m51_asm.specs.PublicNames.{published, public_outcome}
 
-abbrev pub line_outcomes_by : List LineTree → Assignment → ℕ → BodyTree → List Outcome
+abbrev pub line_outcomes_by : List LineTree → Assignment → ℕ → BodyTree → List OperandOutcome
 line_outcomes_by lines a k (Public names) = map (λ name. public_outcome (published lines a k name)) names
 line_outcomes_by lines a k body = outcomes_by (final lines a k) (a.form k) body
 
 -- the outcomes of the operands, items and public names of line k
-unfoldable pub line_outcomes : List LineTree → Assignment → ℕ → List Outcome
+unfoldable pub line_outcomes : List LineTree → Assignment → ℕ → List OperandOutcome
 line_outcomes lines a k = line_outcomes_by lines a k (body_at lines k)
 
 -- how many fixups are made before line k

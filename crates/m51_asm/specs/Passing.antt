@@ -3,7 +3,7 @@ use Rattle.std.specs.Prelude.{◌≡◌, ℕ, Bool, false, nat_le, List, length,
 use Rattle.m51_text.specs.Answer.{LineTree}
 use Rattle.m51_asm.specs.declared.passing.Passed.{Passed}
 use Rattle.m51_asm.specs.declared.passing.Passed.TheVariants as passed
-use Rattle.m51_asm.specs.declared.placing.Placing.{Placing}
+use Rattle.m51_asm.specs.declared.placing.PassOneState.{PassOneState}
 use Rattle.m51_asm.specs.declared.stepping.LinePlace.{LinePlace}
 use Rattle.m51_asm.specs.Assignment.{Assignment}
 use Rattle.m51_asm.specs.Placing.{IsAt, IsPlaceOf}
@@ -19,7 +19,7 @@ abbrev pub ArePlaces : List LineTree → Assignment → List LinePlace → Type 
 ArePlaces lines a places = (j : ℕ) (p : LinePlace) → slice_get places j ≡ Some p → IsPlaceOf lines a j p
 
 -- the first k lines have no fault, these are their places, and this is kept of them
-pub record IsPassedTo (lines : List LineTree) (a : Assignment) (k : ℕ) (places : List LinePlace) (end : Placing)
+pub record IsPassedTo (lines : List LineTree) (a : Assignment) (k : ℕ) (places : List LinePlace) (end : PassOneState)
     : Type 0 where
   pub free : AreFree lines a k
   pub counted : length places ≡ k
@@ -27,7 +27,7 @@ pub record IsPassedTo (lines : List LineTree) (a : Assignment) (k : ℕ) (places
   pub at : IsAt lines a k end
 
 -- no line has a fault, these are the places of all, and this is kept of them
-abbrev pub IsPlaced : List LineTree → Assignment → List LinePlace → Placing → Type 0
+abbrev pub IsPlaced : List LineTree → Assignment → List LinePlace → PassOneState → Type 0
 IsPlaced lines a places end = IsPassedTo lines a (length lines) places end
 
 -- it is the first fault; or no line has one, and all are placed

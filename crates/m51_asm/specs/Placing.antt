@@ -12,12 +12,12 @@ use Rattle.m51_expr.specs.declared.value.Part.TheVariants.{Whole}
 use Rattle.m51_expr.specs.declared.value.Value.{Value}
 use Rattle.m51_stmt.specs.Statement.{BodyTree, Segment}
 use Rattle.m51_text.specs.Answer.{LineTree}
-use Rattle.m51_asm.specs.declared.placing.Placing.{Placing}
+use Rattle.m51_asm.specs.declared.placing.PassOneState.{PassOneState}
 use Rattle.m51_asm.specs.declared.counts.Counts.{Counts}
 use Rattle.m51_asm.specs.declared.stepping.LinePlace.{LinePlace}
 use Rattle.m51_asm.specs.declared.stepping.LineOutcome.{LineOutcome}
 use Rattle.m51_asm.specs.declared.stepping.LineOutcome.TheVariants as outcome
-use Rattle.m51_asm.specs.declared.told.Told.{Told}
+use Rattle.m51_asm.specs.declared.told.LineFacts.{LineFacts}
 use Rattle.m51_asm.specs.Definitions.{definition_of}
 use Rattle.m51_asm.specs.Assignment.{TextSegment, Assignment, body_at, here_at, above}
 use Rattle.m51_asm.specs.Fitting.{last_absolute, size_at, filled, bank_by, bank_before, externals_before}
@@ -36,7 +36,7 @@ abbrev pub IsTableOf : List LineTree → Table → Type 0
 IsTableOf lines table = (name : List ℕ) → first_in table name ≡ option_map first_of (definition_of lines name)
 
 -- what is kept is what the lines above line k give
-pub record IsAt (lines : List LineTree) (a : Assignment) (k : ℕ) (s : Placing) : Type 0 where
+pub record IsAt (lines : List LineTree) (a : Assignment) (k : ℕ) (s : PassOneState) : Type 0 where
   pub known : (name : List ℕ) → option_map located_value (value_in s.values name) ≡ value_above lines a k name
   pub sizes : (id : ℕ) → size_in s.filled id ≡ filled lines a id k
   pub segment : text_segment s.segment ≡ a.segment k
@@ -55,7 +55,7 @@ here_of s before = record {
 }
 
 -- these are the place, the form and the size of line k, the segment that it leaves open, and its operand
-pub record IsTold (lines : List LineTree) (a : Assignment) (k : ℕ) (t : Told) : Type 0 where
+pub record IsTold (lines : List LineTree) (a : Assignment) (k : ℕ) (t : LineFacts) : Type 0 where
   pub here : located_value t.here ≡ here_at a k
   pub form : t.form ≡ a.form k
   pub size : t.size ≡ saturated (size_at lines a k)
@@ -103,8 +103,8 @@ pub record IsPlaceOf (lines : List LineTree) (a : Assignment) (k : ℕ) (p : Lin
   pub selected : p.selected ≡ bank_before lines a (suc k)
   pub given : option_map located_value p.given ≡ expression_given (above lines a k) (body_at lines k)
 
--- the outcome of a line: its fault; or none, the state after it, and its place
-abbrev pub IsLineOutcome : List LineTree → Assignment → ℕ → LineOutcome → Type 0
-IsLineOutcome lines a k (outcome.Fault number) = placed_fault lines a k ≡ Some number
-IsLineOutcome lines a k (outcome.Stands placing place) =
+-- the outcome of a line: its fault; or none, its place, and this is the state after it
+abbrev pub IsLineOutcome : List LineTree → Assignment → ℕ → PassOneState → LineOutcome → Type 0
+IsLineOutcome lines a k placing (outcome.Fault number) = placed_fault lines a k ≡ Some number
+IsLineOutcome lines a k placing (outcome.Stands place) =
     (placed_fault lines a k ≡ None) × IsAt lines a (suc k) placing × IsPlaceOf lines a k place

@@ -8,9 +8,9 @@ ghost use Rattle.m51_predefined.specs.Predefined.{predefined_of, absolute_regist
 ghost use Rattle.m51_asm.specs.Assignment.{body_at, reloc_by, reloc_of, is_bitaddressable};
 ghost use Rattle.m51_asm.specs.Fitting.{register_or_predefined};
 ghost use Rattle.m51_asm.specs.Located.{located_value};
-ghost use Rattle.m51_asm.specs.Above.{plain_located, value_seen};
+ghost use Rattle.m51_asm.specs.Above.{plain_located};
 
-use crate::names::{FirstDefinition, Names};
+use crate::names::TextNames;
 use crate::valuation::Values;
 use crate::values::{Located, Origin, Places};
 use m51_cells::{Name, Reloc, is_absolute};
@@ -96,28 +96,12 @@ pub(crate) fn undefined_value(mod51: bool, bank: u8, name: &Name) -> Option<Loca
 #[derive(Clone, Copy)]
 pub(crate) struct Above<'a> {
     pub(crate) lines: &'a [Line],
-    pub(crate) names: &'a Names,
+    pub(crate) names: &'a TextNames,
     pub(crate) values: &'a Values,
     pub(crate) line: usize,
     pub(crate) mod51: bool,
     pub(crate) bank: u8,
     pub(crate) here: Located,
-}
-
-// The value of a name of this first definition.
-fn value_seen(
-    line: usize,
-    above: Option<Located>,
-    undefined: Option<Located>,
-    first: Option<FirstDefinition>,
-) -> Option<Located>
-    ensures { option_map located_value result
-        ≡ value_seen line (option_map located_value above) (option_map located_value undefined) first }
-{
-    match first {
-        Some(first) => { if first.line < line { above } else { None } }
-        None => undefined,
-    }
 }
 
 impl<'a> Places for Above<'a> {
@@ -129,9 +113,16 @@ impl<'a> Places for Above<'a> {
         s.line s.mod51 s.bank s.here };
 
     fn value(&self, name: &Name) -> Option<Located> {
-        let above = self.values.get(name);
-        let undefined = undefined_value(self.mod51, self.bank, name);
-        value_seen(self.line, above, undefined, self.names.first(name))
+        match self.names.first(name) {
+            Some(first) => {
+                if first.line < self.line {
+                    self.values.get(name)
+                } else {
+                    None
+                }
+            }
+            None => undefined_value(self.mod51, self.bank, name),
+        }
     }
 
     fn here(&self) -> Located {

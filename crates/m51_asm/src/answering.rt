@@ -20,7 +20,7 @@ use crate::naming_lines::{externals, name_in};
 use crate::numbering::{Numbering, number_segments};
 use crate::object_names::PlacedText;
 use crate::outcome::Assembled;
-use crate::placing::{NamedText, Placing};
+use crate::placing::{NamedText, PassOneState};
 use crate::stepping::LinePlace;
 use m51_cells::NoMemory;
 use m51_emit::ModuleContent;
@@ -78,7 +78,7 @@ pub(crate) fn answer_placed(
     file: &[u8],
     named: &NamedText<'_>,
     places: &[LinePlace],
-    end: &Placing,
+    end: &PassOneState,
 ) -> Result<Assembled, NoMemory>
     requires text { IsText (map line_tree named.now.lines.now) }
     requires few { length named.now.lines.now ≤ 65536 }

@@ -45,7 +45,7 @@ pub use laws::{
     values_are_seen, values_grow, what_is_kept_means,
 };
 pub use m51_module::{Fault, Faults, Row, Rows, SourceFile};
-pub use names::{FirstDefinition, Names};
+pub use names::{FirstDefinition, TextNames};
 pub use outcome::Assembled;
 pub use repeats::{Definitions, define_names};
 pub use valid_laws::{answers_are_valid, parts_are_valid};

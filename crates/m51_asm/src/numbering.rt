@@ -13,7 +13,7 @@ ghost use Rattle.m51_asm.specs.Passing.{IsPlaced};
 ghost use Rattle.m51_asm.specs.Numbering.{number_at, segment_filled, segment_added, as_list, next_number, IsNumbering};
 
 use crate::filled::Filled;
-use crate::placing::Placing;
+use crate::placing::PassOneState;
 use crate::segments::{OPENING, OpenSegment};
 use crate::stepping::LinePlace;
 use m51_cells::{Bytes, Kind, ListOf, Name, NoMemory, Reloc, same_kind};
@@ -148,7 +148,7 @@ pub(crate) fn number_segments(
     alloc: Global,
     lines: &[Line],
     places: &[LinePlace],
-    end: &Placing,
+    end: &PassOneState,
 ) -> Result<Numbering, NoMemory>
     requires text { IsText (map line_tree lines.now) }
     requires few { length lines.now ≤ 65536 }

@@ -6,9 +6,9 @@ ghost use Rattle.m51_asm.specs.ObjectMeanings.{object_base, object_value, is_fix
 ghost use Rattle.m51_asm.specs.Numbering.{number_at};
 
 use crate::above::is_bitaddressable;
-use crate::names::Names;
+use crate::names::TextNames;
 use crate::numbering::{Numbering, number_at};
-use crate::placing::{NamedText, Placing};
+use crate::placing::{NamedText, PassOneState};
 use crate::stepping::LinePlace;
 use crate::valuation::Values;
 use crate::values::{Located, Origin};
@@ -76,7 +76,7 @@ pub(crate) struct PlacedText<'a> {
     /// Where each line is.
     pub(crate) places: &'a [LinePlace],
     /// What is kept of all lines.
-    pub(crate) end: &'a Placing,
+    pub(crate) end: &'a PassOneState,
     pub(crate) numbering: &'a Numbering,
 }
 
@@ -114,7 +114,7 @@ impl<'a> Lookup for ObjectNames<'a> {
 
 /// What names and a place mean, by these parts of what is kept.
 pub(crate) fn names_of<'a>(
-    names: &'a Names,
+    names: &'a TextNames,
     kept: &'a Values,
     set: &'a Values,
     numbering: &'a Numbering,

@@ -8,7 +8,7 @@ ghost use Rattle.m51_asm.specs.Repeats.{IsFirstRepeat};
 ghost use Rattle.m51_asm.specs.Placing.{IsTableOf};
 ghost use Rattle.m51_asm.specs.Passing.{is_reached, IsPassed};
 
-use crate::placing::{NamedText, Placing};
+use crate::placing::{NamedText, PassOneState};
 use crate::stepping::{LineOutcome, LinePlace, step};
 use m51_cells::{DEFINED_TWICE, ListOf, NoMemory};
 use std::alloc::Global;
@@ -19,7 +19,7 @@ pub(crate) enum Passed {
     /// The first line that has a fault, counted from 0, and the number of the fault.
     Fault(usize, u8),
     /// No line has one: where each is, and what is kept of them all.
-    Stands(ListOf<LinePlace>, Placing),
+    Stands(ListOf<LinePlace>, PassOneState),
 }
 
 // Whether the first line that repeats is line k or above it.
@@ -48,17 +48,14 @@ pub(crate) fn place_lines(
 {
     let lines = text.lines;
     let mut places = ListOf::new(alloc);
-    let mut placing = Placing::start(alloc);
+    let mut placing = PassOneState::start(alloc);
     for (k, line) in lines.iter().enumerate() {
         if is_reached(repeated, k) {
             return Ok(Passed::Fault(k, DEFINED_TWICE));
         }
-        match step(alloc, text, k, placing, line)? {
+        match step(alloc, text, k, &mut placing, line)? {
             LineOutcome::Fault(number) => return Ok(Passed::Fault(k, number)),
-            LineOutcome::Stands(next, place) => {
-                placing = next;
-                places.push(place)?;
-            }
+            LineOutcome::Stands(place) => places.push(place)?,
         }
     }
     Ok(Passed::Stands(places, placing))

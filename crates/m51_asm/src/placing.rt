@@ -1,5 +1,5 @@
 //! What is kept of the lines above a line, and how it grows with the line.
-ghost use Rattle.std.specs.Prelude.{◌≡◌, ◌<◌, ◌≤◌, ◌+◌, ℕ, suc, None, Some, List, false, map, slice_get, IfOk};
+ghost use Rattle.std.specs.Prelude.{◌≡◌, ◌<◌, ◌≤◌, ◌+◌, ℕ, suc, None, Some, List, false, map, slice_get, IfOk, OnOk};
 ghost use Rattle.m51_stmt.specs.Statement.{body_tree};
 ghost use Rattle.m51_text.specs.Answer.{LineTree, line_tree};
 ghost use Rattle.m51_asm.specs.FewNames.{HasFewNames};
@@ -16,9 +16,9 @@ use crate::counts::Counts;
 use crate::definitions::definitions_in;
 use crate::filled::Filled;
 use crate::giving::{Giving, take_in};
-use crate::names::Names;
+use crate::names::TextNames;
 use crate::segments::{LastAbsolute, OPENING, OpenSegment};
-use crate::told::{Told, named_by, tell};
+use crate::told::{LineFacts, named_by, tell};
 use crate::valuation::Values;
 use crate::values::{Located, Origin};
 use m51_cells::NoMemory;
@@ -30,13 +30,13 @@ use std::alloc::Global;
 #[derive(Clone, Copy)]
 pub(crate) struct NamedText<'a> {
     pub(crate) lines: &'a [Line],
-    pub(crate) names: &'a Names,
+    pub(crate) names: &'a TextNames,
     pub(crate) mod51: bool,
 }
 
 /// What is kept of the lines above a line.
 #[derive(Drop)]
-pub(crate) struct Placing {
+pub(crate) struct PassOneState {
     /// The values that they give to names.
     pub(crate) values: Values,
     /// The sizes of the segments.
@@ -70,9 +70,9 @@ pub(crate) fn told_of(
     alloc: Global,
     text: &NamedText<'_>,
     k: usize,
-    placing: &Placing,
+    placing: &PassOneState,
     line: &Line,
-) -> Result<Told, NoMemory>
+) -> Result<LineFacts, NoMemory>
     requires within { k < 65536 }
     requires line { slice_get (map line_tree text.now.lines.now) k ≡ Some (line_tree line.now) }
     requires few { HasFewNames (body_tree line.now.stmt.body) }
@@ -109,15 +109,15 @@ pub(crate) fn told_of(
     Ok(told)
 }
 
-impl Placing {
+impl PassOneState {
     /// Before the first line.
-    pub(crate) fn start(alloc: Global) -> Placing
+    pub(crate) fn start(alloc: Global) -> PassOneState
         ensures { (lines : List LineTree) (a : Assignment) → Fits lines a → IsAt lines a 0 result }
     {
         let values = Values::new(alloc);
         let filled = Filled::new(alloc);
         let last = LastAbsolute::of_first(OPENING);
-        Placing {
+        PassOneState {
             values,
             filled,
             segment: OPENING,
@@ -128,25 +128,25 @@ impl Placing {
         }
     }
 
-    /// The state after line k, which has no fault, from the state before it and what follows for it. The only error is
-    /// out of memory.
-    pub(crate) fn after(
-        self,
+    /// Takes in line k, which has no fault, by what follows for it from the state before it. The only error is out of
+    /// memory.
+    pub(crate) fn take_in(
+        &mut self,
         alloc: Global,
         k: usize,
         line: &Line,
-        told: &Told,
+        told: &LineFacts,
         counts: &Counts,
-    ) -> Result<Placing, NoMemory>
+    ) -> Result<(), NoMemory>
         requires within { k < 65536 }
         requires next { counts.now.next ≤ 65535 }
         requires segments { counts.now.segments ≤ 255 }
         requires externals { counts.now.externals ≤ 255 }
-        requires declared { self.externals + externals_in (body_tree line.now.stmt.body) ≤ 255 }
-        ensures { IfOk result (λ s. (lines : List LineTree) (a : Assignment) → Fits lines a
+        requires declared { self.old.externals + externals_in (body_tree line.now.stmt.body) ≤ 255 }
+        ensures { OnOk result ((lines : List LineTree) (a : Assignment) → Fits lines a
             → slice_get lines k ≡ Some (line_tree line.now) → placed_fault lines a k ≡ None
-            → IsAt lines a k self → IsTold lines a k told.now → IsCounted lines a k counts.now
-            → IsAt lines a (suc k) s) }
+            → IsAt lines a k self.old → IsTold lines a k told.now → IsCounted lines a k counts.now
+            → IsAt lines a (suc k) self.new) }
     {
         let defined = definitions_in(alloc, &line.stmt)?;
         let giving = Giving {
@@ -155,25 +155,13 @@ impl Placing {
             line: k,
             externals: self.externals,
         };
-        let Placing {
-            values: before,
-            filled: sizes,
-            last,
-            bank,
-            ..
-        } = self;
-        let mut values = before;
-        take_in(alloc, &mut values, &giving, &defined)?;
-        let mut filled = sizes;
-        filled.set(told.next.id, counts.next as u16)?;
-        Ok(Placing {
-            values,
-            filled,
-            segment: told.next,
-            last: last.with(told.next),
-            bank: told.operand.bank(bank),
-            segments: counts.segments as u8,
-            externals: counts.externals as u8,
-        })
+        take_in(alloc, &mut self.values, &giving, &defined)?;
+        self.filled.set(told.next.id, counts.next as u16)?;
+        self.segment = told.next;
+        self.last.note(told.next);
+        self.bank = told.operand.bank(self.bank);
+        self.segments = counts.segments as u8;
+        self.externals = counts.externals as u8;
+        Ok(())
     }
 }

@@ -1,7 +1,7 @@
 //! The segments of a text, and the one that a line leaves open.
-ghost use Rattle.std.specs.Prelude.{◌≡◌, ◌<◌, ◌&&◌, ◌+◌, map, option_map, unwrap_or, None};
+ghost use Rattle.std.specs.Prelude.{◌≡◌, ◌<◌, ◌+◌, if◌then◌else◌, map, option_map, unwrap_or, None, Some};
 ghost use Rattle.m51_cells.specs.declared.kind.Kind.{Kind};
-ghost use Rattle.m51_cells.specs.Kinds.{is_absolute};
+ghost use Rattle.m51_cells.specs.Kinds.{is_absolute, same_kind};
 ghost use Rattle.m51_expr.specs.Meanings.{Meanings};
 ghost use Rattle.m51_stmt.specs.Statement.{body_tree};
 ghost use Rattle.m51_text.specs.Answer.{line_tree};
@@ -14,7 +14,7 @@ ghost use Rattle.m51_asm.specs.Operands.{operand_number};
 use crate::above::reloc_at;
 use crate::definitions::How;
 use crate::names::FirstDefinition;
-use m51_cells::{Kind, Reloc, is_absolute, same_kind};
+use m51_cells::{Kind, Reloc, is_absolute};
 use m51_stmt::Body;
 use m51_text::Line;
 
@@ -134,24 +134,12 @@ pub(crate) struct LastAbsolute {
     number: Option<OpenSegment>,
 }
 
-// A segment, where it is an absolute one of the kind, or else another.
-fn last_of(segment: OpenSegment, kind: Kind, last: Option<OpenSegment>) -> Option<OpenSegment>
-    ensures { option_map text_segment result
-        ≡ last_with (text_segment segment) (λ k. option_map text_segment last) kind }
-{
-    if is_absolute(segment.reloc) && same_kind(segment.kind, kind) {
-        Some(segment)
-    } else {
-        last
-    }
-}
-
 impl LastAbsolute {
     /// This one only.
     pub(crate) fn of_first(segment: OpenSegment) -> LastAbsolute
         ensures { (kind : Kind) → last_in result kind ≡ last_with (text_segment segment) (λ k. None) kind }
     {
-        let none = LastAbsolute {
+        let mut last = LastAbsolute {
             code: None,
             xdata: None,
             direct: None,
@@ -159,7 +147,8 @@ impl LastAbsolute {
             bits: None,
             number: None,
         };
-        none.with(segment)
+        last.note(segment);
+        last
     }
 
     /// The last one of a kind.
@@ -176,17 +165,27 @@ impl LastAbsolute {
         }
     }
 
-    /// With one more segment, which may be absolute.
-    pub(crate) fn with(self, segment: OpenSegment) -> LastAbsolute
-        ensures { (kind : Kind) → last_in result kind ≡ last_with (text_segment segment) (last_in self) kind }
+    // Sets the segment of its kind.
+    fn set(&mut self, segment: OpenSegment)
+        ensures { (kind : Kind) → last_in self.new kind
+            ≡ (if same_kind segment.kind kind then Some (text_segment segment) else last_in self.old kind) }
     {
-        LastAbsolute {
-            code: last_of(segment, Kind::Code, self.code),
-            xdata: last_of(segment, Kind::Xdata, self.xdata),
-            direct: last_of(segment, Kind::Direct, self.direct),
-            idata: last_of(segment, Kind::Idata, self.idata),
-            bits: last_of(segment, Kind::Bits, self.bits),
-            number: last_of(segment, Kind::Number, self.number),
+        match segment.kind {
+            Kind::Code => self.code = Some(segment),
+            Kind::Xdata => self.xdata = Some(segment),
+            Kind::Direct => self.direct = Some(segment),
+            Kind::Idata => self.idata = Some(segment),
+            Kind::Bits => self.bits = Some(segment),
+            Kind::Number => self.number = Some(segment),
+        }
+    }
+
+    /// Notes one more segment, which may be absolute.
+    pub(crate) fn note(&mut self, segment: OpenSegment)
+        ensures { (kind : Kind) → last_in self.new kind ≡ last_with (text_segment segment) (last_in self.old) kind }
+    {
+        if is_absolute(segment.reloc) {
+            self.set(segment);
         }
     }
 }

@@ -1,4 +1,4 @@
-//! The outcome of a line in pass 1: its fault, or its place and the state after it.
+//! The outcome of a line in pass 1: its fault, or its place.
 ghost use Rattle.std.specs.Prelude.{◌≡◌, ◌<◌, suc, Some, false, map, slice_get, IfOk};
 ghost use Rattle.m51_stmt.specs.Statement.{body_tree};
 ghost use Rattle.m51_text.specs.Answer.{line_tree};
@@ -12,9 +12,9 @@ ghost use Rattle.m51_asm.specs.Operands.{fault_of};
 ghost use Rattle.m51_asm.specs.Placing.{IsTableOf, IsAt, IsLineOutcome, passes, are_too_many, fault_by};
 
 use crate::counts::{Counts, are_too_many, count, fault_by, is_misplaced, passes};
-use crate::placing::{NamedText, Placing, told_of};
+use crate::placing::{NamedText, PassOneState, told_of};
 use crate::segments::OpenSegment;
-use crate::told::Told;
+use crate::told::LineFacts;
 use crate::values::Located;
 use m51_cells::NoMemory;
 use m51_isa::Jump;
@@ -45,12 +45,12 @@ pub(crate) struct LinePlace {
 pub(crate) enum LineOutcome {
     /// The number of its fault.
     Fault(u8),
-    /// It has none: the state after it, and its place.
-    Stands(Placing, LinePlace),
+    /// It has none: its place.
+    Stands(LinePlace),
 }
 
 // The fault of a line that repeats nothing.
-fn fault_of(segment: OpenSegment, told: &Told, counts: &Counts, body: &Body) -> Option<u8>
+fn fault_of(segment: OpenSegment, told: &LineFacts, counts: &Counts, body: &Body) -> Option<u8>
     ensures { result ≡ fault_by (passes (text_segment told.now.next) counts.now.next)
         (is_misplaced (text_segment segment) (body_tree body.now))
         (are_too_many counts.now.segments counts.now.externals) (fault_of told.now.operand) }
@@ -61,13 +61,13 @@ fn fault_of(segment: OpenSegment, told: &Told, counts: &Counts, body: &Body) -> 
     fault_by(past, misplaced, many, told.operand.fault())
 }
 
-/// The outcome of line k, from the state after the lines above. The line defines no name a second time. The only error
-/// is out of memory.
+/// The outcome of line k, which is taken into the state after the lines above if it has no fault. The line defines no
+/// name a second time. The only error is out of memory.
 pub(crate) fn step(
     alloc: Global,
     text: &NamedText<'_>,
     k: usize,
-    placing: Placing,
+    placing: &mut PassOneState,
     line: &Line,
 ) -> Result<LineOutcome, NoMemory>
     requires within { k < 65536 }
@@ -77,10 +77,10 @@ pub(crate) fn step(
     requires predefined { text.now.mod51 ≡ mod51 (map line_tree text.now.lines.now) }
     requires once { is_repeated (map line_tree text.now.lines.now) k ≡ false }
     ensures { IfOk result (λ step. (a : Assignment) → Fits (map line_tree text.now.lines.now) a
-        → IsAt (map line_tree text.now.lines.now) a k placing
-        → IsLineOutcome (map line_tree text.now.lines.now) a k step) }
+        → IsAt (map line_tree text.now.lines.now) a k placing.old
+        → IsLineOutcome (map line_tree text.now.lines.now) a k placing.new step) }
 {
-    let told = told_of(alloc, text, k, &placing, line)?;
+    let told = told_of(alloc, text, k, placing, line)?;
     let segment = placing.segment;
     let body = &line.stmt.body;
     let counts = count(
@@ -105,8 +105,8 @@ pub(crate) fn step(
                 selected: told.operand.bank(placing.bank),
                 given: told.operand.given(),
             };
-            let next = placing.after(alloc, k, line, &told, &counts)?;
-            Ok(LineOutcome::Stands(next, place))
+            placing.take_in(alloc, k, line, &told, &counts)?;
+            Ok(LineOutcome::Stands(place))
         }
     }
 }

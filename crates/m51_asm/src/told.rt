@@ -15,7 +15,7 @@ ghost use Rattle.m51_asm.specs.Operands.{operand_number, IsOperand};
 ghost use Rattle.m51_asm.specs.Table.{first_in};
 
 use crate::labelled::{Labelled, form_of};
-use crate::names::Names;
+use crate::names::TextNames;
 use crate::operands::{Evaluated, evaluate_operand};
 use crate::segments::{LastAbsolute, OpenSegment, declared_first, open_behind};
 use crate::sizes::size_by;
@@ -28,7 +28,7 @@ use std::alloc::Global;
 
 /// What follows for a line from the lines above it.
 #[derive(Clone, Copy)]
-pub(crate) struct Told {
+pub(crate) struct LineFacts {
     /// Its place.
     pub(crate) here: Located,
     /// The form of its JMP or CALL.
@@ -42,7 +42,12 @@ pub(crate) struct Told {
 }
 
 /// The segment that the name of an RSEG names, if it is one that is declared above line k.
-pub(crate) fn named_by(lines: &[Line], names: &Names, k: usize, body: &Body) -> Option<OpenSegment>
+pub(crate) fn named_by(
+    lines: &[Line],
+    names: &TextNames,
+    k: usize,
+    body: &Body,
+) -> Option<OpenSegment>
     requires { k < 65536 }
     ensures { option_map text_segment result
         ≡ named_by (λ name. declared_first (map line_tree lines.now) k (first_in names.now name)) (body_tree body.now) }
@@ -64,7 +69,7 @@ pub(crate) fn tell<P: Places>(
     named: Option<OpenSegment>,
     segment: OpenSegment,
     body: &Body,
-) -> Result<Told, NoMemory>
+) -> Result<LineFacts, NoMemory>
     requires within { k < 65536 }
     requires few { HasFewNames (body_tree body.now) }
     ensures form { IfOk result (λ t. t.form ≡ form_by (with_label (P.meanings names.now) label) (body_tree body.now)) }
@@ -84,7 +89,7 @@ pub(crate) fn tell<P: Places>(
     let number = operand.number();
     let size = size_by(form, number, body);
     let next = open_behind(k, last, named, segment, number, body);
-    Ok(Told {
+    Ok(LineFacts {
         here: names.here(),
         form,
         size,

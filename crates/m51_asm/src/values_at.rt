@@ -5,11 +5,10 @@ ghost use Rattle.m51_text.specs.Answer.{LineTree, line_tree};
 ghost use Rattle.m51_asm.specs.Assignment.{Assignment};
 ghost use Rattle.m51_asm.specs.Located.{located_value};
 ghost use Rattle.m51_asm.specs.Placing.{IsPlaceOf};
-ghost use Rattle.m51_asm.specs.ValuesAt.{value_by_first, value_at, IsSetAt, is_label, set_in, PutsIf};
+ghost use Rattle.m51_asm.specs.ValuesAt.{value_at, IsSetAt, is_label, set_in, PutsIf};
 
 use crate::above::undefined_value;
-use crate::definitions::How;
-use crate::names::{FirstDefinition, Names};
+use crate::names::{TextNames, sets};
 use crate::stepping::LinePlace;
 use crate::valuation::Values;
 use crate::values::Located;
@@ -22,7 +21,7 @@ use std::alloc::Global;
 #[derive(Clone, Copy)]
 pub(crate) struct ValuesAt<'a> {
     /// The names of the text.
-    pub(crate) names: &'a Names,
+    pub(crate) names: &'a TextNames,
     /// The values that the whole text gives.
     pub(crate) kept: &'a Values,
     /// Those that the SET statements above the line gave.
@@ -32,38 +31,22 @@ pub(crate) struct ValuesAt<'a> {
     pub(crate) bank: u8,
 }
 
-// The value of a name of this first definition.
-fn value_by_first(
-    undefined: Option<Located>,
-    set: Option<Located>,
-    kept: Option<Located>,
-    first: Option<FirstDefinition>,
-) -> Option<Located>
-    ensures { option_map located_value result ≡ value_by_first (option_map located_value undefined)
-        (option_map located_value set) (option_map located_value kept) first }
-{
-    match first {
-        Some(first) => match first.how {
-            How::Set => set,
-            _ => kept,
-        },
-        None => undefined,
-    }
-}
-
 impl<'a> ValuesAt<'a> {
     /// The value of a name at the line, if it has one.
     pub(crate) fn of(&self, name: &Name) -> Option<Located>
         ensures { option_map located_value result ≡ value_at self.now.names.now self.now.kept.now self.now.set.now
             self.now.mod51 self.now.bank name.now }
     {
-        let undefined = undefined_value(self.mod51, self.bank, name);
-        value_by_first(
-            undefined,
-            self.set.get(name),
-            self.kept.get(name),
-            self.names.first(name),
-        )
+        match self.names.first(name) {
+            Some(first) => {
+                if sets(first.how) {
+                    self.set.get(name)
+                } else {
+                    self.kept.get(name)
+                }
+            }
+            None => undefined_value(self.mod51, self.bank, name),
+        }
     }
 }
 

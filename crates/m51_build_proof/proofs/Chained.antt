@@ -1,5 +1,6 @@
 -- The top call keeps the headline.
-use Rattle.std.proofs.Common.{◌≡◌, ◌⊎◌, inl, inr, ℕ, Bool, true, false, cond, nat_le, List, [], ◌∷◌, length, Option, Some, None, refl, sym, ap, subst, ◌∙◌}
+use Rattle.std.proofs.Common.{◌≡◌, ◌⊎◌, inl, inr, ℕ, Bool, true, false, cond, nat_le, List, [], ◌∷◌, length, Option}
+use Rattle.std.proofs.Common.{Some, None, refl, sym, ap, subst, ◌∙◌}
 use Rattle.std.proofs.lemmas.List.Elements.{All-cons, All-nil}
 use Rattle.std.proofs.lemmas.Option.{same_Some}
 use Rattle.m51_cells.specs.declared.limits.TheConstants.{MOST_FILE_BYTES}
@@ -25,21 +26,29 @@ use Rattle.m51_build_proof.proofs.Promised.{headline}
 whole_same : (xs ys : List (List ℕ)) → Whole xs ≡ Whole ys → xs ≡ ys
 whole_same xs ys h = cc h
 
-one_of_bytes : (file : List ℕ) (rest : Reading) (contents : List (List ℕ)) (b : Bool) → AreBytes file → ((more : List (List ℕ)) → rest ≡ Whole more → AreOfBytes more)
+one_of_bytes : (file : List ℕ) (rest : Reading) (contents : List (List ℕ)) (b : Bool) → AreBytes file
+    → ((more : List (List ℕ)) → rest ≡ Whole more → AreOfBytes more)
     → cond b (with_file file rest) TooLong ≡ Whole contents → AreOfBytes contents
-one_of_bytes file (Whole more) contents true h k e = subst AreOfBytes (whole_same (file ∷ more) contents e) (All-cons AreBytes file more h (k more refl))
+one_of_bytes file (Whole more) contents true h k e =
+    subst AreOfBytes (whole_same (file ∷ more) contents e) (All-cons AreBytes file more h (k more refl))
 one_of_bytes file TooLong contents true h k e = absurd (cc e)
 one_of_bytes file (Absent name) contents true h k e = absurd (cc e)
 one_of_bytes file rest contents false h k e = absurd (cc e)
 
-named_of_bytes : (held : Files) → HoldBytes held → (name : List ℕ) (o : Option (List ℕ)) (rest : Reading) (contents : List (List ℕ)) → held name ≡ o
-    → ((more : List (List ℕ)) → rest ≡ Whole more → AreOfBytes more) → read_one name o rest ≡ Whole contents → AreOfBytes contents
+named_of_bytes : (held : Files) → HoldBytes held
+    → (name : List ℕ) (o : Option (List ℕ)) (rest : Reading) (contents : List (List ℕ)) → held name ≡ o
+    → ((more : List (List ℕ)) → rest ≡ Whole more → AreOfBytes more) → read_one name o rest ≡ Whole contents
+    → AreOfBytes contents
 named_of_bytes held h name None rest contents is k e = absurd (cc e)
-named_of_bytes held h name (Some file) rest contents is k e = one_of_bytes file rest contents (nat_le (length file) MOST_FILE_BYTES) (h name file is) k e
+named_of_bytes held h name (Some file) rest contents is k e =
+    one_of_bytes file rest contents (nat_le (length file) MOST_FILE_BYTES) (h name file is) k e
 
-of_bytes : (held : Files) → HoldBytes held → (names contents : List (List ℕ)) → read_of held names ≡ Whole contents → AreOfBytes contents
+of_bytes : (held : Files) → HoldBytes held → (names contents : List (List ℕ)) → read_of held names ≡ Whole contents
+    → AreOfBytes contents
 of_bytes held h [] contents e = subst AreOfBytes (whole_same [] contents e) (All-nil AreBytes)
-of_bytes held h (name ∷ names) contents e = named_of_bytes held h name (held name) (read_of held names) contents refl (λ more is. of_bytes held h names more is) e
+of_bytes held h (name ∷ names) contents e =
+    named_of_bytes held h name (held name) (read_of held names) contents refl (λ more is. of_bytes held h names more is)
+    e
 
 -- status 0 or 1
 is_run : Status → Bool
@@ -50,7 +59,8 @@ is_run other = false
 not_run : (s t : Status) → s ≡ t → is_run s ≡ true → is_run t ≡ false → ⊥
 not_run s t same runs stays = absurd (cc (sym (ap is_run same) ∙ runs, stays))
 
-module _ (words : List (List ℕ)) (held : Files) (c : Change) (told : Status) (job : BuildJob) (asked : job_of words ≡ Some (Build job)) (bytes : HoldBytes held) (run : is_run told ≡ true) where
+module _ (words : List (List ℕ)) (held : Files) (c : Change) (told : Status) (job : BuildJob)
+    (asked : job_of words ≡ Some (Build job)) (bytes : HoldBytes held) (run : is_run told ≡ true) where
   ended_whole : (answer : Answer) → Ended answer c told → Written answer c told
   unfolding is_run
   ended_whole answer (WholeEnd whole) = whole
@@ -59,18 +69,23 @@ module _ (words : List (List ℕ)) (held : Files) (c : Change) (told : Status) (
   ended_whole answer (UnkeptCut e unkept rose text) = absurd (not_run told status.WriteFault e run refl)
 
   other_answer : (answer other : Answer) → answer ≡ other → Written answer c told → is_run other.status ≡ false → ⊥
-  other_answer answer other same w stays = not_run told other.status (w.status ∙ ap (λ (a : Answer). a.status) same) run stays
+  other_answer answer other same w stays =
+      not_run told other.status (w.status ∙ ap (λ (a : Answer). a.status) same) run stays
 
-  of_outcome : (asks : Job) (contents : List (List ℕ)) (answer : Answer) → asks ≡ Build job → read_of held (names_read asks) ≡ Whole contents → HasOutcome asks contents answer → Written answer c told → KeepsPromise job held c told
+  of_outcome : (asks : Job) (contents : List (List ℕ)) (answer : Answer) → asks ≡ Build job
+      → read_of held (names_read asks) ≡ Whole contents → HasOutcome asks contents answer → Written answer c told
+      → KeepsPromise job held c told
   of_outcome asks contents answer same read has w =
       let here : HasOutcome (Build job) contents answer = subst (λ (j : Job). HasOutcome j contents answer) same has in
-      let whole : read_of held (names_read (Build job)) ≡ Whole contents = subst (λ (j : Job). read_of held (names_read j) ≡ Whole contents) same read in
+      let whole : read_of held (names_read (Build job)) ≡ Whole contents =
+      subst (λ (j : Job). read_of held (names_read j) ≡ Whole contents) same read in
       record {
         contents = contents;
         read = whole;
         outcome = here.outcome;
         is = here.work;
-        promised = headline job contents here.outcome (of_bytes held bytes (names_read (Build job)) contents whole) here.work;
+        promised = headline job contents here.outcome (of_bytes held bytes (names_read (Build job)) contents whole)
+            here.work;
         done = subst (λ (a : Answer). Written a c told) here.is w;
       }
 
@@ -80,23 +95,29 @@ module _ (words : List (List ℕ)) (held : Files) (c : Change) (told : Status) (
   of_answer answer (Many j asks many is) w = absurd (other_answer answer many_answer is w refl)
   of_answer answer (NoFile j name asks few read is) w = absurd (other_answer answer (unread_answer name) is w refl)
   of_answer answer (LongFile j asks few read is) w = absurd (other_answer answer long_answer is w refl)
-  of_answer answer (Worked j contents asks few read has) w = of_outcome j contents answer (same_Some j (Build job) (sym asks ∙ asked)) read has w
+  of_answer answer (Worked j contents asks few read has) w =
+      of_outcome j contents answer (same_Some j (Build job) (sym asks ∙ asked)) read has w
 
-  of_told : (answer : Answer) → IsAnswer words held answer ⊎ IsUnread words (Some held) c answer → Ended answer c told → KeepsPromise job held c told
+  of_told : (answer : Answer) → IsAnswer words held answer ⊎ IsUnread words (Some held) c answer → Ended answer c told
+      → KeepsPromise job held c told
   unfolding is_run
   of_told answer (inl is) ended = of_answer answer is (ended_whole answer ended)
-  of_told answer (inr unread) ended = absurd (other_answer answer (unread_answer c.reads.named) unread.is (ended_whole answer ended) refl)
+  of_told answer (inr unread) ended =
+      absurd (other_answer answer (unread_answer c.reads.named) unread.is (ended_whole answer ended) refl)
 
 abbrev Tells : List (List ℕ) → Files → Change → Status → Type 0
-Tells words held c told = (answer : Answer) × (IsAnswer words held answer ⊎ IsUnread words (Some held) c answer) × Ended answer c told
+Tells words held c told = (answer : Answer) × (IsAnswer words held answer ⊎ IsUnread words (Some held) c answer)
+    × Ended answer c told
 
 pub chain_keeps_promise : ChainKeepsPromise
 unfolding is_run
 chain_keeps_promise words held c told job asked bytes tells run = elim run as (λ _. KeepsPromise job held c told) [
   | inl e ↦
       let t : Tells words held c status.Ran = subst (IsTold words held c) e tells in
-      subst (λ (s : Status). KeepsPromise job held c s) (sym e) (of_told words held c status.Ran job asked bytes refl t.0 t.1 t.2)
+      subst (λ (s : Status). KeepsPromise job held c s) (sym e)
+      (of_told words held c status.Ran job asked bytes refl t.0 t.1 t.2)
   | inr e ↦
       let t : Tells words held c status.Event = subst (IsTold words held c) e tells in
-      subst (λ (s : Status). KeepsPromise job held c s) (sym e) (of_told words held c status.Event job asked bytes refl t.0 t.1 t.2)
+      subst (λ (s : Status). KeepsPromise job held c s) (sym e)
+      (of_told words held c status.Event job asked bytes refl t.0 t.1 t.2)
 ]

@@ -1,5 +1,6 @@
 -- Chosen modules that no rule refuses meet each rule.
-use Rattle.std.proofs.Common.{◌≡◌, ℕ, ◌≤◌, Bool, true, false, cond, nat_lt, List, [], ◌∷◌, length, Option, Some, None, Ok, refl, subst}
+use Rattle.std.proofs.Common.{◌≡◌, ℕ, ◌≤◌, Bool, true, false, cond, nat_lt, List, [], ◌∷◌, length, Option, Some, None}
+use Rattle.std.proofs.Common.{Ok, refl, subst}
 use Rattle.std.specs.Prelude.{option_map}
 use Rattle.std.proofs.lemmas.Bool.{ltb-false}
 use Rattle.m51_cells.proofs.ListsAndOptions.{map_none}
@@ -12,10 +13,13 @@ use Rattle.m51_module.specs.declared.parts.ModuleParts.{ModuleParts}
 use Rattle.m51_graph.proofs.Judged.{none_of_both}
 use Rattle.m51_resolve.specs.Choice.{chosen_of, members_of}
 use Rattle.m51_resolve.specs.Joining.{segments_of}
-use Rattle.m51_resolve.specs.Rules.{AreResolved, contrary_external, first_of, first_refusal, large_segment, mixed_segment, more_than, resolved_of, shared_public, undefined_external, units_of, unless_refused}
+use Rattle.m51_resolve.specs.Rules.{AreResolved, contrary_external, first_of, first_refusal, large_segment}
+use Rattle.m51_resolve.specs.Rules.{mixed_segment, more_than, resolved_of, shared_public, undefined_external, units_of}
+use Rattle.m51_resolve.specs.Rules.{unless_refused}
 
 -- no rule fails
-fits_by : (most count : ℕ) (what : Quantity) (b : Bool) → nat_lt most count ≡ b → cond b (Some (Limit what)) None ≡ None → count ≤ most
+fits_by : (most count : ℕ) (what : Quantity) (b : Bool) → nat_lt most count ≡ b → cond b (Some (Limit what)) None ≡ None
+    → count ≤ most
 fits_by most count what true over h = absurd (cc h)
 fits_by most count what false over h = ltb-false most count over
 
@@ -55,11 +59,13 @@ record IsAnswered (chosen modules : List ModuleParts) : Type 0 where
   none : first_refusal chosen ≡ None
   is : chosen ≡ modules
 
-answered : (chosen modules : List ModuleParts) (o : Option Refusal) → first_refusal chosen ≡ o → unless_refused chosen o ≡ Ok modules → IsAnswered chosen modules
+answered : (chosen modules : List ModuleParts) (o : Option Refusal) → first_refusal chosen ≡ o
+    → unless_refused chosen o ≡ Ok modules → IsAnswered chosen modules
 answered chosen modules None is h = record { none = is; is = cc h }
 answered chosen modules (Some refusal) is h = absurd (cc h)
 
-pub chosen_resolved : (given : List ModuleParts) (libraries : List (List ModuleParts)) (modules : List ModuleParts) → resolved_of given libraries ≡ Ok modules → AreResolved modules
+pub chosen_resolved : (given : List ModuleParts) (libraries : List (List ModuleParts)) (modules : List ModuleParts)
+    → resolved_of given libraries ≡ Ok modules → AreResolved modules
 chosen_resolved given libraries modules h =
     let chosen = chosen_of given (members_of libraries) in
     let a = answered chosen modules (first_refusal chosen) refl h in

@@ -1,5 +1,6 @@
 -- What the lines of a source give are bytes.
-use Rattle.std.proofs.Common.{◌≡◌, ℕ, zero, suc, ◌%◌, ◌<◌, nat_lt, Bool, true, false, cond, List, [], ◌∷◌, ◌++◌, length, map, take, drop, Option, Some, None, Ok, Err, refl, sym, subst, arith}
+use Rattle.std.proofs.Common.{◌≡◌, ℕ, zero, suc, ◌%◌, ◌<◌, nat_lt, Bool, true, false, cond, List, [], ◌∷◌, ◌++◌, length}
+use Rattle.std.proofs.Common.{map, take, drop, Option, Some, None, Ok, Err, refl, sym, subst, arith}
 use Rattle.std.specs.Prelude.{IfSome}
 use Rattle.std.proofs.lemmas.Bool.{ltb-true}
 use Rattle.m51_cells.proofs.Passing.{same_Ok}
@@ -22,16 +23,20 @@ use Rattle.m51_expr.specs.Value.{Valued, counted}
 use Rattle.m51_expr.specs.Meanings.{Meanings}
 use Rattle.m51_expr.specs.Evaluation.{value_of}
 use Rattle.m51_expr.specs.Looks.{look_of as operand_look}
-use Rattle.m51_expr.specs.Operand.{OperandTree, A, Ab, C, Dptr, APc, ADptr, AtDptr, R, AtR, Imm, Plain, NotBit, ItemTree, Text, Value as ValueItem}
+use Rattle.m51_expr.specs.Operand.{OperandTree, A, Ab, C, Dptr, APc, ADptr, AtDptr, R, AtR, Imm, Plain, NotBit}
+use Rattle.m51_expr.specs.Operand.{ItemTree, Text, Value as ValueItem}
 use Rattle.m51_encode.specs.declared.filling.CodingError.{CodingError}
 use Rattle.m51_encode.specs.declared.reference.FieldValue.{FieldValue}
 use Rattle.m51_encode.specs.declared.reference.FieldValue.TheVariants.{Number, Linked}
 use Rattle.m51_encode.specs.declared.reference.Reference.{Reference}
 use Rattle.m51_encode.specs.declared.item.Width.TheVariants.{Byte, Word}
 use Rattle.m51_encode.specs.Bases.{is_current, is_linked, stands_absolute}
-use Rattle.m51_encode.specs.Coding.{Line, coded, coded_by, coded_line, first_of, gathered, line_of, line_row, look_in, second_of, third_of}
-use Rattle.m51_encode.specs.FieldValues.{addr11_of, block_of, distance, field_of, is_near, is_taken, rel_of, relative_of, same_block, stored_of, taken_of}
-use Rattle.m51_encode.specs.Filling.{Answer, and_then, expression, fielded, filled, filled_by, held_at, nothing as no_field, or_out_of_range, valued}
+use Rattle.m51_encode.specs.Coding.{Line, coded, coded_by, coded_line, first_of, gathered, line_of, line_row, look_in}
+use Rattle.m51_encode.specs.Coding.{second_of, third_of}
+use Rattle.m51_encode.specs.FieldValues.{addr11_of, block_of, distance, field_of, is_near, is_taken, rel_of}
+use Rattle.m51_encode.specs.FieldValues.{relative_of, same_block, stored_of, taken_of}
+use Rattle.m51_encode.specs.Filling.{Answer, and_then, expression, fielded, filled, filled_by, held_at}
+use Rattle.m51_encode.specs.Filling.{nothing as no_field, or_out_of_range, valued}
 use Rattle.m51_encode.specs.Items.{item_field}
 use Rattle.m51_encode.specs.Reference.{reference_of}
 use Rattle.m51_encode.specs.Taking.{held_of}
@@ -94,17 +99,21 @@ rel_small next target =
     field_cond (is_near d) (Some (Number (d % 256))) None (field_number (d % 256) (omega arith)) field_none
 
 addr11_small : (next target : ℕ) → IfField (addr11_of next target)
-addr11_small next target = field_cond (same_block target next) (Some (Number (target % 2048))) None (field_number (target % 2048) (omega arith)) field_none
+addr11_small next target =
+    field_cond (same_block target next) (Some (Number (target % 2048))) None
+    (field_number (target % 2048) (omega arith)) field_none
 
 relative_small : (names : Meanings) (next : ℕ) (v : Value) → IfField (relative_of names next v)
 relative_small names next v =
     field_cond (is_current names v.base) (rel_of next (counted v)) _ (rel_small next (counted v))
-    (field_cond (is_linked names v.base) (Some (Linked (reference_of field.Rel v))) _ (field_linked (reference_of field.Rel v))
+    (field_cond (is_linked names v.base) (Some (Linked (reference_of field.Rel v))) _
+    (field_linked (reference_of field.Rel v))
     (field_cond (stands_absolute names) (rel_of next (counted v)) None (rel_small next (counted v)) field_none))
 
 block_small : (names : Meanings) (next : ℕ) (v : Value) → IfField (block_of names next v)
 block_small names next v =
-    field_cond (is_linked names v.base) (Some (Linked (reference_of field.Addr11 v))) _ (field_linked (reference_of field.Addr11 v))
+    field_cond (is_linked names v.base) (Some (Linked (reference_of field.Addr11 v))) _
+    (field_linked (reference_of field.Addr11 v))
     (field_cond (stands_absolute names) (addr11_of next (counted v)) None (addr11_small next (counted v)) field_none)
 
 held_small : (at : Field) (n : ℕ) → n < 65536 → held_of at n < 65536
@@ -121,7 +130,9 @@ stored_by true r n h = field_linked r
 stored_by false r n h = field_number n h
 
 stored_small : (names : Meanings) (at : Field) (v : Value) → IsSmall v → IfField (Some (stored_of names at v))
-stored_small names at v h = stored_by (is_linked names v.base) (reference_of at v) (held_of at (counted v)) (held_small at (counted v) (counted_small v h))
+stored_small names at v h =
+    stored_by (is_linked names v.base) (reference_of at v) (held_of at (counted v))
+    (held_small at (counted v) (counted_small v h))
 
 taken_small : (names : Meanings) (at : Field) (next : ℕ) (v : Value) → IsSmall v → IfField (taken_of names at next v)
 taken_small names field.Rel next v h = relative_small names next v
@@ -134,7 +145,8 @@ taken_small names field.Addr16 next v h = stored_small names field.Addr16 v h
 
 field_small : (names : Meanings) (at : Field) (next : ℕ) (v : Value) → IsSmall v → IfField (field_of names at next v)
 unfolding field_of
-field_small names at next v h = field_cond (is_taken names at v) (taken_of names at next v) None (taken_small names at next v h) field_none
+field_small names at next v h =
+    field_cond (is_taken names at v) (taken_of names at next v) None (taken_small names at next v h) field_none
 
 -- what an operand gives in its field
 record IfHeld (r : Answer Held) : Type 0 where
@@ -146,13 +158,16 @@ ok_held x = Ok x
 held_ok : (x : Held) → x.number < 65536 → IfHeld (Ok x)
 held_ok x h = record { holds = λ y e. subst (λ (z : Held). z.number < 65536) (same_Ok {E = CodingError} x y e) h }
 
-in_field : (byte : ℕ) (o : Option FieldValue) → IfField o → IfHeld (and_then (or_out_of_range o) (λ held. ok_held (held_at byte held)))
+in_field : (byte : ℕ) (o : Option FieldValue) → IfField o
+    → IfHeld (and_then (or_out_of_range o) (λ held. ok_held (held_at byte held)))
 in_field byte (Some (Number n)) h = held_ok (held_at byte (Number n)) (h.holds n refl)
 in_field byte (Some (Linked r)) h = held_ok (held_at byte (Linked r)) (omega arith)
 in_field byte None h = record { holds = λ x e. absurd (cc e) }
 
-valued_small : (names : Meanings) (next : ℕ) (at : Field) (byte : ℕ) (v : Valued Value) → IfSmall v → IfHeld (valued names next at byte v)
-valued_small names next at byte (Ok v) h = in_field byte (field_of names at next v) (field_small names at next v (h.holds v refl))
+valued_small : (names : Meanings) (next : ℕ) (at : Field) (byte : ℕ) (v : Valued Value) → IfSmall v
+    → IfHeld (valued names next at byte v)
+valued_small names next at byte (Ok v) h =
+    in_field byte (field_of names at next v) (field_small names at next v (h.holds v refl))
 valued_small names next at byte (Err e) h = record { holds = λ x e. absurd (cc e) }
 
 abbrev IfTree : Option Tree → Type 0
@@ -169,11 +184,14 @@ expression_small (Plain e) h = h
 expression_small (NotBit e) h = h
 expression_small o h = tt
 
-by_tree : (names : Meanings) → AreSmall names → (next : ℕ) (slot : FieldSlot) (t : Option Tree) → IfTree t → IfHeld (filled_by names next slot t)
+by_tree : (names : Meanings) → AreSmall names → (next : ℕ) (slot : FieldSlot) (t : Option Tree) → IfTree t
+    → IfHeld (filled_by names next slot t)
 by_tree names are next slot None h = held_ok no_field (omega arith)
-by_tree names are next slot (Some e) h = valued_small names next slot.field slot.byte (value_of names e) (value_small names are e h)
+by_tree names are next slot (Some e) h =
+    valued_small names next slot.field slot.byte (value_of names e) (value_small names are e h)
 
-filled_small : (names : Meanings) → AreSmall names → (next : ℕ) (slot : Option FieldSlot) (o : Option OperandTree) → IfOperand o → IfHeld (filled names next slot o)
+filled_small : (names : Meanings) → AreSmall names → (next : ℕ) (slot : Option FieldSlot) (o : Option OperandTree)
+    → IfOperand o → IfHeld (filled names next slot o)
 filled_small names are next (Some slot) (Some o) h = by_tree names are next slot (expression o) (expression_small o h)
 filled_small names are next (Some slot) None h = held_ok no_field (omega arith)
 filled_small names are next None o h = held_ok no_field (omega arith)
@@ -183,7 +201,8 @@ zeros : IsBytes (0 ∷ 0 ∷ 0 ∷ [])
 zeros = (omega arith, (omega arith, (omega arith, tt)))
 
 front_bytes : (xs : List ℕ) → IsBytes xs → IsBytes (take (length xs) (padded xs))
-front_bytes xs h = bytes_take (length xs) (padded xs) (bytes_take 3 (xs ++ 0 ∷ 0 ∷ 0 ∷ []) (bytes_append xs (0 ∷ 0 ∷ 0 ∷ []) h zeros))
+front_bytes xs h = bytes_take (length xs) (padded xs)
+    (bytes_take 3 (xs ++ 0 ∷ 0 ∷ 0 ∷ []) (bytes_append xs (0 ∷ 0 ∷ 0 ∷ []) h zeros))
 
 -- what the operands of a row look like
 record LooksFit (i : Instr) : Type 0 where
@@ -191,7 +210,8 @@ record LooksFit (i : Instr) : Type 0 where
   second : LookFits (look_of (text_of i).second)
   third : LookFits (look_of (text_of i).third)
 
-gathered_bytes : (i : Instr) → LooksFit i → (x y z : Answer Held) → IfHeld x → IfHeld y → IfHeld z → IsBytes (coded_content (gathered i x y z)).bytes
+gathered_bytes : (i : Instr) → LooksFit i → (x y z : Answer Held) → IfHeld x → IfHeld y → IfHeld z
+    → IsBytes (coded_content (gathered i x y z)).bytes
 gathered_bytes i fit (Err e) y z hx hy hz = tt
 gathered_bytes i fit (Ok a) (Err e) z hx hy hz = tt
 gathered_bytes i fit (Ok a) (Ok b) (Err e) hx hy hz = tt
@@ -225,7 +245,8 @@ look_fits : (o : Option OperandTree) → LookFits (look_in o)
 look_fits (Some o) = operand_fits o
 look_fits None = tt
 
-written_fits : (word : List ℕ) (a b c : Look) (i : Instr) → IsWritten word a b c i → LookFits a → LookFits b → LookFits c → LooksFit i
+written_fits : (word : List ℕ) (a b c : Look) (i : Instr) → IsWritten word a b c i → LookFits a → LookFits b
+    → LookFits c → LooksFit i
 written_fits word a b c i is ha hb hc = record {
   first = subst LookFits (sym is.first) ha;
   second = subst LookFits (sym is.second) hb;
@@ -235,71 +256,86 @@ written_fits word a b c i is ha hb hc = record {
 abbrev OperandsAre : Line → Type 0
 OperandsAre l = IfOperand l.first × (IfOperand l.second × IfOperand l.third)
 
-row_coded : (names : Meanings) → AreSmall names → (l : Line) → OperandsAre l → (o : Option Instr) → line_row l ≡ o → IsBytes (coded_content (coded_by names l o)).bytes
+row_coded : (names : Meanings) → AreSmall names → (l : Line) → OperandsAre l → (o : Option Instr) → line_row l ≡ o
+    → IsBytes (coded_content (coded_by names l o)).bytes
 row_coded names are l h None is = tt
 row_coded names are l h (Some i) is =
     let meant = texts_are_rows.meant l.mnemonic l.jump (look_in l.first) (look_in l.second) (look_in l.third) in
     let word = meant_by l.mnemonic l.jump (generic l.mnemonic (look_in l.first) (look_in l.second) (look_in l.third)) in
     let written : IsWritten word (look_in l.first) (look_in l.second) (look_in l.third) i =
-    subst (λ (o : Option Instr). IfSome o (IsWritten word (look_in l.first) (look_in l.second) (look_in l.third))) is meant in
+    subst (λ (o : Option Instr). IfSome o (IsWritten word (look_in l.first) (look_in l.second) (look_in l.third))) is
+    meant in
     gathered_bytes i (written_fits word _ _ _ i written (look_fits l.first) (look_fits l.second) (look_fits l.third))
     (first_of names i l.first) (second_of names i l.second) (third_of names i l.third)
-    (filled_small names are _ _ l.first h.0) (filled_small names are _ _ l.second h.1.0) (filled_small names are _ _ l.third h.1.1)
+    (filled_small names are _ _ l.first h.0) (filled_small names are _ _ l.second h.1.0)
+    (filled_small names are _ _ l.third h.1.1)
 
 abbrev IfLine : Option Line → Type 0
 IfLine None = Unit {0}
 IfLine (Some l) = OperandsAre l
 
-line_operands : (mnemonic : List ℕ) (operands : List OperandTree) (jump : Jump) → Each IsOperand operands → IfLine (line_of mnemonic operands jump)
+line_operands : (mnemonic : List ℕ) (operands : List OperandTree) (jump : Jump) → Each IsOperand operands
+    → IfLine (line_of mnemonic operands jump)
 line_operands mnemonic [] jump h = (tt, (tt, tt))
 line_operands mnemonic (a ∷ []) jump h = (h.0, (tt, tt))
 line_operands mnemonic (a ∷ b ∷ []) jump h = (h.0, (h.1.0, tt))
 line_operands mnemonic (a ∷ b ∷ c ∷ []) jump h = (h.0, (h.1.0, h.1.1.0))
 line_operands mnemonic (a ∷ b ∷ c ∷ d ∷ more) jump h = tt
 
-line_bytes : (names : Meanings) → AreSmall names → (o : Option Line) → IfLine o → IsBytes (coded_content (coded_line names o)).bytes
+line_bytes : (names : Meanings) → AreSmall names → (o : Option Line) → IfLine o
+    → IsBytes (coded_content (coded_line names o)).bytes
 line_bytes names are None h = tt
 line_bytes names are (Some l) h = row_coded names are l h (line_row l) refl
 
-code_bytes : (names : Meanings) → AreSmall names → (mnemonic : List ℕ) (operands : List OperandTree) (jump : Jump) → Each IsOperand operands → IsBytes (coded_content (coded names mnemonic operands jump)).bytes
+code_bytes : (names : Meanings) → AreSmall names → (mnemonic : List ℕ) (operands : List OperandTree) (jump : Jump)
+    → Each IsOperand operands → IsBytes (coded_content (coded names mnemonic operands jump)).bytes
 unfolding coded
-code_bytes names are mnemonic operands jump h = line_bytes names are (line_of mnemonic operands jump) (line_operands mnemonic operands jump h)
+code_bytes names are mnemonic operands jump h =
+    line_bytes names are (line_of mnemonic operands jump) (line_operands mnemonic operands jump h)
 
 -- items of DB and DW
-byte_bytes : (item : ItemTree) (r : Answer (Option FieldValue)) → IsTextItem item → IsBytes (item_given Byte item r).bytes
+byte_bytes : (item : ItemTree) (r : Answer (Option FieldValue)) → IsTextItem item
+    → IsBytes (item_given Byte item r).bytes
 byte_bytes item (Err e) h = tt
 byte_bytes (Text characters) (Ok held) h = each_bytes characters h
 byte_bytes (ValueItem e) (Ok (Some (Number n))) h = (omega arith, tt)
 byte_bytes (ValueItem e) (Ok (Some (Linked r))) h = (omega arith, tt)
 byte_bytes (ValueItem e) (Ok None) h = tt
 
-db_bytes : (names : Meanings) (items : List ItemTree) → Each IsTextItem items → IsBytes (joined (map (item_content names Byte) items)).bytes
+db_bytes : (names : Meanings) (items : List ItemTree) → Each IsTextItem items
+    → IsBytes (joined (map (item_content names Byte) items)).bytes
 db_bytes names [] h = tt
 db_bytes names (item ∷ items) h =
     bytes_append (item_content names Byte item).bytes (joined (map (item_content names Byte) items)).bytes
     (byte_bytes item (item_field names Byte item) h.0) (db_bytes names items h.1)
 
-word_field : (e : Tree) (o : Option FieldValue) → IfField o → IsBytes (item_given Word (ValueItem e) (and_then (or_out_of_range o) (λ held. Ok (Some held)))).bytes
+word_field : (e : Tree) (o : Option FieldValue) → IfField o
+    → IsBytes (item_given Word (ValueItem e) (and_then (or_out_of_range o) (λ held. Ok (Some held)))).bytes
 word_field e None h = tt
 word_field e (Some (Number n)) h = let less = h.holds n refl in (omega (arith, less), (omega arith, tt))
 word_field e (Some (Linked r)) h = (omega arith, (omega arith, tt))
 
-word_by : (names : Meanings) (e : Tree) (v : Valued Value) → IfSmall v → IsBytes (item_given Word (ValueItem e) (and_then (fielded names 0 field.Data16 v) (λ held. Ok (Some held)))).bytes
-word_by names e (Ok v) h = word_field e (field_of names field.Data16 0 v) (field_small names field.Data16 0 v (h.holds v refl))
+word_by : (names : Meanings) (e : Tree) (v : Valued Value) → IfSmall v
+    → IsBytes (item_given Word (ValueItem e) (and_then (fielded names 0 field.Data16 v) (λ held. Ok (Some held)))).bytes
+word_by names e (Ok v) h =
+    word_field e (field_of names field.Data16 0 v) (field_small names field.Data16 0 v (h.holds v refl))
 word_by names e (Err k) h = tt
 
-word_bytes : (names : Meanings) → AreSmall names → (item : ItemTree) → IsItem false item → IsBytes (item_content names Word item).bytes
+word_bytes : (names : Meanings) → AreSmall names → (item : ItemTree) → IsItem false item
+    → IsBytes (item_content names Word item).bytes
 word_bytes names are (ValueItem e) h = word_by names e (value_of names e) (value_small names are e h)
 word_bytes names are (Text characters) h = absurd (cc h)
 
-dw_bytes : (names : Meanings) → AreSmall names → (items : List ItemTree) → Each (IsItem false) items → IsBytes (joined (map (item_content names Word) items)).bytes
+dw_bytes : (names : Meanings) → AreSmall names → (items : List ItemTree) → Each (IsItem false) items
+    → IsBytes (joined (map (item_content names Word) items)).bytes
 dw_bytes names are [] h = tt
 dw_bytes names are (item ∷ items) h =
     bytes_append (item_content names Word item).bytes (joined (map (item_content names Word) items)).bytes
     (word_bytes names are item h.0) (dw_bytes names are items h.1)
 
 -- a line
-pub content_bytes : (names : Meanings) → AreSmall names → (jump : Jump) (b : BodyTree) → IsSmallBody b → IsBytes (content_by names jump b).bytes
+pub content_bytes : (names : Meanings) → AreSmall names → (jump : Jump) (b : BodyTree) → IsSmallBody b
+    → IsBytes (content_by names jump b).bytes
 content_bytes names are jump (body.Code mnemonic operands) h = code_bytes names are mnemonic operands jump h
 content_bytes names are jump (body.Db items) h = db_bytes names items h
 content_bytes names are jump (body.Dw items) h = dw_bytes names are items h

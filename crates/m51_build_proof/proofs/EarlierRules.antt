@@ -1,5 +1,6 @@
 -- The line of L12 comes only where the build comes as far as placing: no earlier step has it.
-use Rattle.std.proofs.Common.{◌≡◌, ℕ, ◌+◌, nat_eq, Bool, true, false, cond, List, [], ◌∷◌, length, Option, Some, None, Result, Ok, Err, refl, sym, ap, subst, ◌∙◌}
+use Rattle.std.proofs.Common.{◌≡◌, ℕ, ◌+◌, nat_eq, Bool, true, false, cond, List, [], ◌∷◌, length, Option, Some, None}
+use Rattle.std.proofs.Common.{Result, Ok, Err, refl, sym, ap, subst, ◌∙◌}
 use Rattle.std.specs.Prelude.{nat_lt, option_map}
 use Rattle.std.specs.List.{list_any}
 use Rattle.std.specs.Option.{option_or}
@@ -16,10 +17,12 @@ use Rattle.m51_module.specs.declared.linked.Refusal.TheVariants.{L1, L2, L3, L4,
 use Rattle.m51_module.specs.declared.parts.ModuleParts.{ModuleParts}
 use Rattle.m51_resolve.specs.Choice.{chosen_of, members_of}
 use Rattle.m51_resolve.specs.Joining.{segments_of}
-use Rattle.m51_resolve.specs.Rules.{contrary_external, first_refusal, large_segment, mixed_segment, more_than, resolved_of, shared_public, undefined_external, units_of, unless_refused}
+use Rattle.m51_resolve.specs.Rules.{contrary_external, first_refusal, large_segment, mixed_segment, more_than}
+use Rattle.m51_resolve.specs.Rules.{resolved_of, shared_public, undefined_external, units_of, unless_refused}
 use Rattle.m51_graph.specs.declared.parts.GraphParts.{GraphParts}
 use Rattle.m51_graph.specs.Drawing.{edges_of, fixup_edges}
-use Rattle.m51_graph.specs.Graphs.{cyclic_from, first_under_two, graph_of, has_overlaid, on_cycles, parts_of, roots_above, under_two, unit_under_two, unless}
+use Rattle.m51_graph.specs.Graphs.{cyclic_from, first_under_two, graph_of, has_overlaid, on_cycles, parts_of}
+use Rattle.m51_graph.specs.Graphs.{roots_above, under_two, unit_under_two, unless}
 use Rattle.m51_graph.specs.Leading.{leads}
 use Rattle.m51_graph.specs.Lines.{bad_line}
 use Rattle.m51_graph.specs.Locals.{lost_segment}
@@ -46,14 +49,16 @@ use Rattle.m51_build_proof.proofs.RefusalLines.{line_of_l12}
 
 module _ (name : List ℕ) where
   -- a rule is not L12, nor are those after it
-  next : (rule more : Option Refusal) → (rule ≡ Some (L12 name) → ⊥) → (more ≡ Some (L12 name) → ⊥) → option_or rule more ≡ Some (L12 name) → ⊥
+  next : (rule more : Option Refusal) → (rule ≡ Some (L12 name) → ⊥) → (more ≡ Some (L12 name) → ⊥)
+      → option_or rule more ≡ Some (L12 name) → ⊥
   next None more here later h = later h
   next (Some refusal) more here later h = here h
 
   no_more : None ≡ Some (L12 name) → ⊥
   no_more h = absurd (cc h)
 
-  other_rule : {A : Type 0} (make : A → Refusal) (found : Option A) → ((value : A) → make value ≡ L12 name → ⊥) → option_map make found ≡ Some (L12 name) → ⊥
+  other_rule : {A : Type 0} (make : A → Refusal) (found : Option A) → ((value : A) → make value ≡ L12 name → ⊥)
+      → option_map make found ≡ Some (L12 name) → ⊥
   other_rule make None differs h = no_more h
   other_rule make (Some value) differs h = differs value (same_Some (make value) (L12 name) h)
 
@@ -77,9 +82,11 @@ module _ (name : List ℕ) where
       (next _ _ (other_rule L5 (large_segment modules) (λ text e. absurd (cc e))) no_more)))))))
 
   -- none of the rules on the graph
-  on : {V : Type 0} (rule : Option Refusal) (after : Result V Refusal) → (rule ≡ Some (L12 name) → ⊥) → (after ≡ Err (L12 name) → ⊥) → unless rule after ≡ Err (L12 name) → ⊥
+  on : {V : Type 0} (rule : Option Refusal) (after : Result V Refusal) → (rule ≡ Some (L12 name) → ⊥)
+      → (after ≡ Err (L12 name) → ⊥) → unless rule after ≡ Err (L12 name) → ⊥
   on None after here later h = later h
-  on (Some refusal) after here later h = let same : refusal ≡ L12 name = cc h in here (ap (λ (r : Refusal). Some r) same)
+  on (Some refusal) after here later h = let same : refusal ≡ L12 name = cc h in
+      here (ap (λ (r : Refusal). Some r) same)
 
   no_reset : (b : Bool) → cond b None (Some L8) ≡ Some (L12 name) → ⊥
   no_reset true h = no_more h
@@ -98,21 +105,27 @@ module _ (name : List ℕ) where
   two_by title roots true h = no_two title roots h
   two_by title roots false h = no_more h
 
-  none_under : (reach : ℕ → ℕ → Bool) (roots : List (ℕ × ℕ)) (own : List (Option ℕ)) (unit : ℕ) (titles : List (List ℕ)) → first_under_two reach roots own unit titles ≡ Some (L12 name) → ⊥
+  none_under : (reach : ℕ → ℕ → Bool) (roots : List (ℕ × ℕ)) (own : List (Option ℕ)) (unit : ℕ) (titles : List (List ℕ))
+      → first_under_two reach roots own unit titles ≡ Some (L12 name) → ⊥
   none_under reach roots own unit [] h = no_more h
   none_under reach roots own unit (title ∷ more) h =
       next (unit_under_two reach roots own unit title) (first_under_two reach roots own (unit + 1) more)
-      (λ here. two_by title (roots_above reach roots unit) (has_overlaid own unit) here) (none_under reach roots own (unit + 1) more) h
+      (λ here. two_by title (roots_above reach roots unit) (has_overlaid own unit) here)
+      (none_under reach roots own (unit + 1) more) h
 
-  not_drawn : (modules : List ModuleParts) (controls : List (ℕ × Control)) → graph_of modules controls ≡ Err (L12 name) → ⊥
+  not_drawn : (modules : List ModuleParts) (controls : List (ℕ × Control)) → graph_of modules controls ≡ Err (L12 name)
+      → ⊥
   not_drawn modules controls =
       let titles : List (List ℕ) = unit_titles (segments_of modules) in
-      let parts : GraphParts = parts_of (segments_of modules) controls (edges_of titles controls (fixup_edges modules)) in
+      let parts : GraphParts =
+      parts_of (segments_of modules) controls (edges_of titles controls (fixup_edges modules)) in
       on _ _ (other_rule L6 (lost_segment titles (segments_of modules)) (λ text e. absurd (cc e)))
-      (on _ _ (other_rule L7 (bad_line titles (segments_of modules) controls (fixup_edges modules)) (λ line e. absurd (cc e)))
+      (on _ _ (other_rule L7 (bad_line titles (segments_of modules) controls (fixup_edges modules))
+      (λ line e. absurd (cc e)))
       (on _ _ (no_reset (list_any (λ root. nat_eq root.0 0) parts.roots))
       (on _ _ (no_cycle (cyclic_from (leads parts.edges) 0 titles))
-      (on (first_under_two (leads parts.edges) parts.roots parts.own 0 titles) (Ok parts) (none_under (leads parts.edges) parts.roots parts.own 0 titles) (λ h. absurd (cc h))))))
+      (on (first_under_two (leads parts.edges) parts.roots parts.own 0 titles) (Ok parts)
+      (none_under (leads parts.edges) parts.roots parts.own 0 titles) (λ h. absurd (cc h))))))
 
   -- so modules were chosen, and their graph was drawn
   record IsDrawn (inputs : InputsTree) : Type 0 where
@@ -121,17 +134,23 @@ module _ (name : List ℕ) where
     chosen : resolved_of inputs.modules inputs.libraries ≡ Ok modules
     graph : graph_of modules inputs.controls ≡ Ok g
 
-  by_graph : (inputs : InputsTree) (modules : List ModuleParts) (found : Result GraphParts Refusal) → resolved_of inputs.modules inputs.libraries ≡ Ok modules
-      → graph_of modules inputs.controls ≡ found → and_then found (placed_of modules inputs.controls) ≡ Err (L12 name) → IsDrawn inputs
+  by_graph : (inputs : InputsTree) (modules : List ModuleParts) (found : Result GraphParts Refusal)
+      → resolved_of inputs.modules inputs.libraries ≡ Ok modules
+      → graph_of modules inputs.controls ≡ found → and_then found (placed_of modules inputs.controls) ≡ Err (L12 name)
+      → IsDrawn inputs
   by_graph inputs modules (Ok g) chosen is h = record { modules = modules; g = g; chosen = chosen; graph = is }
   by_graph inputs modules (Err refusal) chosen is h =
-      let same : refusal ≡ L12 name = cc h in absurd (not_drawn modules inputs.controls (is ∙ ap (λ (r : Refusal). Err r) same))
+      let same : refusal ≡ L12 name = cc h in
+      absurd (not_drawn modules inputs.controls (is ∙ ap (λ (r : Refusal). Err r) same))
 
-  not_answered : (chosen : List ModuleParts) (rule : Option Refusal) → first_refusal chosen ≡ rule → unless_refused chosen rule ≡ Err (L12 name) → ⊥
+  not_answered : (chosen : List ModuleParts) (rule : Option Refusal) → first_refusal chosen ≡ rule
+      → unless_refused chosen rule ≡ Err (L12 name) → ⊥
   not_answered chosen None is h = absurd (cc h)
-  not_answered chosen (Some refusal) is h = let same : refusal ≡ L12 name = cc h in not_chosen chosen (is ∙ ap (λ (r : Refusal). Some r) same)
+  not_answered chosen (Some refusal) is h = let same : refusal ≡ L12 name = cc h in
+      not_chosen chosen (is ∙ ap (λ (r : Refusal). Some r) same)
 
-  by_choice : (inputs : InputsTree) (found : Result (List ModuleParts) Refusal) → resolved_of inputs.modules inputs.libraries ≡ found
+  by_choice : (inputs : InputsTree) (found : Result (List ModuleParts) Refusal)
+      → resolved_of inputs.modules inputs.libraries ≡ found
       → and_then found (joined_of inputs.controls) ≡ Err (L12 name) → IsDrawn inputs
   by_choice inputs (Ok modules) is h = by_graph inputs modules (graph_of modules inputs.controls) is refl h
   by_choice inputs (Err refusal) is h =
@@ -143,13 +162,18 @@ module _ (name : List ℕ) where
   is_drawn inputs h = by_choice inputs (resolved_of inputs.modules inputs.libraries) refl h
 
 -- refused files have other statuses
-not_of_files : (files : List (List ℕ)) (error : InputError) (outcome : Outcome) → outcome ≡ input_outcome files error → outcome.status ≡ Link → ⊥
+not_of_files : (files : List (List ℕ)) (error : InputError) (outcome : Outcome) → outcome ≡ input_outcome files error
+    → outcome.status ≡ Link → ⊥
 not_of_files files (input.Sources faulty) outcome is h = cc (ap (λ (o : Outcome). o.status) (sym is) ∙ h)
 not_of_files files (input.Object word error) outcome is h = cc (ap (λ (o : Outcome). o.status) (sym is) ∙ h)
-not_of_files files (input.Library word (library.B1 name)) outcome is h = cc (ap (λ (o : Outcome). o.status) (sym is) ∙ h)
-not_of_files files (input.Library word (library.B2 name)) outcome is h = cc (ap (λ (o : Outcome). o.status) (sym is) ∙ h)
-not_of_files files (input.Library word (library.B3 name)) outcome is h = cc (ap (λ (o : Outcome). o.status) (sym is) ∙ h)
-not_of_files files (input.Library word (library.Object error)) outcome is h = cc (ap (λ (o : Outcome). o.status) (sym is) ∙ h)
+not_of_files files (input.Library word (library.B1 name)) outcome is h =
+    cc (ap (λ (o : Outcome). o.status) (sym is) ∙ h)
+not_of_files files (input.Library word (library.B2 name)) outcome is h =
+    cc (ap (λ (o : Outcome). o.status) (sym is) ∙ h)
+not_of_files files (input.Library word (library.B3 name)) outcome is h =
+    cc (ap (λ (o : Outcome). o.status) (sym is) ∙ h)
+not_of_files files (input.Library word (library.Object error)) outcome is h =
+    cc (ap (λ (o : Outcome). o.status) (sym is) ∙ h)
 not_of_files files (input.Library word library.Full) outcome is h = cc (ap (λ (o : Outcome). o.status) (sym is) ∙ h)
 not_of_files files (input.Library word library.Memory) outcome is h = cc (ap (λ (o : Outcome). o.status) (sym is) ∙ h)
 not_of_files files (input.Control (control.C1 line)) outcome is h = cc (ap (λ (o : Outcome). o.status) (sym is) ∙ h)
@@ -162,12 +186,15 @@ not_of_files files (input.Script script.Limit) outcome is h = cc (ap (λ (o : Ou
 not_of_files files (input.Script script.Memory) outcome is h = cc (ap (λ (o : Outcome). o.status) (sym is) ∙ h)
 not_of_files files input.Memory outcome is h = cc (ap (λ (o : Outcome). o.status) (sym is) ∙ h)
 
-module _ (job : BuildJob) (contents : List (List ℕ)) (outcome : Outcome) (name : List ℕ) (bytes : AreOfBytes contents) (status : outcome.status ≡ Link)
+module _ (job : BuildJob) (contents : List (List ℕ)) (outcome : Outcome) (name : List ℕ) (bytes : AreOfBytes contents)
+    (status : outcome.status ≡ Link)
     (text : outcome.text ≡ refusal_text (L12 name)) where
   abbrev Reported : InputsTree → Type 0
-  Reported inputs = IsProgramOutcome (program_in inputs) (λ linked. IsReport linked job.hex inputs.script job.steps) outcome
+  Reported inputs = IsProgramOutcome (program_in inputs) (λ linked. IsReport linked job.hex inputs.script job.steps)
+      outcome
 
-  of_program : (inputs : InputsTree) → AreAnswered (build_files job) contents (Ok inputs) → Reported inputs → ComesToPlacing job contents
+  of_program : (inputs : InputsTree) → AreAnswered (build_files job) contents (Ok inputs) → Reported inputs
+      → ComesToPlacing job contents
   of_program inputs read (Unlinked why is one) =
       let why_is : why ≡ L12 name = line_of_l12 why name (sym (ap (λ (o : Outcome). o.text) one) ∙ text) in
       let drawn = is_drawn name inputs (is ∙ ap (λ (r : Refusal). Err r) why_is) in
@@ -175,16 +202,27 @@ module _ (job : BuildJob) (contents : List (List ℕ)) (outcome : Outcome) (name
         modules = drawn.modules;
         controls = inputs.controls;
         g = drawn.g;
-        reaches = record { bytes = bytes; inputs = inputs; read = read; lines = refl; chosen = drawn.chosen; graph = drawn.graph };
+        reaches = record {
+          bytes = bytes;
+          inputs = inputs;
+          read = read;
+          lines = refl;
+          chosen = drawn.chosen;
+          graph = drawn.graph;
+        };
       }
   of_program inputs read (Follows p linked is linked_is report) =
-      absurd (not_link (report_of linked.layout linked.image inputs.script job.steps).event (sym (ap (λ (o : Outcome). o.status) report.is) ∙ status))
+      absurd (not_link (report_of linked.layout linked.image inputs.script job.steps).event
+      (sym (ap (λ (o : Outcome). o.status) report.is) ∙ status))
 
   of_files : (given : Result InputsTree InputError) → AreAnswered (build_files job) contents given
-      → IsGivenOutcome (build_files job) (IsInputsOutcome (λ script linked. IsReport linked job.hex script job.steps)) given outcome → ComesToPlacing job contents
+      → IsGivenOutcome (build_files job) (IsInputsOutcome (λ script linked. IsReport linked job.hex script job.steps))
+      given outcome → ComesToPlacing job contents
   of_files given answer (Refused error is one) = absurd (not_of_files job.files error outcome one status)
   of_files given answer (Given inputs is comes) =
-      of_program inputs (subst (λ (x : Result InputsTree InputError). AreAnswered (build_files job) contents x) is answer) comes
+      of_program inputs (subst (λ (x : Result InputsTree InputError). AreAnswered (build_files job) contents x) is
+      answer) comes
 
 pub l12_only_at_placing : L12OnlyAtPlacing
-l12_only_at_placing job contents outcome name bytes h status text = of_files job contents outcome name bytes status text h.given h.answer h.is
+l12_only_at_placing job contents outcome name bytes h status text =
+    of_files job contents outcome name bytes status text h.given h.answer h.is

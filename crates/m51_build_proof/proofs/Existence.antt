@@ -1,5 +1,6 @@
 -- Each build has an outcome, and one only: what is accepted can be linked and reported.
-use Rattle.std.proofs.Common.{◌≡◌, inl, inr, ℕ, zero, suc, ◌+◌, ◌<◌, Bool, true, false, List, [], ◌∷◌, ◌++◌, length, map, Option, None, Result, Ok, Err, refl, sym, ap, subst, ◌∙◌, arith}
+use Rattle.std.proofs.Common.{◌≡◌, inl, inr, ℕ, zero, suc, ◌+◌, ◌<◌, Bool, true, false, List, [], ◌∷◌, ◌++◌, length}
+use Rattle.std.proofs.Common.{map, Option, None, Result, Ok, Err, refl, sym, ap, subst, ◌∙◌, arith}
 use Rattle.std.specs.Prelude.{is_some, slice_index_or}
 use Rattle.std.specs.List.{range_with_len}
 use Rattle.std.proofs.lemmas.Bool.{cases_eq}
@@ -46,7 +47,8 @@ use Rattle.m51_chain.specs.InputRefusals.{input_outcome}
 use Rattle.m51_chain.specs.Linking.{Follows, IsInputsOutcome, Unlinked, program_in}
 use Rattle.m51_verbs.specs.LinkRefusals.{link_outcome}
 use Rattle.m51_verbs.specs.Outcome.{Outcome}
-use Rattle.m51_chain.specs.ProgramFiles.{AreAnswered, Given, IsGivenOutcome, ProgramFiles, Refused, control_content, script_content, word_contents}
+use Rattle.m51_chain.specs.ProgramFiles.{AreAnswered, Given, IsGivenOutcome, ProgramFiles, Refused, control_content}
+use Rattle.m51_chain.specs.ProgramFiles.{script_content, word_contents}
 use Rattle.m51_chain.specs.Programs.{IsReport, program_report}
 use Rattle.m51_chain.proofs.OneOutcome.{one_outcome}
 use Rattle.m51_build_proof.specs.Builds.{AreOfBytes, IsAccepted}
@@ -101,7 +103,8 @@ runs_to content (suc n) =
     let one_more : n + 1 ≡ suc n = omega arith in
     record {
       runs = after.new;
-      are = subst (λ k. AreRuns (IsHeldBelow content k) after.new) one_more (runs_more content n held before.runs after.new before.are refl after.adds);
+      are = subst (λ k. AreRuns (IsHeldBelow content k) after.new) one_more
+          (runs_more content n held before.runs after.new before.are refl after.adds);
     }
 
 -- a program can be linked
@@ -117,21 +120,28 @@ module _ (p : Program) (size : ℕ) (whole : size ≡ IMAGE_LEN) where
   unfolding bytes
   image_is = record {
     len = length-map-range_with_len (byte_at p.modules p.placing) 0 size ∙ whole;
-    each = λ address below. get_or-map-range_with_len (byte_at p.modules p.placing) 0 size address address 0 (subst (λ n. address < n) (sym whole) below) (omega arith);
+    each = λ address below. get_or-map-range_with_len (byte_at p.modules p.placing) 0 size address address 0
+        (subst (λ n. address < n) (sym whole) below) (omega arith);
   }
 
   content : List (Option ℕ)
   content = map (byte_among (content_of p.modules p.placing)) (range_with_len 0 size)
 
-  content_at : (address : ℕ) → address < size → slice_index_or content address None ≡ byte_among (content_of p.modules p.placing) address
+  content_at : (address : ℕ) → address < size
+      → slice_index_or content address None ≡ byte_among (content_of p.modules p.placing) address
   unfolding content
-  content_at address below = get_or-map-range_with_len (byte_among (content_of p.modules p.placing)) 0 size address address None below (omega arith)
+  content_at address below = get_or-map-range_with_len (byte_among (content_of p.modules p.placing)) 0 size address
+      address None below (omega arith)
 
   runs_are : AreRuns (IsFilled p.modules p.placing) (runs_to content size).runs
   runs_are =
       same_runs (IsHeldBelow content size) (IsFilled p.modules p.placing) (runs_to content size).runs
-      (λ address h. record { inside = subst (λ n. address < n) whole h.below; filled = ap is_some (sym (content_at address h.below)) ∙ h.held })
-      (λ address h. let below : address < size = subst (λ n. address < n) (sym whole) h.inside in record { below = below; held = ap is_some (content_at address below) ∙ h.filled })
+      (λ address h. record {
+        inside = subst (λ n. address < n) whole h.below;
+        filled = ap is_some (sym (content_at address h.below)) ∙ h.held;
+      })
+      (λ address h. let below : address < size = subst (λ n. address < n) (sym whole) h.inside in
+      record { below = below; held = ap is_some (content_at address below) ∙ h.filled })
       (runs_to content size).are
 
   roots : List ℕ
@@ -142,7 +152,8 @@ module _ (p : Program) (size : ℕ) (whole : size ≡ IMAGE_LEN) where
   roots_are = record {
     len = length-map-range_with_len (root_byte (leads p.graph.edges) p.graph.roots) 0 (length p.graph.units);
     each = λ unit below. subst (λ b. AreRootBits p.graph unit b)
-        (sym (get_or-map-range_with_len (root_byte (leads p.graph.edges) p.graph.roots) 0 (length p.graph.units) unit unit 0 below (omega arith)))
+        (sym (get_or-map-range_with_len (root_byte (leads p.graph.edges) p.graph.roots) 0 (length p.graph.units) unit
+        unit 0 below (omega arith)))
         (bits_tell p.graph unit vectors);
   }
 
@@ -162,10 +173,12 @@ module _ (job : BuildJob) (contents : List (List ℕ)) (of_bytes : AreOfBytes co
       let modules = a.program.modules in
       let controls = a.inputs.controls in
       let g = a.program.graph in
-      let of = of_located g (length (segments_of modules)) (located_of modules controls g) a.program.placing a.rules.placed in
+      let of = of_located g (length (segments_of modules)) (located_of modules controls g) a.program.placing
+      a.rules.placed in
       let whole = placed_whole modules controls g of.located a.rules.drawn k.valid k.resolved k.kept of.is in
       subst (λ (x : Placing). IsSound x.layout) of.placing
-      (sound (segments_of modules) controls g (graph_is modules controls g a.rules.drawn) (graph_kept modules controls g k.resolved a.rules.drawn) of.located whole)
+      (sound (segments_of modules) controls g (graph_is modules controls g a.rules.drawn)
+      (graph_kept modules controls g k.resolved a.rules.drawn) of.located whole)
 
   layout_weight : (a : IsAccepted job contents) → (weight : ℕ) × IsWeight a.program.placing.layout weight
   layout_weight a =
@@ -174,16 +187,21 @@ module _ (job : BuildJob) (contents : List (List ℕ)) (of_bytes : AreOfBytes co
       let controls = a.inputs.controls in
       let g = a.program.graph in
       let kept = graph_kept modules controls g k.resolved a.rules.drawn in
-      let w = has_weight (segments_of modules) g kept in
-      (w.weight, weights_agree modules controls g a.program.placing w.weight k.valid k.resolved k.kept kept a.rules.drawn a.rules.placed w.is)
+      let w = has_weight (segments_of modules) g kept in (
+        w.weight,
+        weights_agree modules controls g a.program.placing w.weight k.valid k.resolved k.kept kept
+            a.rules.drawn a.rules.placed w.is,
+      )
 
   record HasOutcome (inputs : InputsTree) : Type 0 where
     outcome : Outcome
     is : Is inputs outcome
 
-  linked_outcome : (inputs : InputsTree) → AreAnswered (build_files job) contents (Ok inputs) → (p : Program) → program_in inputs ≡ Ok p → HasLinked p → HasOutcome inputs
+  linked_outcome : (inputs : InputsTree) → AreAnswered (build_files job) contents (Ok inputs) → (p : Program)
+      → program_in inputs ≡ Ok p → HasLinked p → HasOutcome inputs
   linked_outcome inputs read p is l =
-      let a : IsAccepted job contents = record { inputs = inputs; read = read; program = p; rules = rules_of_program inputs p is } in
+      let a : IsAccepted job contents =
+      record { inputs = inputs; read = read; program = p; rules = rules_of_program inputs p is } in
       let w = (layout_weight a).1 in
       record {
         outcome = program_report l.linked w.chains job.hex inputs.script job.steps;
@@ -195,7 +213,8 @@ module _ (job : BuildJob) (contents : List (List ℕ)) (of_bytes : AreOfBytes co
         });
       }
 
-  program_outcome : (inputs : InputsTree) → AreAnswered (build_files job) contents (Ok inputs) → (r : Result Program Refusal) → program_in inputs ≡ r → HasOutcome inputs
+  program_outcome : (inputs : InputsTree) → AreAnswered (build_files job) contents (Ok inputs)
+      → (r : Result Program Refusal) → program_in inputs ≡ r → HasOutcome inputs
   program_outcome inputs read (Ok p) is = linked_outcome inputs read p is (has_linked p IMAGE_LEN refl)
   program_outcome inputs read (Err why) is = record { outcome = link_outcome why; is = Unlinked why is refl }
 
@@ -212,7 +231,8 @@ module _ (job : BuildJob) (contents : List (List ℕ)) (of_bytes : AreOfBytes co
   pub one_of_each : (outcome : Outcome) × IsOnly (Build job) contents outcome
   one_of_each =
       let files : ProgramFiles = build_files job in
-      let one = one_for_files one_text files.words (word_contents files contents) (control_content files contents) (script_content files contents) in
+      let one = one_for_files one_text files.words (word_contents files contents) (control_content files contents)
+      (script_content files contents) in
       let o = given_outcome one.answer one.is in
       let here : IsBuildOutcome job contents o.outcome = record { given = one.answer; answer = one.is; is = o.is } in
       (o.outcome, record { is = here; only = λ other h. one_outcome (Build job) contents other o.outcome h here })

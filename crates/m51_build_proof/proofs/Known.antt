@@ -27,17 +27,25 @@ pub record AreGiven (modules : List ModuleParts) (controls : List (ℕ × Contro
   pub resolved : AreResolved modules
   pub kept : AreKept controls
 
-source_known : (source : SourceFile) (includes : List SourceFile) (m : ModuleParts) (rows : List Row) → IsAnswer source includes (Gives m rows) → HasBytes m
-source_known source includes m rows h = record { valid = (answers_are_valid source includes m rows h).valid; pieces = source_pieces source includes m rows h }
+source_known : (source : SourceFile) (includes : List SourceFile) (m : ModuleParts) (rows : List Row)
+    → IsAnswer source includes (Gives m rows) → HasBytes m
+source_known source includes m rows h =
+    record {
+      valid = (answers_are_valid source includes m rows h).valid;
+      pieces = source_pieces source includes m rows h;
+    }
 
 object_known : (bytes : List ℕ) (m : ModuleParts) (rest : List ℕ) → IsBytes bytes → IsRead bytes m rest → HasBytes m
 object_known bytes m rest fits is = record { valid = is.valid; pieces = object_pieces bytes m rest fits is }
 
-pub modules_known : (files : ProgramFiles) (contents : List (List ℕ)) (inputs : InputsTree) (modules : List ModuleParts) → AreOfBytes contents → AreAnswered files contents (Ok inputs)
+pub modules_known : (files : ProgramFiles) (contents : List (List ℕ)) (inputs : InputsTree) (modules : List ModuleParts)
+    → AreOfBytes contents → AreAnswered files contents (Ok inputs)
     → resolved_of inputs.modules inputs.libraries ≡ Ok modules → AreGiven modules inputs.controls
 modules_known files contents inputs modules bytes read h =
     let given = of_modules.inputs_known HasBytes source_known object_known files contents inputs bytes read in
-    let all : All HasBytes modules = of_modules.chosen_all HasBytes source_known object_known inputs.modules inputs.libraries modules given.modules given.libraries h in
+    let all : All HasBytes modules =
+    of_modules.chosen_all HasBytes source_known object_known inputs.modules inputs.libraries modules given.modules
+    given.libraries h in
     record {
       valid = All-weaker HasBytes IsValid (λ m is. is.valid) modules all;
       bytes = all;

@@ -40,20 +40,24 @@ record PlacesFirst (g : GraphParts) (earlier : List Numbered) (first : List Rank
   extents : List Numbered
   is : place_after g earlier first ≡ Ok extents
 
-first_placed : (g : GraphParts) (first later : List Ranked) (earlier located : List Numbered) → place_after g earlier (first ++ later) ≡ Ok located → PlacesFirst g earlier first
+first_placed : (g : GraphParts) (first later : List Ranked) (earlier located : List Numbered)
+    → place_after g earlier (first ++ later) ≡ Ok located → PlacesFirst g earlier first
 first_placed g [] later earlier located h = record { extents = earlier; is = refl }
 first_placed g (t ∷ more) later earlier located h =
     let step = place_step g earlier t (more ++ later) located (base_for g earlier t) refl h in
     let rest = first_placed g more later (earlier ++ located_at t step.0 ∷ []) located step.2 in
     record {
       extents = rest.extents;
-      is = ap (λ (o : Option ℕ). option_map_or (λ base. place_after g (earlier ++ located_at t base ∷ []) more) o (Err (L12 t.segment.title))) step.1 ∙ rest.is;
+      is = ap (λ (o : Option ℕ). option_map_or (λ base. place_after g (earlier ++ located_at t base ∷ []) more) o
+          (Err (L12 t.segment.title))) step.1 ∙ rest.is;
     }
 
-finds_run : (g : GraphParts) (fixed : List Numbered) (order : List Ranked) (low high : ℕ) (located : List Numbered) → place_after g fixed order ≡ Ok located → LeavesRun g fixed order low high
+finds_run : (g : GraphParts) (fixed : List Numbered) (order : List Ranked) (low high : ℕ) (located : List Numbered)
+    → place_after g fixed order ≡ Ok located → LeavesRun g fixed order low high
     → FindsRun g fixed order low high
 finds_run g fixed order low high located h leaves =
-    let first = first_placed g (before_overlaid order) (from_overlaid order) fixed located (subst (λ (ts : List Ranked). place_after g fixed ts ≡ Ok located) (split order) h) in
+    let first = first_placed g (before_overlaid order) (from_overlaid order) fixed located
+    (subst (λ (ts : List Ranked). place_after g fixed ts ≡ Ok located) (split order) h) in
     record { extents = first.extents; placed = first.is; run = leaves first.extents first.is }
 
 -- what is known of modules, control lines and a graph that are accepted
@@ -64,15 +68,20 @@ pub record AreKnown (modules : List ModuleParts) (controls : List (ℕ × Contro
   pub is : IsGraph g
   pub graph : graph_of modules controls ≡ Ok g
 
-no_less : (weight covered overlaid figure : ℕ) → weight ≤ covered → covered ≤ overlaid → figure ≡ overlaid → weight ≤ figure
+no_less : (weight covered overlaid figure : ℕ) → weight ≤ covered → covered ≤ overlaid → figure ≡ overlaid
+    → weight ≤ figure
 no_less weight covered overlaid figure h k same = omega (arith, h, k, same)
 
-module _ (modules : List ModuleParts) (controls : List (ℕ × Control)) (g : GraphParts) (low high weight : ℕ) (known : AreKnown modules controls g)
-    (premise : IsPremise modules controls g low high weight) (p : Placing) (placed : placing_of modules controls g ≡ Ok p) where
+module _ (modules : List ModuleParts) (controls : List (ℕ × Control)) (g : GraphParts) (low high weight : ℕ)
+    (known : AreKnown modules controls g)
+    (premise : IsPremise modules controls g low high weight) (p : Placing)
+    (placed : placing_of modules controls g ≡ Ok p) where
   weighs : IsWeight p.layout weight
-  weighs = weights_agree modules controls g p weight known.valid known.resolved known.kept known.is known.graph placed premise.weight_is
+  weighs = weights_agree modules controls g p weight known.valid known.resolved known.kept known.is known.graph placed
+      premise.weight_is
 
-  runs : FindsRun g (fixed_of modules controls (segments_of modules)) (order_of g controls (segments_of modules)) low high
+  runs : FindsRun g (fixed_of modules controls (segments_of modules)) (order_of g controls (segments_of modules)) low
+      high
   runs =
       let fixed = fixed_of modules controls (segments_of modules) in
       let order = order_of g controls (segments_of modules) in
@@ -81,14 +90,17 @@ module _ (modules : List ModuleParts) (controls : List (ℕ × Control)) (g : Gr
       finds_run g fixed order low high of.located rules.1 premise.run
 
   pub prints_weight : overlaid_line p.layout.placed ≡ codes "OVERLAID " ++ decimal weight ++ codes " BYTES\n"
-  prints_weight = printed modules controls g p low high weight known.valid known.resolved known.kept known.is known.graph placed premise.overlaid runs weighs
+  prints_weight = printed modules controls g p low high weight known.valid known.resolved known.kept known.is
+      known.graph placed premise.overlaid runs weighs
 
   pub covers_least : CoversLeast p.layout weight
   covers_least = record {
     covers =
         figure_is_same p.layout
-        ∙ figure_is_weight modules controls g p low high weight known.valid known.resolved known.kept known.is known.graph placed premise.overlaid runs weighs;
+        ∙ figure_is_weight modules controls g p low high weight known.valid known.resolved known.kept known.is
+        known.graph placed premise.overlaid runs weighs;
     least = λ other same sound.
-        no_less weight (covered_bytes other) (overlaid_bytes other) (overlaid_below other.placed 256) (least other weight sound (same_weight p.layout other weight same weighs))
+        no_less weight (covered_bytes other) (overlaid_bytes other) (overlaid_below other.placed 256)
+        (least other weight sound (same_weight p.layout other weight same weighs))
         (overlaid_at_least other) (figure_is_same other);
   }

@@ -1,5 +1,6 @@
 -- What holds of the module of each source and of each object holds of all modules that are linked.
-use Rattle.std.proofs.Common.{◌≡◌, ℕ, zero, suc, ◌+◌, ◌<◌, Bool, true, false, cond, List, [], ◌∷◌, ◌++◌, length, Option, Some, None, Result, Ok, Err, refl, sym, ap, subst}
+use Rattle.std.proofs.Common.{◌≡◌, ℕ, zero, suc, ◌+◌, ◌<◌, Bool, true, false, cond, List, [], ◌∷◌, ◌++◌, length, Option}
+use Rattle.std.proofs.Common.{Some, None, Result, Ok, Err, refl, sym, ap, subst}
 use Rattle.std.specs.Prelude.{option_map}
 use Rattle.std.specs.Option.{option_map_or}
 use Rattle.std.specs.List.{All}
@@ -25,7 +26,8 @@ use Rattle.m51_records.specs.Spelling.{bytes_of, records_in}
 use Rattle.m51_records.proofs.FieldLaws.{IsBytes, fit_back}
 use Rattle.m51_records.proofs.ModuleLaws.{IsRead, module_takes}
 use Rattle.m51_records.proofs.Tools.{on_ok, ok_is}
-use Rattle.m51_library.specs.Reading.{at_end, count_in, library_of, module_in, modules_at, modules_of, nothing_after, or_object}
+use Rattle.m51_library.specs.Reading.{at_end, count_in, library_of, module_in, modules_at, modules_of, nothing_after}
+use Rattle.m51_library.specs.Reading.{or_object}
 use Rattle.m51_library.specs.Spelling.{count_record}
 use Rattle.m51_library.proofs.Accepting.{makes_all}
 use Rattle.m51_library.proofs.LibraryLaws.{first_takes}
@@ -47,16 +49,19 @@ use Rattle.m51_build_proof.specs.Builds.{AreOfBytes}
 use Rattle.m51_build_proof.proofs.ControlsKept.{controls_kept, none_kept}
 
 -- control lines
-accepted : (found : Result (List (ℕ × Control)) ControlError) (controls : List (ℕ × Control)) → or_control found ≡ Ok controls → found ≡ Ok controls
+accepted : (found : Result (List (ℕ × Control)) ControlError) (controls : List (ℕ × Control))
+    → or_control found ≡ Ok controls → found ≡ Ok controls
 accepted (Ok all) controls h = let same : all ≡ controls = cc h in ap (λ (c : List (ℕ × Control)). Ok c) same
 accepted (Err error) controls h = absurd (cc h)
 
-lines_kept : (control : Option (List ℕ)) (controls : List (ℕ × Control)) → controls_in control ≡ Ok controls → AreKept controls
+lines_kept : (control : Option (List ℕ)) (controls : List (ℕ × Control)) → controls_in control ≡ Ok controls
+    → AreKept controls
 lines_kept None controls h = let same : [] ≡ controls = cc h in subst AreKept same none_kept
 lines_kept (Some file) controls h = controls_kept file controls (accepted (controls_of file) controls h)
 
 module _ (P : ModuleParts → Type 0)
-    (of_source : (source : SourceFile) (includes : List SourceFile) (m : ModuleParts) (rows : List Row) → IsAnswer source includes (Gives m rows) → P m)
+    (of_source : (source : SourceFile) (includes : List SourceFile) (m : ModuleParts) (rows : List Row)
+    → IsAnswer source includes (Gives m rows) → P m)
     (of_object : (bytes : List ℕ) (m : ModuleParts) (rest : List ℕ) → IsBytes bytes → IsRead bytes m rest → P m) where
   abbrev IsByte : ℕ → Type 0
   IsByte byte = byte < 256
@@ -67,16 +72,19 @@ module _ (P : ModuleParts → Type 0)
   bytes_are (byte ∷ more) h = (All-head IsByte byte more h, bytes_are more (All-tail IsByte byte more h))
 
   -- the sources
-  sources_valid : (includes sources : List SourceFile) (answers : List AnswerTree) → AreAnswers includes sources answers → All P (modules_in answers)
+  sources_valid : (includes sources : List SourceFile) (answers : List AnswerTree) → AreAnswers includes sources answers
+      → All P (modules_in answers)
   sources_valid includes [] [] h = All-nil P
   sources_valid includes [] (answer ∷ answers) h = absurd h
   sources_valid includes (source ∷ sources) [] h = absurd h
   sources_valid includes (source ∷ sources) (Gives parts rows ∷ answers) h =
-      All-cons P parts (modules_in answers) (of_source source includes parts rows h.0) (sources_valid includes sources answers h.1)
+      All-cons P parts (modules_in answers) (of_source source includes parts rows h.0)
+      (sources_valid includes sources answers h.1)
   sources_valid includes (source ∷ sources) (Faults faults ∷ answers) h = sources_valid includes sources answers h.1
 
   -- an object
-  alone : (total : ℕ) (found : ModuleParts × List ℕ) (rest : List ℕ) (m : ModuleParts) → found.1 ≡ rest → at_end total rest found.0 ≡ Ok m → found.0 ≡ m
+  alone : (total : ℕ) (found : ModuleParts × List ℕ) (rest : List ℕ) (m : ModuleParts) → found.1 ≡ rest
+      → at_end total rest found.0 ≡ Ok m → found.0 ≡ m
   alone total found [] m is h = ok_is found.0 m h
   alone total found (byte ∷ rest) m is h = absurd (cc h)
 
@@ -84,13 +92,15 @@ module _ (P : ModuleParts → Type 0)
   unfolding module_in
   object_valid file m bytes h =
       on_ok (module_at (length file) 0 file) (nothing_after (length file)) m (P m)
-      (λ found read ended. subst P (alone (length file) found found.1 m refl ended) (of_object file found.0 found.1 bytes (module_takes (length file) 0 file found bytes read))) h
+      (λ found read ended. subst P (alone (length file) found found.1 m refl ended)
+      (of_object file found.0 found.1 bytes (module_takes (length file) 0 file found bytes read))) h
 
   -- a library
   abbrev Modules : List ModuleParts × List ℕ → Type 0
   Modules found = All P found.0
 
-  modules_valid : (count total number : ℕ) (bytes : List ℕ) (found : List ModuleParts × List ℕ) → IsBytes bytes → modules_at count total number bytes ≡ Ok found → Modules found
+  modules_valid : (count total number : ℕ) (bytes : List ℕ) (found : List ModuleParts × List ℕ) → IsBytes bytes
+      → modules_at count total number bytes ≡ Ok found → Modules found
   unfolding modules_at
   modules_valid zero total number bytes found fits h = subst Modules (ok_is ([], bytes) found h) (All-nil P)
   modules_valid (suc count) total number bytes found fits h =
@@ -99,9 +109,11 @@ module _ (P : ModuleParts → Type 0)
       let rest : IsBytes one.1 = fit_back (bytes_of one.0) one.1 (subst IsBytes is.bytes_are fits) in
       on_ok (modules_at count total (number + records_in one.0) one.1) _ found (Modules found) (λ others next done.
       subst Modules (ok_is (one.0 ∷ others.0, others.1) found done)
-      (All-cons P one.0 others.0 (of_object bytes one.0 one.1 fits is) (modules_valid count total (number + records_in one.0) one.1 others rest next))) later) h
+      (All-cons P one.0 others.0 (of_object bytes one.0 one.1 fits is)
+      (modules_valid count total (number + records_in one.0) one.1 others rest next))) later) h
 
-  all_alone : (total : ℕ) (found : List ModuleParts × List ℕ) (rest : List ℕ) (ms : List ModuleParts) → found.1 ≡ rest → at_end total rest found.0 ≡ Ok ms → found.0 ≡ ms
+  all_alone : (total : ℕ) (found : List ModuleParts × List ℕ) (rest : List ℕ) (ms : List ModuleParts) → found.1 ≡ rest
+      → at_end total rest found.0 ≡ Ok ms → found.0 ≡ ms
   all_alone total found [] ms is h = ok_is found.0 ms h
   all_alone total found (byte ∷ rest) ms is h = absurd (cc h)
 
@@ -115,8 +127,10 @@ module _ (P : ModuleParts → Type 0)
       subst (λ (xs : List ModuleParts). All P xs) (all_alone (length file) found found.1 ms refl ended)
       (modules_valid count.0 (length file) 1 count.1 found rest next)) later) h
 
-  library_by : (file : List ℕ) (ms : List ModuleParts) (read : Result (List ModuleParts) ObjError) → IsBytes file → modules_of file ≡ read → and_then (or_object read) built ≡ Ok ms → All P ms
-  library_by file ms (Ok all) bytes is h = subst (λ (xs : List ModuleParts). All P xs) (sym (makes_all [] all ms h)) (file_valid file all bytes is)
+  library_by : (file : List ℕ) (ms : List ModuleParts) (read : Result (List ModuleParts) ObjError) → IsBytes file
+      → modules_of file ≡ read → and_then (or_object read) built ≡ Ok ms → All P ms
+  library_by file ms (Ok all) bytes is h =
+      subst (λ (xs : List ModuleParts). All P xs) (sym (makes_all [] all ms h)) (file_valid file all bytes is)
   library_by file ms (Err error) bytes is h = absurd (cc h)
 
   library_valid : (file : List ℕ) (ms : List ModuleParts) → IsBytes file → library_of file ≡ Ok ms → All P ms
@@ -129,40 +143,53 @@ module _ (P : ModuleParts → Type 0)
 
   -- what the words after give
   abbrev AreFollowed : (List ModuleParts → Result objects.Linked InputError) → Type 0
-  AreFollowed after = (sources : List ModuleParts) (l : objects.Linked) → All P sources → after sources ≡ Ok l → AreLinked l
+  AreFollowed after = (sources : List ModuleParts) (l : objects.Linked) → All P sources → after sources ≡ Ok l
+      → AreLinked l
 
-  module_first : (r : Result objects.Linked InputError) (m : ModuleParts) (l : objects.Linked) → P m → ((k : objects.Linked) → r ≡ Ok k → AreLinked k) → with_module r m ≡ Ok l → AreLinked l
+  module_first : (r : Result objects.Linked InputError) (m : ModuleParts) (l : objects.Linked) → P m
+      → ((k : objects.Linked) → r ≡ Ok k → AreLinked k) → with_module r m ≡ Ok l → AreLinked l
   module_first (Ok k) m l valid rest h =
       let more = rest k refl in
-      subst AreLinked (same_Ok {A = objects.Linked} {E = InputError} (record { modules = m ∷ k.modules; libraries = k.libraries }) l h)
+      subst AreLinked (same_Ok {A = objects.Linked} {E = InputError}
+      (record { modules = m ∷ k.modules; libraries = k.libraries }) l h)
       (record { modules = All-cons P m k.modules valid more.modules; libraries = more.libraries })
   module_first (Err error) m l valid rest h = absurd (cc h)
 
-  library_first : (r : Result objects.Linked InputError) (ms : List ModuleParts) (l : objects.Linked) → All P ms → ((k : objects.Linked) → r ≡ Ok k → AreLinked k) → with_library r ms ≡ Ok l → AreLinked l
+  library_first : (r : Result objects.Linked InputError) (ms : List ModuleParts) (l : objects.Linked) → All P ms
+      → ((k : objects.Linked) → r ≡ Ok k → AreLinked k) → with_library r ms ≡ Ok l → AreLinked l
   library_first (Ok k) ms l valid rest h =
       let more = rest k refl in
-      subst AreLinked (same_Ok {A = objects.Linked} {E = InputError} (record { modules = k.modules; libraries = ms ∷ k.libraries }) l h)
+      subst AreLinked (same_Ok {A = objects.Linked} {E = InputError}
+      (record { modules = k.modules; libraries = ms ∷ k.libraries }) l h)
       (record { modules = more.modules; libraries = All-cons (All P) ms k.libraries valid more.libraries })
   library_first (Err error) ms l valid rest h = absurd (cc h)
 
-  source_first : (sources : List ModuleParts) (after : List ModuleParts → Result objects.Linked InputError) (l : objects.Linked) → All P sources → AreFollowed after → with_source sources after ≡ Ok l → AreLinked l
+  source_first : (sources : List ModuleParts) (after : List ModuleParts → Result objects.Linked InputError)
+      (l : objects.Linked) → All P sources → AreFollowed after → with_source sources after ≡ Ok l → AreLinked l
   source_first [] after l valid rest h = rest [] l valid h
   source_first (m ∷ sources) after l valid rest h =
-      module_first (after sources) m l (All-head P m sources valid) (λ k is. rest sources k (All-tail P m sources valid) is) h
+      module_first (after sources) m l (All-head P m sources valid)
+      (λ k is. rest sources k (All-tail P m sources valid) is) h
 
-  object_first : (word : ℕ) (file : List ℕ) (found : Result ModuleParts ObjError) (r : Result objects.Linked InputError) (l : objects.Linked) → IsBytes file → module_in file ≡ found
-      → ((k : objects.Linked) → r ≡ Ok k → AreLinked k) → and_then (objects.or_object word found) (with_module r) ≡ Ok l → AreLinked l
+  object_first : (word : ℕ) (file : List ℕ) (found : Result ModuleParts ObjError) (r : Result objects.Linked InputError)
+      (l : objects.Linked) → IsBytes file → module_in file ≡ found
+      → ((k : objects.Linked) → r ≡ Ok k → AreLinked k) → and_then (objects.or_object word found) (with_module r) ≡ Ok l
+      → AreLinked l
   object_first word file (Ok m) r l bytes is rest h = module_first r m l (object_valid file m bytes is) rest h
   object_first word file (Err error) r l bytes is rest h = absurd (cc h)
 
-  archive_first : (word : ℕ) (file : List ℕ) (found : Result (List ModuleParts) LibError) (r : Result objects.Linked InputError) (l : objects.Linked) → IsBytes file → library_of file ≡ found
-      → ((k : objects.Linked) → r ≡ Ok k → AreLinked k) → and_then (or_library word found) (with_library r) ≡ Ok l → AreLinked l
+  archive_first : (word : ℕ) (file : List ℕ) (found : Result (List ModuleParts) LibError)
+      (r : Result objects.Linked InputError) (l : objects.Linked) → IsBytes file → library_of file ≡ found
+      → ((k : objects.Linked) → r ≡ Ok k → AreLinked k) → and_then (or_library word found) (with_library r) ≡ Ok l
+      → AreLinked l
   archive_first word file (Ok ms) r l bytes is rest h = library_first r ms l (library_valid file ms bytes is) rest h
   archive_first word file (Err error) r l bytes is rest h = absurd (cc h)
 
-  word_first : (o : Option Ending) (word : ℕ) (file : List ℕ) (sources : List ModuleParts) (after : List ModuleParts → Result objects.Linked InputError) (l : objects.Linked)
+  word_first : (o : Option Ending) (word : ℕ) (file : List ℕ) (sources : List ModuleParts)
+      (after : List ModuleParts → Result objects.Linked InputError) (l : objects.Linked)
       → IsBytes file → All P sources → AreFollowed after → linked_by o word file sources after ≡ Ok l → AreLinked l
-  word_first (Some ending.Source) word file sources after l bytes valid rest h = source_first sources after l valid rest h
+  word_first (Some ending.Source) word file sources after l bytes valid rest h =
+      source_first sources after l valid rest h
   word_first (Some ending.Include) word file sources after l bytes valid rest h = rest sources l valid h
   word_first (Some ending.Object) word file sources after l bytes valid rest h =
       object_first word file (module_in file) (after sources) l bytes refl (λ k is. rest sources k valid is) h
@@ -176,15 +203,23 @@ module _ (P : ModuleParts → Type 0)
   none_linked : AreLinked (record { modules = []; libraries = [] })
   none_linked = record { modules = All-nil P; libraries = All-nil (All P) }
 
-  words_linked : (word : ℕ) (names contents : List (List ℕ)) (sources : List ModuleParts) (l : objects.Linked) → All IsOfBytes contents → All P sources
+  words_linked : (word : ℕ) (names contents : List (List ℕ)) (sources : List ModuleParts) (l : objects.Linked)
+      → All IsOfBytes contents → All P sources
       → linked_from word names contents sources ≡ Ok l → AreLinked l
-  words_linked word [] contents sources l bytes valid h = subst AreLinked (same_Ok {A = objects.Linked} {E = InputError} (record { modules = []; libraries = [] }) l h) none_linked
-  words_linked word (name ∷ names) [] sources l bytes valid h = subst AreLinked (same_Ok {A = objects.Linked} {E = InputError} (record { modules = []; libraries = [] }) l h) none_linked
+  words_linked word [] contents sources l bytes valid h =
+      subst AreLinked (same_Ok {A = objects.Linked} {E = InputError} (record { modules = []; libraries = [] }) l h)
+      none_linked
+  words_linked word (name ∷ names) [] sources l bytes valid h =
+      subst AreLinked (same_Ok {A = objects.Linked} {E = InputError} (record { modules = []; libraries = [] }) l h)
+      none_linked
   words_linked word (name ∷ names) (file ∷ contents) sources l bytes valid h =
-      word_first (ending_of name) word file sources (linked_from (word + 1) names contents) l (bytes_are file (All-head IsOfBytes file contents bytes)) valid
-      (λ others k all is. words_linked (word + 1) names contents others k (All-tail IsOfBytes file contents bytes) all is) h
+      word_first (ending_of name) word file sources (linked_from (word + 1) names contents) l
+      (bytes_are file (All-head IsOfBytes file contents bytes)) valid
+      (λ others k all is. words_linked (word + 1) names contents others k (All-tail IsOfBytes file contents bytes) all
+      is) h
 
-  no_faults : (faults : List SourceFaults) (modules ms : List ModuleParts) → unless_faults faults modules ≡ Ok ms → modules ≡ ms
+  no_faults : (faults : List SourceFaults) (modules ms : List ModuleParts) → unless_faults faults modules ≡ Ok ms
+      → modules ≡ ms
   no_faults [] modules ms h = cc h
   no_faults (first ∷ more) modules ms h = absurd (cc h)
 
@@ -194,20 +229,28 @@ module _ (P : ModuleParts → Type 0)
     pub libraries : All (All P) inputs.libraries
     pub controls : AreKept inputs.controls
 
-  from_answers : (files contents : List (List ℕ)) (control script : Option (List ℕ)) (answers : List AnswerTree) (inputs : InputsTree) → All IsOfBytes contents → All P (modules_in answers)
+  from_answers : (files contents : List (List ℕ)) (control script : Option (List ℕ)) (answers : List AnswerTree)
+      (inputs : InputsTree) → All IsOfBytes contents → All P (modules_in answers)
       → inputs_of files contents control script answers ≡ Ok inputs → AreInputs inputs
   unfolding inputs_of
   from_answers files contents control script answers inputs bytes valid h =
-      on_value (unless_faults (faults_in (source_words 0 files) answers) (modules_in answers)) _ inputs (AreInputs inputs) (λ sources one h1.
+      on_value (unless_faults (faults_in (source_words 0 files) answers) (modules_in answers)) _ inputs
+      (AreInputs inputs) (λ sources one h1.
       on_value (linked_from 0 files contents sources) _ inputs (AreInputs inputs) (λ linked two h2.
       on_value (controls_in control) _ inputs (AreInputs inputs) (λ lines three h3.
       on_value (script_in script) _ inputs (AreInputs inputs) (λ board four h4.
-      let all : All P sources = subst (λ (ms : List ModuleParts). All P ms) (no_faults (faults_in (source_words 0 files) answers) (modules_in answers) sources one) valid in
+      let all : All P sources =
+      subst (λ (ms : List ModuleParts). All P ms)
+      (no_faults (faults_in (source_words 0 files) answers) (modules_in answers) sources one) valid in
       let known = words_linked 0 files contents sources linked bytes all two in
-      let made : InputsTree = record { modules = linked.modules; libraries = linked.libraries; controls = lines; script = board } in
-      subst AreInputs (same_Ok {E = InputError} made inputs h4) (record { modules = known.modules; libraries = known.libraries; controls = lines_kept control lines three })) h3) h2) h1) h
+      let made : InputsTree =
+      record { modules = linked.modules; libraries = linked.libraries; controls = lines; script = board } in
+      subst AreInputs (same_Ok {E = InputError} made inputs h4)
+      (record { modules = known.modules; libraries = known.libraries; controls = lines_kept control lines three }))
+      h3) h2) h1) h
 
-  pub inputs_known : (files : ProgramFiles) (contents : List (List ℕ)) (inputs : InputsTree) → AreOfBytes contents → AreAnswered files contents (Ok inputs) → AreInputs inputs
+  pub inputs_known : (files : ProgramFiles) (contents : List (List ℕ)) (inputs : InputsTree) → AreOfBytes contents
+      → AreAnswered files contents (Ok inputs) → AreInputs inputs
   inputs_known files contents inputs bytes h =
       let words : List (List ℕ) = word_contents files contents in
       from_answers files.words words _ _ h.answers inputs (All-take IsOfBytes (length files.words) contents bytes)
@@ -218,47 +261,63 @@ module _ (P : ModuleParts → Type 0)
     needed : P found.0
     others : All P found.1
 
-  behind : (m : ModuleParts) (o : Option (ModuleParts × List ModuleParts)) (found : ModuleParts × List ModuleParts) → P m
-      → ((other : ModuleParts × List ModuleParts) → o ≡ Some other → AreLeft other) → option_map (λ (x : ModuleParts × List ModuleParts). (x.0, m ∷ x.1)) o ≡ Some found → AreLeft found
+  behind : (m : ModuleParts) (o : Option (ModuleParts × List ModuleParts)) (found : ModuleParts × List ModuleParts)
+      → P m
+      → ((other : ModuleParts × List ModuleParts) → o ≡ Some other → AreLeft other)
+      → option_map (λ (x : ModuleParts × List ModuleParts). (x.0, m ∷ x.1)) o ≡ Some found → AreLeft found
   behind m None found valid more h = absurd (cc h)
   behind m (Some other) found valid more h =
       let rest = more other refl in
-      subst AreLeft (same_Some (other.0, m ∷ other.1) found h) (record { needed = rest.needed; others = All-cons P m other.1 valid rest.others })
+      subst AreLeft (same_Some (other.0, m ∷ other.1) found h)
+      (record { needed = rest.needed; others = All-cons P m other.1 valid rest.others })
 
-  first_by : (b : Bool) (chosen : List ModuleParts) (m : ModuleParts) (more : List ModuleParts) (found : ModuleParts × List ModuleParts) → P m → All P more
+  first_by : (b : Bool) (chosen : List ModuleParts) (m : ModuleParts) (more : List ModuleParts)
+      (found : ModuleParts × List ModuleParts) → P m → All P more
       → ((other : ModuleParts × List ModuleParts) → first_needed chosen more ≡ Some other → AreLeft other)
-      → cond b (Some (m, more)) (option_map (λ (x : ModuleParts × List ModuleParts). (x.0, m ∷ x.1)) (first_needed chosen more)) ≡ Some found → AreLeft found
-  first_by true chosen m more found valid all rest h = subst AreLeft (same_Some (m, more) found h) (record { needed = valid; others = all })
+      → cond b (Some (m, more))
+      (option_map (λ (x : ModuleParts × List ModuleParts). (x.0, m ∷ x.1)) (first_needed chosen more)) ≡ Some found
+      → AreLeft found
+  first_by true chosen m more found valid all rest h =
+      subst AreLeft (same_Some (m, more) found h) (record { needed = valid; others = all })
   first_by false chosen m more found valid all rest h = behind m (first_needed chosen more) found valid rest h
 
-  are_left : (chosen left : List ModuleParts) (found : ModuleParts × List ModuleParts) → All P left → first_needed chosen left ≡ Some found → AreLeft found
+  are_left : (chosen left : List ModuleParts) (found : ModuleParts × List ModuleParts) → All P left
+      → first_needed chosen left ≡ Some found → AreLeft found
   are_left chosen [] found valid h = absurd (cc h)
   are_left chosen (m ∷ more) found valid h =
       first_by (is_needed chosen m) chosen m more found (All-head P m more valid) (All-tail P m more valid)
       (λ other k. are_left chosen more other (All-tail P m more valid) k) h
 
-  choice_step : (turns : ℕ) (left chosen : List ModuleParts) (o : Option (ModuleParts × List ModuleParts)) → first_needed chosen left ≡ o → All P left → All P chosen
+  choice_step : (turns : ℕ) (left chosen : List ModuleParts) (o : Option (ModuleParts × List ModuleParts))
+      → first_needed chosen left ≡ o → All P left → All P chosen
       → ((more now : List ModuleParts) → All P more → All P now → All P (choice turns more now))
-      → All P (option_map_or (λ (found : ModuleParts × List ModuleParts). choice turns found.1 (chosen ++ found.0 ∷ [])) o chosen)
+      → All P (option_map_or (λ (found : ModuleParts × List ModuleParts). choice turns found.1 (chosen ++ found.0 ∷ []))
+      o chosen)
   choice_step turns left chosen None is valid all next = all
   choice_step turns left chosen (Some found) is valid all next =
       let rest = are_left chosen left found valid is in
-      next found.1 (chosen ++ found.0 ∷ []) rest.others (All-append P chosen (found.0 ∷ []) all (all_one P found.0 rest.needed))
+      next found.1 (chosen ++ found.0 ∷ []) rest.others
+      (All-append P chosen (found.0 ∷ []) all (all_one P found.0 rest.needed))
 
-  choice_valid : (turns : ℕ) (left chosen : List ModuleParts) → All P left → All P chosen → All P (choice turns left chosen)
+  choice_valid : (turns : ℕ) (left chosen : List ModuleParts) → All P left → All P chosen
+      → All P (choice turns left chosen)
   choice_valid zero left chosen valid all = all
-  choice_valid (suc turns) left chosen valid all = choice_step turns left chosen (first_needed chosen left) refl valid all (λ more now. choice_valid turns more now)
+  choice_valid (suc turns) left chosen valid all =
+      choice_step turns left chosen (first_needed chosen left) refl valid all (λ more now. choice_valid turns more now)
 
   members_valid : (libraries : List (List ModuleParts)) → All (All P) libraries → All P (members_of libraries)
   members_valid [] h = All-nil P
   members_valid (library ∷ more) h =
-      All-append P library (members_of more) (All-head (All P) library more h) (members_valid more (All-tail (All P) library more h))
+      All-append P library (members_of more) (All-head (All P) library more h)
+      (members_valid more (All-tail (All P) library more h))
 
-  chosen_same : (o : Option Refusal) (chosen modules : List ModuleParts) → unless_refused chosen o ≡ Ok modules → chosen ≡ modules
+  chosen_same : (o : Option Refusal) (chosen modules : List ModuleParts) → unless_refused chosen o ≡ Ok modules
+      → chosen ≡ modules
   chosen_same None chosen modules h = cc h
   chosen_same (Some refusal) chosen modules h = absurd (cc h)
 
-  pub chosen_all : (given : List ModuleParts) (libraries : List (List ModuleParts)) (modules : List ModuleParts) → All P given → All (All P) libraries
+  pub chosen_all : (given : List ModuleParts) (libraries : List (List ModuleParts)) (modules : List ModuleParts)
+      → All P given → All (All P) libraries
       → resolved_of given libraries ≡ Ok modules → All P modules
   chosen_all given libraries modules valid all h =
       let chosen = chosen_of given (members_of libraries) in

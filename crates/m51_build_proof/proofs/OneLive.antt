@@ -39,7 +39,8 @@ use Rattle.m51_sim.specs.Cycles.{Inputs, inputs_of}
 use Rattle.m51_sim.specs.Effects.{attempt_by, attempt_of, executing, idle_effect, instr_at, performed}
 use Rattle.m51_sim.specs.FlatMachine.{reset_with}
 use Rattle.m51_sim.specs.Runs.{Performed, State, record_from, record_of}
-use Rattle.m51_sim.specs.SeparateMachine.{Separate, cells_of, concludes, instr_outcome, lie_inside, memory_after, or_zero, separate_effect, separate_machine, separate_performs, separate_start}
+use Rattle.m51_sim.specs.SeparateMachine.{Separate, cells_of, concludes, instr_outcome, lie_inside, memory_after}
+use Rattle.m51_sim.specs.SeparateMachine.{or_zero, separate_effect, separate_machine, separate_performs, separate_start}
 use Rattle.m51_sim.proofs.Keeping.{inside_ok}
 use Rattle.m51_stack_proof.proofs.Bounded.{Held, judged_of}
 use Rattle.m51_stack_proof.proofs.Meeting.{root_at}
@@ -54,7 +55,11 @@ module _ (l : LayoutParts) (sound : IsSound l) (image : List ℕ) where
   -- the root that the machine finds is the required one
   wanted_by : (source : Source) (o : Option ℕ) → root_found l (Vector source) ≡ o → IsRootWanted l (Vector source) o
   wanted_by source (Some u) is = root_at l sound source u is
-  wanted_by source None is = λ u h. absurd (cc (is, same_root_found l source (Some u) h (λ w k. ap Some (one_root l sound (vector_of source) u w h k))))
+  wanted_by source None is =
+      λ u h. absurd (cc (
+        is,
+        same_root_found l source (Some u) h (λ w k. ap Some (one_root l sound (vector_of source) u w h k)),
+      ))
 
   wanted : (t : Transfer) → IsRootWanted l t (root_found l t)
   wanted Next = tt
@@ -64,10 +69,13 @@ module _ (l : LayoutParts) (sound : IsSound l) (image : List ℕ) where
   wanted Reti = tt
   wanted (Vector source) = wanted_by source (root_found l (Vector source)) refl
 
-  walks_after : (a : Records) (cpu : Cpu) (e : Effect) (step : Move) → Ok step ≡ judged l a cpu e (unit_found l e.cpu.pc) (root_found l e.transfer) → AreWalks l a → AreWalks l (moved a e step)
+  walks_after : (a : Records) (cpu : Cpu) (e : Effect) (step : Move)
+      → Ok step ≡ judged l a cpu e (unit_found l e.cpu.pc) (root_found l e.transfer) → AreWalks l a
+      → AreWalks l (moved a e step)
   walks_after a cpu e step is h =
       allowed_stands l a e (latch cpu sp) e.cpu.pc (unit_found l e.cpu.pc) (root_found l e.transfer) step h
-      (allowed l a (latch cpu sp) (latch e.cpu sp) e.cpu.pc e.transfer (unit_found l e.cpu.pc) (root_found l e.transfer) step (wanted e.transfer) is)
+      (allowed l a (latch cpu sp) (latch e.cpu sp) e.cpu.pc e.transfer (unit_found l e.cpu.pc) (root_found l e.transfer)
+      step (wanted e.transfer) is)
 
   -- after each effect that is allowed
   module _ (m : Separate) (cpu : Cpu) (pins : Pins) (x : Held l m) (h : AreWalks l m.records) where
@@ -81,7 +89,8 @@ module _ (l : LayoutParts) (sound : IsSound l) (image : List ℕ) where
     unfolding separate_effect
     by_instr (Some instr) done =
         let o = instr_outcome l m cpu instr image pins in
-        by_outcome o (inside_ok (lie_inside l (current m.records) cpu.pc (length_of instr)) (concludes l m cpu o) _ x done).1
+        by_outcome o (inside_ok (lie_inside l (current m.records) cpu.pc (length_of instr)) (concludes l m cpu o) _ x
+        done).1
     by_instr None done =
         let inside = inside_ok (lie_inside l (current m.records) cpu.pc 1) _ _ x done in
         absurd (cc inside.1)
@@ -104,19 +113,25 @@ module _ (l : LayoutParts) (sound : IsSound l) (image : List ℕ) where
     effect_walks done = by_chosen (chosen cpu) done
 
   module _ (inputs : Inputs) where
-    step_walks : (s : State Separate) (r : Result (Held l s.memory) Event) (done : Performed Separate) → separate_effect l image s.cpu s.memory (inputs.pins s.cycle) (attempt_of image s.cpu) ≡ r
+    step_walks : (s : State Separate) (r : Result (Held l s.memory) Event) (done : Performed Separate)
+        → separate_effect l image s.cpu s.memory (inputs.pins s.cycle) (attempt_of image s.cpu) ≡ r
         → AreWalks l s.memory.records → separate_performs l inputs s r ≡ Ok done → AreWalks l done.state.memory.records
     step_walks s (Ok x) done is h e =
         let same : performed inputs s x.effect (memory_after l s.memory x) ≡ done = cc e in
-        subst (λ (d : Performed Separate). AreWalks l d.state.memory.records) same (effect_walks s.memory s.cpu (inputs.pins s.cycle) x h is)
+        subst (λ (d : Performed Separate). AreWalks l d.state.memory.records) same
+        (effect_walks s.memory s.cpu (inputs.pins s.cycle) x h is)
     step_walks s (Err event) done is h e = absurd (cc e)
 
     abbrev Ends : ℕ → State Separate → Type 0
     Ends n s = AreWalks l (record_of (separate_machine l image inputs) n s).last.memory.records
 
-    run_by : (n : ℕ) (s : State Separate) (r : Result (Performed Separate) Event) → separate_machine l image inputs s ≡ r → AreWalks l s.memory.records → ((t : State Separate) → AreWalks l t.memory.records → Ends n t)
+    run_by : (n : ℕ) (s : State Separate) (r : Result (Performed Separate) Event)
+        → separate_machine l image inputs s ≡ r → AreWalks l s.memory.records
+        → ((t : State Separate) → AreWalks l t.memory.records → Ends n t)
         → AreWalks l (record_from s (record_of (separate_machine l image inputs) n) r).last.memory.records
-    run_by n s (Ok done) is h rest = rest done.state (step_walks s (separate_effect l image s.cpu s.memory (inputs.pins s.cycle) (attempt_of image s.cpu)) done refl h is)
+    run_by n s (Ok done) is h rest =
+        rest done.state (step_walks s
+        (separate_effect l image s.cpu s.memory (inputs.pins s.cycle) (attempt_of image s.cpu)) done refl h is)
     run_by n s (Err event) is h rest = h
 
     run_walks : (n : ℕ) (s : State Separate) → AreWalks l s.memory.records → Ends n s
@@ -130,17 +145,26 @@ module _ (l : LayoutParts) (sound : IsSound l) (image : List ℕ) where
 
   start_walks : (fill unit : ℕ) → IsRootAt l 0 unit → AreWalks l (separate_start l fill).records
   start_walks fill unit root =
-      record { over = subst (λ u. IsRootAt l 0 u) (reset_is unit (unit_found l 0) (root_covers l 0 unit sound root) (unit_found_is l 0)) root }
+      record {
+        over = subst (λ u. IsRootAt l 0 u)
+            (reset_is unit (unit_found l 0) (root_covers l 0 unit sound root) (unit_found_is l 0)) root;
+      }
 
   pub one_live_at : (inputs : Inputs) (fill n unit : ℕ) → IsRootAt l 0 unit
-      → OneLive l (live_in l (record_of (separate_machine l image inputs) n (reset_with inputs (separate_start l fill))).last.memory.records)
+      → OneLive l (live_in l
+      (record_of (separate_machine l image inputs) n
+      (reset_with inputs (separate_start l fill))).last.memory.records)
   one_live_at inputs fill n unit root =
-      let a : Records = (record_of (separate_machine l image inputs) n (reset_with inputs (separate_start l fill))).last.memory.records in
-      let stand : AreWalks l a = run_walks inputs n (reset_with inputs (separate_start l fill)) (start_walks fill unit root) in
+      let a : Records = (record_of (separate_machine l image inputs) n
+      (reset_with inputs (separate_start l fill))).last.memory.records in
+      let stand : AreWalks l a =
+      run_walks inputs n (reset_with inputs (separate_start l fill)) (start_walks fill unit root) in
       one_live l (units_named a) sound (all_related l a stand)
 
-pub one_live_segment : (job : BuildJob) (contents : List (List ℕ)) (outcome : Outcome) → IsBuildOutcome job contents outcome → (script : Script) (linked : Linked) → IsBuilt job contents script linked
-    → AreOfBytes contents → (n : ℕ) → OneLive linked.layout (live_in linked.layout (separate_run linked script n).last.memory.records)
+pub one_live_segment : (job : BuildJob) (contents : List (List ℕ)) (outcome : Outcome)
+    → IsBuildOutcome job contents outcome → (script : Script) (linked : Linked) → IsBuilt job contents script linked
+    → AreOfBytes contents → (n : ℕ)
+    → OneLive linked.layout (live_in linked.layout (separate_run linked script n).last.memory.records)
 one_live_segment job contents outcome h script linked b bytes n =
     let report = reported job contents outcome h script linked b in
     let root = layout_root job contents script linked b bytes in

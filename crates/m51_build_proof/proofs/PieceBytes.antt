@@ -1,5 +1,6 @@
 -- The image of linked files is of bytes: pieces are, of sources and of objects, and fields are.
-use Rattle.std.proofs.Common.{◌≡◌, ℕ, zero, suc, ◌+◌, ◌*◌, ◌%◌, ◌-◌, ◌<◌, ◌≤◌, Bool, true, false, cond, ◌&&◌, List, [], ◌∷◌, ◌++◌, length, map, Option, Some, None, refl, sym, subst, arith}
+use Rattle.std.proofs.Common.{◌≡◌, ℕ, zero, suc, ◌+◌, ◌*◌, ◌%◌, ◌-◌, ◌<◌, ◌≤◌, Bool, true, false, cond, ◌&&◌, List, []}
+use Rattle.std.proofs.Common.{◌∷◌, ◌++◌, length, map, Option, Some, None, refl, sym, subst, arith}
 use Rattle.std.specs.Prelude.{◌==◌, nat_le, nat_lt, option_map, slice_get, unwrap_or}
 use Rattle.std.specs.List.{All, cons_option, filter_map, flat_map, range_with_len}
 use Rattle.std.specs.Option.{option_map_or, option_or}
@@ -10,7 +11,8 @@ use Rattle.m51_fields.specs.declared.fields.FieldBytes.{FieldBytes}
 use Rattle.m51_fields.specs.declared.fields.FieldBytes.TheVariants.{One}
 use Rattle.m51_fields.specs.Fields.{block_field, bytes_of as field_bytes, far_of, field_of, one_if}
 use Rattle.m51_isa.specs.Targets.{fits_byte, in_one_block, is_near}
-use Rattle.m51_linker.specs.Image.{IsImage, byte_at, content_of, fields_of, fixup_field, module_content, module_fields, placed_field, placed_piece}
+use Rattle.m51_linker.specs.Image.{IsImage, byte_at, content_of, fields_of, fixup_field, module_content, module_fields}
+use Rattle.m51_linker.specs.Image.{placed_field, placed_piece}
 use Rattle.m51_linker.specs.Stretches.{Stretch, byte_among, byte_in, stretch_at}
 use Rattle.m51_linker.specs.Targets.{address_of, target_of}
 use Rattle.m51_module.specs.declared.content.Fixup.{Fixup}
@@ -23,7 +25,8 @@ use Rattle.m51_place.specs.declared.placing.Placing.{Placing}
 use Rattle.m51_records.specs.Contents.{piece_contents}
 use Rattle.m51_frame.specs.Fields.{pair}
 use Rattle.m51_frame.specs.Frame.{front_of, record_of}
-use Rattle.m51_records.specs.Spelling.{bytes_of, external_record, header_record, piece_record, public_record, segment_record}
+use Rattle.m51_records.specs.Spelling.{bytes_of, external_record, header_record, piece_record, public_record}
+use Rattle.m51_records.specs.Spelling.{segment_record}
 use Rattle.m51_records.proofs.FieldLaws.{IsBytes, fit_back, fit_front}
 use Rattle.m51_records.proofs.ModuleLaws.{IsRead}
 use Rattle.m51_build_proof.proofs.SourceBytes.{ArePieces}
@@ -36,16 +39,22 @@ framed type contents h =
 one_piece : (p : Piece) → IsBytes (piece_record p) → IsBytes p.bytes
 one_piece p h = fit_back (pair p.offset) p.bytes (framed _ (piece_contents p) h).1
 
-spelled_pieces : (pieces : List Piece) (rest : List ℕ) → IsBytes (flat_map piece_record pieces ++ rest) → ArePieces pieces
+spelled_pieces : (pieces : List Piece) (rest : List ℕ) → IsBytes (flat_map piece_record pieces ++ rest)
+    → ArePieces pieces
 spelled_pieces [] rest h = tt
 spelled_pieces (p ∷ pieces) rest h =
-    let all : IsBytes (piece_record p ++ flat_map piece_record pieces) = fit_front (piece_record p ++ flat_map piece_record pieces) rest h in
-    (one_piece p (fit_front (piece_record p) (flat_map piece_record pieces) all), pieces_after pieces (fit_back (piece_record p) (flat_map piece_record pieces) all))
+    let all : IsBytes (piece_record p ++ flat_map piece_record pieces) =
+    fit_front (piece_record p ++ flat_map piece_record pieces) rest h in (
+      one_piece p (fit_front (piece_record p) (flat_map piece_record pieces) all),
+      pieces_after pieces (fit_back (piece_record p) (flat_map piece_record pieces) all),
+    )
   where
     pieces_after : (pieces : List Piece) → IsBytes (flat_map piece_record pieces) → ArePieces pieces
     pieces_after [] h = tt
-    pieces_after (p ∷ pieces) h =
-        (one_piece p (fit_front (piece_record p) (flat_map piece_record pieces) h), pieces_after pieces (fit_back (piece_record p) (flat_map piece_record pieces) h))
+    pieces_after (p ∷ pieces) h = (
+      one_piece p (fit_front (piece_record p) (flat_map piece_record pieces) h),
+      pieces_after pieces (fit_back (piece_record p) (flat_map piece_record pieces) h),
+    )
 
 module_pieces : (m : ModuleParts) → IsBytes (bytes_of m) → ArePieces m.pieces
 unfolding bytes_of
@@ -56,7 +65,8 @@ module_pieces m h =
     let four = fit_back (flat_map public_record m.publics) _ three in
     spelled_pieces m.pieces _ four
 
-pub object_pieces : (bytes : List ℕ) (m : ModuleParts) (rest : List ℕ) → IsBytes bytes → IsRead bytes m rest → ArePieces m.pieces
+pub object_pieces : (bytes : List ℕ) (m : ModuleParts) (rest : List ℕ) → IsBytes bytes → IsRead bytes m rest
+    → ArePieces m.pieces
 object_pieces bytes m rest fits is = module_pieces m (fit_front (bytes_of m) rest (subst IsBytes is.bytes_are fits))
 
 -- stretches of bytes
@@ -91,7 +101,8 @@ unfolding AreStretches
 among_byte [] address h = no_byte
 among_byte (s ∷ more) address h =
     byte_or (byte_among more address) (byte_in s address) (among_byte more address h.1)
-    (byte_cond (nat_le s.at address) (slice_get s.bytes (address - s.at)) None (get_byte s.bytes (address - s.at) h.0) no_byte)
+    (byte_cond (nat_le s.at address) (slice_get s.bytes (address - s.at)) None (get_byte s.bytes (address - s.at) h.0)
+    no_byte)
 
 stretches_append : (xs ys : List Stretch) → AreStretches xs → AreStretches ys → AreStretches (xs ++ ys)
 unfolding AreStretches
@@ -117,13 +128,16 @@ one_byte : (b : Bool) (byte : ℕ) → (b ≡ true → byte < 256) → IfFieldBy
 one_byte true byte h = field_some (One byte) (h refl, tt)
 one_byte false byte h = field_none
 
-block_bytes : (b : Bool) (target first : ℕ) → target < 65536 → IfFieldBytes (cond b (Some (block_field target first)) None)
+block_bytes : (b : Bool) (target first : ℕ) → target < 65536
+    → IfFieldBytes (cond b (Some (block_field target first)) None)
 block_bytes true target first h = field_some (block_field target first) (omega (arith, h), (omega arith, tt))
 block_bytes false target first h = field_none
 
-conv_bytes : (none low high : Bool) (target bit : ℕ) → nat_lt 7 bit ≡ none → (nat_le 0x20 target && nat_le target 0x2F) ≡ low
+conv_bytes : (none low high : Bool) (target bit : ℕ) → nat_lt 7 bit ≡ none
+    → (nat_le 0x20 target && nat_le target 0x2F) ≡ low
     → ((nat_le 0x80 target && nat_le target 0xF8) && (target % 8 == 0)) ≡ high
-    → IfFieldBytes (option_map (λ n. One n) (cond none None (cond low (Some ((target - 0x20) * 8 + bit)) (cond high (Some (target + bit)) None))))
+    → IfFieldBytes (option_map (λ n. One n)
+    (cond none None (cond low (Some ((target - 0x20) * 8 + bit)) (cond high (Some (target + bit)) None))))
 conv_bytes true low high target bit few is there = field_none
 conv_bytes false true high target bit few is there =
     let less : bit ≤ 7 = ltb-false 7 bit few in
@@ -136,15 +150,19 @@ conv_bytes false false true target bit few is there =
     field_some (One (target + bit)) (omega (arith, most, less), tt)
 conv_bytes false false false target bit few is there = field_none
 
-field_is_bytes : (form : Form) (bit target place first : ℕ) → target < 65536 → IsBitNumber form bit → IfFieldBytes (field_of form bit target place first)
+field_is_bytes : (form : Form) (bit target place first : ℕ) → target < 65536 → IsBitNumber form bit
+    → IfFieldBytes (field_of form bit target place first)
 field_is_bytes Low bit target place first h n = field_some _ (omega arith, tt)
 field_is_bytes Byte bit target place first h n = one_byte (fits_byte target) _ (λ _. omega arith)
 field_is_bytes Relative bit target place first h n = one_byte (is_near (far_of target place)) _ (λ _. omega arith)
 field_is_bytes High bit target place first h n = field_some _ (omega (arith, h), tt)
 field_is_bytes Word bit target place first h n = field_some _ (omega (arith, h), (omega arith, tt))
-field_is_bytes Inblock bit target place first h n = block_bytes (in_one_block target ((place + 2) % 65536)) target first h
+field_is_bytes Inblock bit target place first h n =
+    block_bytes (in_one_block target ((place + 2) % 65536)) target first h
 field_is_bytes Bit bit target place first h n = one_byte (nat_le target 0xFF) _ (λ _. omega arith)
-field_is_bytes Conv bit target place first h n = conv_bytes (nat_lt 7 bit) (nat_le 0x20 target && nat_le target 0x2F) ((nat_le 0x80 target && nat_le target 0xF8) && (target % 8 == 0)) target bit refl refl refl
+field_is_bytes Conv bit target place first h n =
+    conv_bytes (nat_lt 7 bit) (nat_le 0x20 target && nat_le target 0x2F)
+    ((nat_le 0x80 target && nat_le target 0xF8) && (target % 8 == 0)) target bit refl refl refl
 
 -- what holds of a module
 pub record HasBytes (m : ModuleParts) : Type 0 where
@@ -157,18 +175,21 @@ module _ (modules : List ModuleParts) (placing : Placing) (all : All HasBytes mo
       subst (λ (x : ModuleParts). HasBytes x) (get_or_from_slice_get modules m parts parts is)
       (All-get_or HasBytes modules m parts (slice_get_within modules m parts is) all)
 
-  placed_bytes : (m : ℕ) (pieces : List Piece) → ArePieces pieces → AreStretches (map (placed_piece modules placing m) pieces)
+  placed_bytes : (m : ℕ) (pieces : List Piece) → ArePieces pieces
+      → AreStretches (map (placed_piece modules placing m) pieces)
   unfolding AreStretches
   placed_bytes m [] h = tt
   placed_bytes m (p ∷ pieces) h = (h.0, placed_bytes m pieces h.1)
 
-  content_by : (m : ℕ) (o : Option ModuleParts) → slice_get modules m ≡ o → AreStretches (option_map_or (λ (parts : ModuleParts). map (placed_piece modules placing m) parts.pieces) o [])
+  content_by : (m : ℕ) (o : Option ModuleParts) → slice_get modules m ≡ o
+      → AreStretches (option_map_or (λ (parts : ModuleParts). map (placed_piece modules placing m) parts.pieces) o [])
   unfolding AreStretches
   content_by m None is = tt
   content_by m (Some parts) is = placed_bytes m parts.pieces (known_at m parts is).pieces
 
   content_are : AreStretches (content_of modules placing)
-  content_are = stretches_flat (module_content modules placing) (λ m. content_by m (slice_get modules m) refl) (range_with_len 0 (length modules))
+  content_are = stretches_flat (module_content modules placing) (λ m. content_by m (slice_get modules m) refl)
+      (range_with_len 0 (length modules))
 
   target_fits : (m : ℕ) (f : Fixup) → target_of modules placing m f < 65536
   target_fits m f = omega arith
@@ -176,35 +197,43 @@ module _ (modules : List ModuleParts) (placing : Placing) (all : All HasBytes mo
   fixup_bytes : (m : ℕ) (f : Fixup) → IsBitNumber f.form f.bit → IfFieldBytes (fixup_field modules placing m f)
   fixup_bytes m f bit = field_is_bytes f.form f.bit (target_of modules placing m f) _ _ (target_fits m f) bit
 
-  option_bytes : (at : ℕ) (o : Option FieldBytes) (rest : List Stretch) → IfFieldBytes o → AreStretches rest → AreStretches (cons_option (option_map (stretch_at at) o) rest)
+  option_bytes : (at : ℕ) (o : Option FieldBytes) (rest : List Stretch) → IfFieldBytes o → AreStretches rest
+      → AreStretches (cons_option (option_map (stretch_at at) o) rest)
   unfolding AreStretches
   option_bytes at None rest h k = k
   option_bytes at (Some field) rest h k = (h.holds field refl, k)
 
-  fixups_bytes : (m : ℕ) (parts : ModuleParts) (fixups : List Fixup) → All (IsFixupValid parts.segments parts.externals parts.pieces) fixups
+  fixups_bytes : (m : ℕ) (parts : ModuleParts) (fixups : List Fixup)
+      → All (IsFixupValid parts.segments parts.externals parts.pieces) fixups
       → AreStretches (filter_map (placed_field modules placing m) fixups)
   unfolding AreStretches
   fixups_bytes m parts [] valid = tt
   fixups_bytes m parts (f ∷ fixups) valid =
-      option_bytes (address_of modules placing m f.segment f.offset) (fixup_field modules placing m f) (filter_map (placed_field modules placing m) fixups)
+      option_bytes (address_of modules placing m f.segment f.offset) (fixup_field modules placing m f)
+      (filter_map (placed_field modules placing m) fixups)
       (fixup_bytes m f (All-head (IsFixupValid parts.segments parts.externals parts.pieces) f fixups valid).bit)
       (fixups_bytes m parts fixups (All-tail (IsFixupValid parts.segments parts.externals parts.pieces) f fixups valid))
 
-  fields_by : (m : ℕ) (o : Option ModuleParts) → slice_get modules m ≡ o → AreStretches (option_map_or (λ (parts : ModuleParts). filter_map (placed_field modules placing m) parts.fixups) o [])
+  fields_by : (m : ℕ) (o : Option ModuleParts) → slice_get modules m ≡ o
+      → AreStretches (option_map_or (λ (parts : ModuleParts). filter_map (placed_field modules placing m) parts.fixups)
+      o [])
   unfolding AreStretches
   fields_by m None is = tt
   fields_by m (Some parts) is = fixups_bytes m parts parts.fixups (known_at m parts is).valid.fixups
 
   fields_are : AreStretches (fields_of modules placing)
-  fields_are = stretches_flat (module_fields modules placing) (λ m. fields_by m (slice_get modules m) refl) (range_with_len 0 (length modules))
+  fields_are = stretches_flat (module_fields modules placing) (λ m. fields_by m (slice_get modules m) refl)
+      (range_with_len 0 (length modules))
 
   or_erased : (o : Option ℕ) → IfByte o → unwrap_or o 0xFF < 256
   or_erased None h = omega arith
   or_erased (Some x) h = h.holds x refl
 
   byte_is : (address : ℕ) → byte_at modules placing address < 256
-  byte_is address = or_erased _ (byte_or (byte_among (fields_of modules placing) address) (byte_among (content_of modules placing) address)
-      (among_byte (fields_of modules placing) address fields_are) (among_byte (content_of modules placing) address content_are))
+  byte_is address = or_erased _
+      (byte_or (byte_among (fields_of modules placing) address) (byte_among (content_of modules placing) address)
+      (among_byte (fields_of modules placing) address fields_are)
+      (among_byte (content_of modules placing) address content_are))
 
   pub image_bytes : (image : List ℕ) → IsImage modules placing image → All (λ byte. byte < 256) image
   image_bytes image is =

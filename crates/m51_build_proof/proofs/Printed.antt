@@ -70,7 +70,8 @@ one_more : (placed : List Placed) (n : ℕ)
 unfolding overlaid_below
 one_more placed n = counted_more (λ a. list_any (overlays a) placed) n
 
-count_same : (placed : List Placed) (n : ℕ) → overlaid_below placed n ≡ count_below (λ byte. list_any (overlays_byte byte) placed) n
+count_same : (placed : List Placed) (n : ℕ)
+    → overlaid_below placed n ≡ count_below (λ byte. list_any (overlays_byte byte) placed) n
 unfolding count_below
 count_same placed zero = none_overlaid placed
 count_same placed (suc n) =
@@ -78,7 +79,8 @@ count_same placed (suc n) =
     let more : overlaid_below placed (suc n) ≡ overlaid_below placed n + cond (list_any (overlays n) placed) 1 0 =
     ap (overlaid_below placed) next ∙ one_more placed n in
     let one : Bool → ℕ = λ b. cond b 1 0 in
-    let test : one (list_any (overlays n) placed) ≡ one (list_any (overlays_byte n) placed) = ap one (any_same n placed) in
+    let test : one (list_any (overlays n) placed) ≡ one (list_any (overlays_byte n) placed) =
+    ap one (any_same n placed) in
     omega (arith, more, test, count_same placed n)
 
 -- the figure of a map is that of the laws on placing

@@ -11,5 +11,6 @@ headline job contents outcome bytes h = record {
   prints = λ script linked b. prints_record job contents outcome h script linked b;
   live = λ script linked n b. one_live_segment job contents outcome h script linked b bytes n;
   alike = λ script linked kept b keeps. runs_alike job contents outcome script linked kept bytes h b keeps;
-  repeats = λ script linked kept flat others b keeps same. repeats job contents outcome script linked kept flat others bytes h b keeps same;
+  repeats = λ script linked kept flat others b keeps same. repeats job contents outcome script linked kept flat others
+      bytes h b keeps same;
 }

@@ -1,5 +1,6 @@
 -- What the lines of a source say: their expressions write numbers of 16 bits, and their texts are bytes.
-use Rattle.std.proofs.Common.{◌≡◌, inl, inr, ℕ, nat_lt, Bool, true, false, List, [], ◌∷◌, drop, take, Option, Some, None, Result, Ok, Err, refl, subst}
+use Rattle.std.proofs.Common.{◌≡◌, inl, inr, ℕ, nat_lt, Bool, true, false, List, [], ◌∷◌, drop, take, Option, Some}
+use Rattle.std.proofs.Common.{None, Result, Ok, Err, refl, subst}
 use Rattle.std.specs.Char.{is_ascii_alphanumeric}
 use Rattle.std.specs.List.{AllByRecursion, list_all, prefix_len}
 use Rattle.std.specs.Str.{bytes_eq}
@@ -81,12 +82,14 @@ item_texts : (l : List Symbol) (i : ItemTree) → grammar.IsItem l i → Each Is
 item_texts l i grammar.Text h = h.0
 item_texts l i (grammar.Value other is) h = tt
 
-items_texts : (l : List Symbol) (xs : List ItemTree) → grammar.IsList grammar.IsItem l xs → Each IsGood l → Each IsTextItem xs
+items_texts : (l : List Symbol) (xs : List ItemTree) → grammar.IsList grammar.IsItem l xs → Each IsGood l
+    → Each IsTextItem xs
 items_texts l xs (grammar.Last {a = a} is) h = (item_texts l a is h, tt)
 items_texts l xs (grammar.Comma {part = part} {rest = rest} {a = a} {more = more} is others) h =
     (item_texts part a is (each_front IsGood part _ h), items_texts rest more others (each_back IsGood part _ h).1)
 
-definition_texts : (name : List ℕ) (d : _) (l : List Symbol) (b : BodyTree) → grammar.IsDefinition name d l b → HasTexts b
+definition_texts : (name : List ℕ) (d : _) (l : List Symbol) (b : BodyTree) → grammar.IsDefinition name d l b
+    → HasTexts b
 definition_texts name d l b (grammar.Segment kinds types _ allowed) = tt
 definition_texts name d l b (grammar.Equ is) = tt
 definition_texts name d l b (grammar.Set is) = tt
@@ -107,11 +110,13 @@ directive_texts d l b (grammar.Public is) h = tt
 directive_texts d l b (grammar.Extrn is) h = tt
 directive_texts d l b grammar.End h = tt
 
-said_texts : (labelled : Bool) (l : List Symbol) (b : BodyTree) → grammar.IsSaid labelled l b → Each IsGood l → HasTexts b
+said_texts : (labelled : Bool) (l : List Symbol) (b : BodyTree) → grammar.IsSaid labelled l b → Each IsGood l
+    → HasTexts b
 said_texts labelled l b grammar.Nothing h = tt
 said_texts labelled l b (grammar.Instruction is given form) h = tt
 said_texts labelled l b (grammar.Directed {d = d} {symbols = rest} found is) h = directive_texts d rest b is h.1
-said_texts labelled l b (grammar.Defined {name = name} {d = d} {symbols = rest} free found is) h = definition_texts name d rest b is
+said_texts labelled l b (grammar.Defined {name = name} {d = d} {symbols = rest} free found is) h =
+    definition_texts name d rest b is
 
 statement_texts : (l : List Symbol) (s : StmtTree) → grammar.IsStatement l s → Each IsGood l → HasTexts s.body
 statement_texts l s (grammar.Labelled {symbols = rest} {b = b} free is) h = said_texts true rest b is h.1.1
@@ -138,7 +143,8 @@ control_word : (word rest : List ℕ) → IfRead (control.by_word word rest) IsN
 unfolding control.by_word
 control_word word rest =
     ok_cond (bytes_eq word (codes "INCLUDE")) (λ _. included (parenthesized rest)) (λ _.
-    ok_cond (bytes_eq word (codes "TITLE")) (λ _. ok_cond (ends rest) (λ _. ok_is tt) (λ _. ignored (parenthesized rest))) (λ _.
+    ok_cond (bytes_eq word (codes "TITLE"))
+    (λ _. ok_cond (ends rest) (λ _. ok_is tt) (λ _. ignored (parenthesized rest))) (λ _.
     ok_cond (bytes_eq word (codes "MOD51")) (λ _. ok_if BAD_FORM (ends rest) (λ _. ok_is tt)) (λ _.
     ok_cond (bytes_eq word (codes "NOMOD51")) (λ _. ok_if BAD_FORM (ends rest) (λ _. ok_is tt)) (λ _.
     ok_if BAD_FORM (is_ignored_word word) (λ _. ok_if BAD_FORM (ends rest) (λ _. ok_is tt))))))
@@ -148,12 +154,15 @@ control_name None rest = err_is
 control_name (Some word) rest = control_word word rest
 
 control_plain : (rest : List ℕ) → IfRead (control.control rest) IsNoContent
-control_plain rest = let len = prefix_len is_ascii_alphanumeric rest in control_name (name_of (take len rest)) (drop len rest)
+control_plain rest = let len = prefix_len is_ascii_alphanumeric rest in
+    control_name (name_of (take len rest)) (drop len rest)
 
 line_texts : (line : List ℕ) (s : StmtTree) → grammar.IsLine line s → Each IsByte line → HasTexts s.body
-line_texts line s (grammar.Control {b = b} dollar read') bytes = no_content b ((control_plain (drop 1 line)).holds b read')
+line_texts line s (grammar.Control {b = b} dollar read') bytes =
+    no_content b ((control_plain (drop 1 line)).holds b read')
 line_texts line s (grammar.Statement {tokens = tokens} no_dollar no_percent cut is) bytes =
-    statement_texts (symbols_of line tokens) s is (symbols_good line tokens bytes ((tokens_good line 0 0).holds tokens cut))
+    statement_texts (symbols_of line tokens) s is
+    (symbols_good line tokens bytes ((tokens_good line 0 0).holds tokens cut))
 
 -- lines
 small_said : (line : List ℕ) (s : StmtTree) → said line ≡ Ok s → IsSmallBody s.body
@@ -162,13 +171,15 @@ small_said line s h =
     let p = passes (list_all is_character line) _ (statement_of line) s h in
     let reads : any_line line ≡ Ok s = short (nat_lt 255 _) _ (any_line line) s p.1 in
     let bytes = bytes_all line p.0 in
-    small_line s.label s.body (written_is_good line s (record { bytes = All-from_recursion IsByte line bytes; reads = reads }))
+    small_line s.label s.body
+    (written_is_good line s (record { bytes = All-from_recursion IsByte line bytes; reads = reads }))
     (line_texts line s ((line_derived line).holds s reads) (each_byte line bytes))
 
 abbrev pub SmallTree : LineTree → Type 0
 SmallTree l = IsSmallBody l.stmt.body
 
-one_small : (line : TextLine) (r : Result StmtTree ℕ) (more : List LineTree) → said line.bytes ≡ r → AllByRecursion SmallTree more → AllByRecursion SmallTree (with_statement line r more)
+one_small : (line : TextLine) (r : Result StmtTree ℕ) (more : List LineTree) → said line.bytes ≡ r
+    → AllByRecursion SmallTree more → AllByRecursion SmallTree (with_statement line r more)
 one_small line (Ok s) more e all = (small_said line.bytes s e, all)
 one_small line (Err number) more e all = all
 
@@ -177,7 +188,8 @@ all_small [] = tt
 all_small (l ∷ ls) = one_small l (said l.bytes) (statements_of ls) refl (all_small ls)
 
 -- the lines of a text
-pub lines_small : (source : SourceFile) (includes : List SourceFile) (lines : List LineTree) → text_of source includes ≡ Lines lines → AllByRecursion SmallTree lines
+pub lines_small : (source : SourceFile) (includes : List SourceFile) (lines : List LineTree)
+    → text_of source includes ≡ Lines lines → AllByRecursion SmallTree lines
 lines_small source includes lines read =
     let ls : List TextLine = text_lines source includes in
     subst (AllByRecursion SmallTree) (found_are (faults_of includes ls) (statements_of ls) lines read) (all_small ls)

@@ -3,7 +3,8 @@ use Rattle.std.proofs.Common.{◌≡◌, ℕ, false, ◌++◌, List, codes, get_
 use Rattle.std.proofs.lemmas.Bool.{eq-eqb, false≢true}
 use Rattle.std.proofs.lemmas.List.{append_cancel_left, append_cancel_right}
 use Rattle.m51_module.specs.declared.linked.Refusal.{Refusal}
-use Rattle.m51_module.specs.declared.linked.Refusal.TheVariants.{L1, L2, L3, L4, L5, L6, L7, L8, L9, L10, L11, L12, L13, Limit, Memory}
+use Rattle.m51_module.specs.declared.linked.Refusal.TheVariants.{L1, L2, L3, L4, L5, L6, L7, L8, L9, L10, L11, L12, L13}
+use Rattle.m51_module.specs.declared.linked.Refusal.TheVariants.{Limit, Memory}
 use Rattle.m51_print.specs.Refusals.{after_blank, refusal_text}
 
 -- two texts with different bytes at a place
@@ -23,7 +24,8 @@ line_of_l12 (L9 one two) name h = absurd (apart 6 h refl)
 line_of_l12 (L10 units) name h = absurd (apart 7 h refl)
 line_of_l12 (L11 unit one two) name h = absurd (apart 7 h refl)
 line_of_l12 (L12 other) name h =
-    let words = append_cancel_right (codes "LINK L12" ++ after_blank other) (codes "LINK L12" ++ after_blank name) (codes "\n") h in
+    let words = append_cancel_right (codes "LINK L12" ++ after_blank other) (codes "LINK L12" ++ after_blank name)
+    (codes "\n") h in
     let names = append_cancel_left (codes "LINK L12") (after_blank other) (after_blank name) words in
     ap L12 (append_cancel_left (codes " ") other name names)
 line_of_l12 (L13 other offset) name h = absurd (apart 7 h refl)

@@ -28,16 +28,19 @@ use Rattle.m51_chain.specs.Linking.{Follows, IsProgramOutcome, Unlinked}
 use Rattle.m51_verbs.specs.LinkRefusals.{link_outcome}
 use Rattle.m51_verbs.specs.Outcome.{Outcome}
 use Rattle.m51_chain.specs.Programs.{IsReport, filled_by}
-use Rattle.m51_build_proof.specs.Overlay.{BuildHasWeight, BuildPrintsLeast, BuildRefusesOverlay, ReachesPlacing, IsPremise, PrintsLeast, PrintsWeight, RefusesOverlay}
+use Rattle.m51_build_proof.specs.Overlay.{BuildHasWeight, BuildPrintsLeast, BuildRefusesOverlay, ReachesPlacing}
+use Rattle.m51_build_proof.specs.Overlay.{IsPremise, PrintsLeast, PrintsWeight, RefusesOverlay}
 use Rattle.m51_build_proof.specs.Builds.{IsRun}
 use Rattle.m51_build_proof.proofs.GraphKept.{graph_kept}
 use Rattle.m51_build_proof.proofs.LeastOverlay.{AreKnown, covers_least, prints_weight}
-use Rattle.m51_build_proof.proofs.Outcomes.{has_placing, lacks_placing, not_link, not_run, outcome_of_graph, stays_unplaced}
+use Rattle.m51_build_proof.proofs.Outcomes.{has_placing, lacks_placing, not_link, not_run, outcome_of_graph}
+use Rattle.m51_build_proof.proofs.Outcomes.{stays_unplaced}
 use Rattle.m51_build_proof.proofs.Known.{modules_known}
 use Rattle.m51_build_proof.proofs.RefusalLines.{line_of_l12}
 use Rattle.m51_build_proof.proofs.Weights.{has_weight}
 
-known : (job : BuildJob) (contents : List (List ℕ)) (modules : List ModuleParts) (controls : List (ℕ × Control)) (g : GraphParts) → ReachesPlacing job contents modules controls g → AreKnown modules controls g
+known : (job : BuildJob) (contents : List (List ℕ)) (modules : List ModuleParts) (controls : List (ℕ × Control))
+    (g : GraphParts) → ReachesPlacing job contents modules controls g → AreKnown modules controls g
 known job contents modules controls g r =
     let k = modules_known (build_files job) contents r.inputs modules r.bytes r.read r.chosen in
     record {
@@ -54,37 +57,46 @@ regroup a o i r t = append_assoc ((a ++ o) ++ i) r t ∙ append_assoc (a ++ o) i
 
 abbrev before : LayoutParts → List ℕ → List Chain → List ℕ
 before l roots chains =
-    codes "SEGMENTS\n" ++ flat_map segment_line l.placed ++ codes "UNITS\n" ++ unit_lines l roots (length l.units) ++ flat_map (line_of_chain l) chains
+    codes "SEGMENTS\n" ++ flat_map segment_line l.placed ++ codes "UNITS\n" ++ unit_lines l roots (length l.units)
+    ++ flat_map (line_of_chain l) chains
 
 abbrev after_overlaid : ℕ → List ℕ → List ℕ
 after_overlaid bytes rest = image_line bytes ++ (codes "RUN\n" ++ rest)
 
-map_is : (l : LayoutParts) (roots : List ℕ) (chains : List Chain) (bytes : ℕ) (rest line : List ℕ) → overlaid_line l.placed ≡ line
-    → (map_of l roots chains bytes ++ codes "RUN\n") ++ rest ≡ (before l roots chains ++ line) ++ after_overlaid bytes rest
+map_is : (l : LayoutParts) (roots : List ℕ) (chains : List Chain) (bytes : ℕ) (rest line : List ℕ)
+    → overlaid_line l.placed ≡ line
+    → (map_of l roots chains bytes ++ codes "RUN\n") ++ rest ≡ (before l roots chains ++ line)
+    ++ after_overlaid bytes rest
 unfolding map_of
 map_is l roots chains bytes rest line h =
     regroup (before l roots chains) (overlaid_line l.placed) (image_line bytes) (codes "RUN\n") rest
     ∙ ap (λ (o : List ℕ). (before l roots chains ++ o) ++ after_overlaid bytes rest) h
 
-report_prints : (linked : Linked) (l : LayoutParts) (job : BuildJob) (script : Script) (weight : ℕ) (outcome : Outcome) → linked.layout ≡ l
-    → overlaid_line l.placed ≡ codes "OVERLAID " ++ decimal weight ++ codes " BYTES\n" → IsReport linked job.hex script job.steps outcome → PrintsWeight l weight outcome.text
+report_prints : (linked : Linked) (l : LayoutParts) (job : BuildJob) (script : Script) (weight : ℕ) (outcome : Outcome)
+    → linked.layout ≡ l
+    → overlaid_line l.placed ≡ codes "OVERLAID " ++ decimal weight ++ codes " BYTES\n"
+    → IsReport linked job.hex script job.steps outcome → PrintsWeight l weight outcome.text
 report_prints linked l job script weight outcome same line report =
     let rest : List ℕ = (report_of linked.layout linked.image script job.steps).text in
-    let here : overlaid_line linked.layout.placed ≡ codes "OVERLAID " ++ decimal weight ++ codes " BYTES\n" = ap (λ (x : LayoutParts). overlaid_line x.placed) same ∙ line in
+    let here : overlaid_line linked.layout.placed ≡ codes "OVERLAID " ++ decimal weight ++ codes " BYTES\n" =
+    ap (λ (x : LayoutParts). overlaid_line x.placed) same ∙ line in
     let prints : PrintsWeight linked.layout weight outcome.text = record {
       roots = linked.roots;
       chains = report.chains;
       heaviest = report.heaviest;
       after = after_overlaid (filled_by linked.written) rest;
       is = ap (λ (o : Outcome). o.text) report.is
-          ∙ map_is linked.layout linked.roots report.chains (filled_by linked.written) rest (codes "OVERLAID " ++ decimal weight ++ codes " BYTES\n") here;
+          ∙ map_is linked.layout linked.roots report.chains (filled_by linked.written) rest
+          (codes "OVERLAID " ++ decimal weight ++ codes " BYTES\n") here;
     } in
     subst (λ (x : LayoutParts). PrintsWeight x weight outcome.text) same prints
 
-module _ (job : BuildJob) (contents : List (List ℕ)) (outcome : Outcome) (modules : List ModuleParts) (controls : List (ℕ × Control)) (g : GraphParts) (low high weight : ℕ)
+module _ (job : BuildJob) (contents : List (List ℕ)) (outcome : Outcome) (modules : List ModuleParts)
+    (controls : List (ℕ × Control)) (g : GraphParts) (low high weight : ℕ)
     (r : ReachesPlacing job contents modules controls g) (premise : IsPremise modules controls g low high weight) where
   abbrev Comes : Type 0
-  Comes = IsProgramOutcome (placed_of modules controls g) (λ linked. IsReport linked job.hex r.inputs.script job.steps) outcome
+  Comes = IsProgramOutcome (placed_of modules controls g) (λ linked. IsReport linked job.hex r.inputs.script job.steps)
+      outcome
 
   are : AreKnown modules controls g
   are = known job contents modules controls g r
@@ -103,15 +115,19 @@ module _ (job : BuildJob) (contents : List (List ℕ)) (outcome : Outcome) (modu
       }
 
   abbrev Exceeds : Type 0
-  Exceeds = ExceedsRun g (fixed_of modules controls (segments_of modules)) (order_of g controls (segments_of modules)) low high weight
+  Exceeds = ExceedsRun g (fixed_of modules controls (segments_of modules)) (order_of g controls (segments_of modules))
+      low high weight
 
   decides : (RefusesOverlaid modules controls g → Exceeds) × (Exceeds → RefusesOverlaid modules controls g)
-  decides = overlay_is_refused modules controls g low high weight are.valid are.kept are.is are.graph premise.overlaid premise.run premise.weight_is
+  decides = overlay_is_refused modules controls g low high weight are.valid are.kept are.is are.graph premise.overlaid
+      premise.run premise.weight_is
 
   exceeds : Comes → RefusesOverlay modules g outcome → Exceeds
   exceeds (Unlinked why is one) refused =
-      let text : refusal_text why ≡ refusal_text (L12 refused.segment.title) = sym (ap (λ (o : Outcome). o.text) one) ∙ refused.text in
-      let stopped : placed_of modules controls g ≡ Err (L12 refused.segment.title) = is ∙ ap (λ (x : Refusal). Err x) (line_of_l12 why refused.segment.title text) in
+      let text : refusal_text why ≡ refusal_text (L12 refused.segment.title) = sym (ap (λ (o : Outcome). o.text) one)
+      ∙ refused.text in
+      let stopped : placed_of modules controls g ≡ Err (L12 refused.segment.title) =
+      is ∙ ap (λ (x : Refusal). Err x) (line_of_l12 why refused.segment.title text) in
       decides.0 (record {
         number = refused.number;
         unit = refused.unit;
@@ -121,12 +137,14 @@ module _ (job : BuildJob) (contents : List (List ℕ)) (outcome : Outcome) (modu
         refused = lacks_placing modules controls g refused.segment.title stopped;
       })
   exceeds (Follows p linked is linked_is report) refused =
-      absurd (not_link (report_of linked.layout linked.image r.inputs.script job.steps).event (sym (ap (λ (o : Outcome). o.status) report.is) ∙ refused.status))
+      absurd (not_link (report_of linked.layout linked.image r.inputs.script job.steps).event
+      (sym (ap (λ (o : Outcome). o.status) report.is) ∙ refused.status))
 
   refuses : Comes → Exceeds → RefusesOverlay modules g outcome
   refuses (Unlinked why is one) e =
       let by = decides.1 e in
-      let stopped : placed_of modules controls g ≡ Err (L12 by.segment.title) = stays_unplaced modules controls g by.segment.title by.refused in
+      let stopped : placed_of modules controls g ≡ Err (L12 by.segment.title) =
+      stays_unplaced modules controls g by.segment.title by.refused in
       let same : why ≡ L12 by.segment.title = cc (is, stopped) in
       let comes : outcome ≡ link_outcome (L12 by.segment.title) = one ∙ ap link_outcome same in
       record {
@@ -140,17 +158,21 @@ module _ (job : BuildJob) (contents : List (List ℕ)) (outcome : Outcome) (modu
       }
   refuses (Follows p linked is linked_is report) e =
       let by = decides.1 e in
-      let stopped : placed_of modules controls g ≡ Err (L12 by.segment.title) = stays_unplaced modules controls g by.segment.title by.refused in
+      let stopped : placed_of modules controls g ≡ Err (L12 by.segment.title) =
+      stays_unplaced modules controls g by.segment.title by.refused in
       absurd (cc (is, stopped))
 
 pub build_prints_least : BuildPrintsLeast
 build_prints_least job contents outcome modules controls g low high weight h run r premise =
-    prints job contents outcome modules controls g low high weight r premise (outcome_of_graph modules controls g job contents outcome r h) run
+    prints job contents outcome modules controls g low high weight r premise
+    (outcome_of_graph modules controls g job contents outcome r h) run
 
 pub build_refuses_overlay : BuildRefusesOverlay
 build_refuses_overlay job contents outcome modules controls g low high weight h r premise =
-    let comes = outcome_of_graph modules controls g job contents outcome r h in
-    (exceeds job contents outcome modules controls g low high weight r premise comes, refuses job contents outcome modules controls g low high weight r premise comes)
+    let comes = outcome_of_graph modules controls g job contents outcome r h in (
+      exceeds job contents outcome modules controls g low high weight r premise comes,
+      refuses job contents outcome modules controls g low high weight r premise comes,
+    )
 
 pub build_has_weight : BuildHasWeight
 build_has_weight job contents modules controls g r =

@@ -20,20 +20,27 @@ use Rattle.m51_build_proof.proofs.Known.{AreGiven, modules_known}
 abbrev pub AreKnown : (job : BuildJob) (contents : List (List ℕ)) → IsAccepted job contents → Type 0
 AreKnown job contents a = AreGiven a.program.modules a.inputs.controls
 
-pub known : (job : BuildJob) (contents : List (List ℕ)) (a : IsAccepted job contents) → AreOfBytes contents → AreKnown job contents a
-known job contents a bytes = modules_known (build_files job) contents a.inputs a.program.modules bytes a.read a.rules.chosen
+pub known : (job : BuildJob) (contents : List (List ℕ)) (a : IsAccepted job contents) → AreOfBytes contents
+    → AreKnown job contents a
+known job contents a bytes =
+    modules_known (build_files job) contents a.inputs a.program.modules bytes a.read a.rules.chosen
 
-program_root : (job : BuildJob) (contents : List (List ℕ)) (a : IsAccepted job contents) → AreKnown job contents a → (unit : ℕ) × IsRootAt a.program.placing.layout 0 unit
+program_root : (job : BuildJob) (contents : List (List ℕ)) (a : IsAccepted job contents) → AreKnown job contents a
+    → (unit : ℕ) × IsRootAt a.program.placing.layout 0 unit
 program_root job contents a k =
     let modules = a.program.modules in
     let controls = a.inputs.controls in
     let g = a.program.graph in
-    let of = of_located g (length (segments_of modules)) (located_of modules controls g) a.program.placing a.rules.placed in
+    let of = of_located g (length (segments_of modules)) (located_of modules controls g) a.program.placing
+    a.rules.placed in
     let whole = placed_whole modules controls g of.located a.rules.drawn k.valid k.resolved k.kept of.is in
-    let places : ArePlaces (segments_of modules) a.program.placing = subst (λ (p : Placing). ArePlaces (segments_of modules) p) of.placing (places_are g (segments_of modules) of.located whole) in
+    let places : ArePlaces (segments_of modules) a.program.placing =
+    subst (λ (p : Placing). ArePlaces (segments_of modules) p) of.placing
+    (places_are g (segments_of modules) of.located whole) in
     reset modules controls g a.program.placing a.rules.drawn a.rules.placed places
 
-pub layout_root : (job : BuildJob) (contents : List (List ℕ)) (script : Script) (linked : Linked) → IsBuilt job contents script linked → AreOfBytes contents
+pub layout_root : (job : BuildJob) (contents : List (List ℕ)) (script : Script) (linked : Linked)
+    → IsBuilt job contents script linked → AreOfBytes contents
     → (unit : ℕ) × IsRootAt linked.layout 0 unit
 layout_root job contents script linked b bytes =
     let root = program_root job contents b.accepted (known job contents b.accepted bytes) in

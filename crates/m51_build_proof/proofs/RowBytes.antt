@@ -16,7 +16,8 @@ LookFits (look.AtR n) = n < 2
 LookFits _ = Unit {0}
 
 -- numbers of 16 bits in the fields
-pub row_bytes : (i : Instr) (a b c : ℕ) → LookFits (look_of (text_of i).first) → LookFits (look_of (text_of i).second) → LookFits (look_of (text_of i).third) → a < 65536 → b < 65536
+pub row_bytes : (i : Instr) (a b c : ℕ) → LookFits (look_of (text_of i).first) → LookFits (look_of (text_of i).second)
+    → LookFits (look_of (text_of i).third) → a < 65536 → b < 65536
     → IsBytes (encoded (with_numbers i a b c))
 row_bytes row.Nop a b c one two three small_a small_b = (omega arith, tt)
 row_bytes (row.JbcBitRel bit rel) a b c one two three small_a small_b = (omega arith, (omega arith, (omega arith, tt)))
@@ -27,7 +28,8 @@ row_bytes (row.JncRel rel) a b c one two three small_a small_b = (omega arith, (
 row_bytes (row.JzRel rel) a b c one two three small_a small_b = (omega arith, (omega arith, tt))
 row_bytes (row.JnzRel rel) a b c one two three small_a small_b = (omega arith, (omega arith, tt))
 row_bytes (row.SjmpRel rel) a b c one two three small_a small_b = (omega arith, (omega arith, tt))
-row_bytes (row.MovDptrData16 word) a b c one two three small_a small_b = (omega (arith, small_a, small_b), (omega (arith, small_a, small_b), (omega (arith, small_a, small_b), tt)))
+row_bytes (row.MovDptrData16 word) a b c one two three small_a small_b =
+    (omega (arith, small_a, small_b), (omega (arith, small_a, small_b), (omega (arith, small_a, small_b), tt)))
 row_bytes (row.OrlCNotBit bit) a b c one two three small_a small_b = (omega arith, (omega arith, tt))
 row_bytes (row.AnlCNotBit bit) a b c one two three small_a small_b = (omega arith, (omega arith, tt))
 row_bytes (row.PushDirect direct) a b c one two three small_a small_b = (omega arith, (omega arith, tt))
@@ -36,8 +38,10 @@ row_bytes row.MovxAAtDptr a b c one two three small_a small_b = (omega arith, tt
 row_bytes row.MovxAtDptrA a b c one two three small_a small_b = (omega arith, tt)
 row_bytes (row.AjmpAddr11 address) a b c one two three small_a small_b = (omega arith, (omega arith, tt))
 row_bytes (row.AcallAddr11 address) a b c one two three small_a small_b = (omega arith, (omega arith, tt))
-row_bytes (row.LjmpAddr16 address) a b c one two three small_a small_b = (omega (arith, small_a, small_b), (omega (arith, small_a, small_b), (omega (arith, small_a, small_b), tt)))
-row_bytes (row.LcallAddr16 address) a b c one two three small_a small_b = (omega (arith, small_a, small_b), (omega (arith, small_a, small_b), (omega (arith, small_a, small_b), tt)))
+row_bytes (row.LjmpAddr16 address) a b c one two three small_a small_b =
+    (omega (arith, small_a, small_b), (omega (arith, small_a, small_b), (omega (arith, small_a, small_b), tt)))
+row_bytes (row.LcallAddr16 address) a b c one two three small_a small_b =
+    (omega (arith, small_a, small_b), (omega (arith, small_a, small_b), (omega (arith, small_a, small_b), tt)))
 row_bytes row.Ret a b c one two three small_a small_b = (omega arith, tt)
 row_bytes row.Reti a b c one two three small_a small_b = (omega arith, tt)
 row_bytes (row.OrlDirectA direct) a b c one two three small_a small_b = (omega arith, (omega arith, tt))
@@ -56,9 +60,12 @@ row_bytes row.RrA a b c one two three small_a small_b = (omega arith, tt)
 row_bytes row.RrcA a b c one two three small_a small_b = (omega arith, tt)
 row_bytes row.RlA a b c one two three small_a small_b = (omega arith, tt)
 row_bytes row.RlcA a b c one two three small_a small_b = (omega arith, tt)
-row_bytes (row.OrlDirectData direct value) a b c one two three small_a small_b = (omega arith, (omega arith, (omega arith, tt)))
-row_bytes (row.AnlDirectData direct value) a b c one two three small_a small_b = (omega arith, (omega arith, (omega arith, tt)))
-row_bytes (row.XrlDirectData direct value) a b c one two three small_a small_b = (omega arith, (omega arith, (omega arith, tt)))
+row_bytes (row.OrlDirectData direct value) a b c one two three small_a small_b =
+    (omega arith, (omega arith, (omega arith, tt)))
+row_bytes (row.AnlDirectData direct value) a b c one two three small_a small_b =
+    (omega arith, (omega arith, (omega arith, tt)))
+row_bytes (row.XrlDirectData direct value) a b c one two three small_a small_b =
+    (omega arith, (omega arith, (omega arith, tt)))
 row_bytes row.JmpAtADptr a b c one two three small_a small_b = (omega arith, tt)
 row_bytes row.MovcAAtAPc a b c one two three small_a small_b = (omega arith, tt)
 row_bytes row.MovcAAtADptr a b c one two three small_a small_b = (omega arith, tt)
@@ -77,7 +84,8 @@ row_bytes (row.MovAData value) a b c one two three small_a small_b = (omega arit
 row_bytes row.DivAb a b c one two three small_a small_b = (omega arith, tt)
 row_bytes (row.SubbAData value) a b c one two three small_a small_b = (omega arith, (omega arith, tt))
 row_bytes row.MulAb a b c one two three small_a small_b = (omega arith, tt)
-row_bytes (row.CjneADataRel value rel) a b c one two three small_a small_b = (omega arith, (omega arith, (omega arith, tt)))
+row_bytes (row.CjneADataRel value rel) a b c one two three small_a small_b =
+    (omega arith, (omega arith, (omega arith, tt)))
 row_bytes row.SwapA a b c one two three small_a small_b = (omega arith, tt)
 row_bytes row.DaA a b c one two three small_a small_b = (omega arith, tt)
 row_bytes row.ClrA a b c one two three small_a small_b = (omega arith, tt)
@@ -89,12 +97,16 @@ row_bytes (row.AddcADirect direct) a b c one two three small_a small_b = (omega 
 row_bytes (row.OrlADirect direct) a b c one two three small_a small_b = (omega arith, (omega arith, tt))
 row_bytes (row.AnlADirect direct) a b c one two three small_a small_b = (omega arith, (omega arith, tt))
 row_bytes (row.XrlADirect direct) a b c one two three small_a small_b = (omega arith, (omega arith, tt))
-row_bytes (row.MovDirectData direct value) a b c one two three small_a small_b = (omega arith, (omega arith, (omega arith, tt)))
-row_bytes (row.MovDirectDirect source target) a b c one two three small_a small_b = (omega arith, (omega arith, (omega arith, tt)))
+row_bytes (row.MovDirectData direct value) a b c one two three small_a small_b =
+    (omega arith, (omega arith, (omega arith, tt)))
+row_bytes (row.MovDirectDirect source target) a b c one two three small_a small_b =
+    (omega arith, (omega arith, (omega arith, tt)))
 row_bytes (row.SubbADirect direct) a b c one two three small_a small_b = (omega arith, (omega arith, tt))
-row_bytes (row.CjneADirectRel direct rel) a b c one two three small_a small_b = (omega arith, (omega arith, (omega arith, tt)))
+row_bytes (row.CjneADirectRel direct rel) a b c one two three small_a small_b =
+    (omega arith, (omega arith, (omega arith, tt)))
 row_bytes (row.XchADirect direct) a b c one two three small_a small_b = (omega arith, (omega arith, tt))
-row_bytes (row.DjnzDirectRel direct rel) a b c one two three small_a small_b = (omega arith, (omega arith, (omega arith, tt)))
+row_bytes (row.DjnzDirectRel direct rel) a b c one two three small_a small_b =
+    (omega arith, (omega arith, (omega arith, tt)))
 row_bytes (row.MovADirect direct) a b c one two three small_a small_b = (omega arith, (omega arith, tt))
 row_bytes (row.MovDirectA direct) a b c one two three small_a small_b = (omega arith, (omega arith, tt))
 row_bytes (row.IncAtRi pointer) a b c one two three small_a small_b = (omega (arith, one), tt)
@@ -104,11 +116,15 @@ row_bytes (row.AddcAAtRi pointer) a b c one two three small_a small_b = (omega (
 row_bytes (row.OrlAAtRi pointer) a b c one two three small_a small_b = (omega (arith, two), tt)
 row_bytes (row.AnlAAtRi pointer) a b c one two three small_a small_b = (omega (arith, two), tt)
 row_bytes (row.XrlAAtRi pointer) a b c one two three small_a small_b = (omega (arith, two), tt)
-row_bytes (row.MovAtRiData pointer value) a b c one two three small_a small_b = (omega (arith, one), (omega (arith, one), tt))
-row_bytes (row.MovDirectAtRi pointer direct) a b c one two three small_a small_b = (omega (arith, two), (omega (arith, two), tt))
+row_bytes (row.MovAtRiData pointer value) a b c one two three small_a small_b =
+    (omega (arith, one), (omega (arith, one), tt))
+row_bytes (row.MovDirectAtRi pointer direct) a b c one two three small_a small_b =
+    (omega (arith, two), (omega (arith, two), tt))
 row_bytes (row.SubbAAtRi pointer) a b c one two three small_a small_b = (omega (arith, two), tt)
-row_bytes (row.MovAtRiDirect pointer direct) a b c one two three small_a small_b = (omega (arith, one), (omega (arith, one), tt))
-row_bytes (row.CjneAtRiDataRel pointer value rel) a b c one two three small_a small_b = (omega (arith, one), (omega (arith, one), (omega (arith, one), tt)))
+row_bytes (row.MovAtRiDirect pointer direct) a b c one two three small_a small_b =
+    (omega (arith, one), (omega (arith, one), tt))
+row_bytes (row.CjneAtRiDataRel pointer value rel) a b c one two three small_a small_b =
+    (omega (arith, one), (omega (arith, one), (omega (arith, one), tt)))
 row_bytes (row.XchAAtRi pointer) a b c one two three small_a small_b = (omega (arith, two), tt)
 row_bytes (row.XchdAAtRi pointer) a b c one two three small_a small_b = (omega (arith, two), tt)
 row_bytes (row.MovAAtRi pointer) a b c one two three small_a small_b = (omega (arith, two), tt)
@@ -120,12 +136,17 @@ row_bytes (row.AddcARn register) a b c one two three small_a small_b = (omega (a
 row_bytes (row.OrlARn register) a b c one two three small_a small_b = (omega (arith, two), tt)
 row_bytes (row.AnlARn register) a b c one two three small_a small_b = (omega (arith, two), tt)
 row_bytes (row.XrlARn register) a b c one two three small_a small_b = (omega (arith, two), tt)
-row_bytes (row.MovRnData register value) a b c one two three small_a small_b = (omega (arith, one), (omega (arith, one), tt))
-row_bytes (row.MovDirectRn register direct) a b c one two three small_a small_b = (omega (arith, two), (omega (arith, two), tt))
+row_bytes (row.MovRnData register value) a b c one two three small_a small_b =
+    (omega (arith, one), (omega (arith, one), tt))
+row_bytes (row.MovDirectRn register direct) a b c one two three small_a small_b =
+    (omega (arith, two), (omega (arith, two), tt))
 row_bytes (row.SubbARn register) a b c one two three small_a small_b = (omega (arith, two), tt)
-row_bytes (row.MovRnDirect register direct) a b c one two three small_a small_b = (omega (arith, one), (omega (arith, one), tt))
-row_bytes (row.CjneRnDataRel register value rel) a b c one two three small_a small_b = (omega (arith, one), (omega (arith, one), (omega (arith, one), tt)))
+row_bytes (row.MovRnDirect register direct) a b c one two three small_a small_b =
+    (omega (arith, one), (omega (arith, one), tt))
+row_bytes (row.CjneRnDataRel register value rel) a b c one two three small_a small_b =
+    (omega (arith, one), (omega (arith, one), (omega (arith, one), tt)))
 row_bytes (row.XchARn register) a b c one two three small_a small_b = (omega (arith, two), tt)
-row_bytes (row.DjnzRnRel register rel) a b c one two three small_a small_b = (omega (arith, one), (omega (arith, one), tt))
+row_bytes (row.DjnzRnRel register rel) a b c one two three small_a small_b =
+    (omega (arith, one), (omega (arith, one), tt))
 row_bytes (row.MovARn register) a b c one two three small_a small_b = (omega (arith, two), tt)
 row_bytes (row.MovRnA register) a b c one two three small_a small_b = (omega (arith, one), tt)

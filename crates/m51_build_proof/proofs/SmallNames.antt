@@ -1,5 +1,6 @@
 -- The names of a text without faults have values with numbers of 16 bits.
-use Rattle.std.proofs.Common.{◌≡◌, ◌⊎◌, inl, inr, ℕ, zero, suc, ◌+◌, ◌<◌, ◌≤◌, nat_lt, Bool, true, false, cond, List, [], ◌∷◌, ◌++◌, length, Option, Some, None, option_map, Ok, Err, refl, sym, subst, arith}
+use Rattle.std.proofs.Common.{◌≡◌, ◌⊎◌, inl, inr, ℕ, zero, suc, ◌+◌, ◌<◌, ◌≤◌, nat_lt, Bool, true, false, cond, List}
+use Rattle.std.proofs.Common.{[], ◌∷◌, ◌++◌, length, Option, Some, None, option_map, Ok, Err, refl, sym, subst, arith}
 use Rattle.std.specs.Prelude.{slice_get, unwrap_or}
 use Rattle.std.specs.List.{AllByRecursion, list_all}
 use Rattle.std.specs.Str.{bytes_eq}
@@ -19,16 +20,22 @@ use Rattle.m51_stmt.specs.Statement as body
 use Rattle.m51_stmt.specs.Statement.{BodyTree}
 use Rattle.m51_stmt.proofs.PrintedTrees.{IsTree}
 use Rattle.m51_text.specs.Answer.{LineTree}
-use Rattle.m51_asm.specs.Definitions.{Definition, Label, SegmentOf, EquOf, SetOf, AddressOf, ExternOf, definitions_in, label_defined, defined_by, externals_from, found_in, definition_from, definition_of}
-use Rattle.m51_asm.specs.Assignment.{Assignment, body_at, body_of, defined_of, line_definitions, here_at, if_before, above, numbered, value_or_none}
-use Rattle.m51_asm.specs.Fitting.{set_by, last_set, mod51, bank_by, bank_before, register_or_predefined, undefined_value, externals_before, with_class, segment_value, external_value, value_by, named_value}
+use Rattle.m51_asm.specs.Definitions.{Definition, Label, SegmentOf, EquOf, SetOf, AddressOf, ExternOf, definitions_in}
+use Rattle.m51_asm.specs.Definitions.{label_defined, defined_by, externals_from, found_in, definition_from}
+use Rattle.m51_asm.specs.Definitions.{definition_of}
+use Rattle.m51_asm.specs.Assignment.{Assignment, body_at, body_of, defined_of, line_definitions, here_at, if_before}
+use Rattle.m51_asm.specs.Assignment.{above, numbered, value_or_none}
+use Rattle.m51_asm.specs.Fitting.{set_by, last_set, mod51, bank_by, bank_before, register_or_predefined}
+use Rattle.m51_asm.specs.Fitting.{undefined_value, externals_before, with_class, segment_value, external_value}
+use Rattle.m51_asm.specs.Fitting.{value_by, named_value}
 use Rattle.m51_asm.specs.ObjectMeanings.{final, object_value}
 use Rattle.m51_asm.specs.ObjectSegments.{segment_number}
 use Rattle.m51_asm.specs.PlacedFaults.{bank_fault, operand_fault}
 use Rattle.m51_asm.proofs.GoodLines.{IsClean, free}
 use Rattle.m51_asm.proofs.KnownSegments.{found_if, later_is}
 use Rattle.m51_build_proof.proofs.ReadBodies.{IsSmallBody, SmallTree}
-use Rattle.m51_build_proof.proofs.SmallValues.{AreSmall, IfSmall, IfSomeSmall, IsSmall, plain_small, some_small, value_small}
+use Rattle.m51_build_proof.proofs.SmallValues.{AreSmall, IfSmall, IfSomeSmall, IsSmall, plain_small, some_small}
+use Rattle.m51_build_proof.proofs.SmallValues.{value_small}
 
 -- the expression of a definition
 abbrev IsSmallDefinition : Definition → Type 0
@@ -40,20 +47,25 @@ IsSmallDefinition d = Unit {0}
 abbrev some_definition : Definition → Option Definition
 some_definition d = Some d
 
-one_found : (t : List ℕ) (d : Definition) (name : List ℕ) (found : Definition) → found_in ((t, d) ∷ []) name ≡ some_definition found → IsSmallDefinition d → IsSmallDefinition found
+one_found : (t : List ℕ) (d : Definition) (name : List ℕ) (found : Definition)
+    → found_in ((t, d) ∷ []) name ≡ some_definition found → IsSmallDefinition d → IsSmallDefinition found
 one_found t d name found h is = elim (found_if (bytes_eq name t) d found None h) as (λ _. IsSmallDefinition found) [
   | inl e ↦ subst IsSmallDefinition e is
   | inr e ↦ absurd (cc e)
 ]
 
-extern_found : (xs : List (List ℕ × Kind)) (n : ℕ) (name : List ℕ) (found : Definition) → found_in (externals_from n xs) name ≡ some_definition found → IsSmallDefinition found
+extern_found : (xs : List (List ℕ × Kind)) (n : ℕ) (name : List ℕ) (found : Definition)
+    → found_in (externals_from n xs) name ≡ some_definition found → IsSmallDefinition found
 extern_found [] n name found h = absurd (cc h)
-extern_found (x ∷ xs) n name found h = elim (found_if (bytes_eq name x.0) (ExternOf x.1 n) found (found_in (externals_from (suc n) xs) name) h) as (λ _. IsSmallDefinition found) [
-  | inl e ↦ subst IsSmallDefinition e tt
-  | inr e ↦ extern_found xs (suc n) name found e
-]
+extern_found (x ∷ xs) n name found h =
+    elim (found_if (bytes_eq name x.0) (ExternOf x.1 n) found (found_in (externals_from (suc n) xs) name) h) as
+    (λ _. IsSmallDefinition found) [
+      | inl e ↦ subst IsSmallDefinition e tt
+      | inr e ↦ extern_found xs (suc n) name found e
+    ]
 
-body_found : (b : BodyTree) (name : List ℕ) (found : Definition) → IsSmallBody b → found_in (defined_by b) name ≡ some_definition found → IsSmallDefinition found
+body_found : (b : BodyTree) (name : List ℕ) (found : Definition) → IsSmallBody b
+    → found_in (defined_by b) name ≡ some_definition found → IsSmallDefinition found
 body_found (body.Segment t j type overlayable) name found is h = one_found t (SegmentOf j) name found h tt
 body_found (body.Equ t e) name found is h = one_found t (EquOf e) name found h is
 body_found (body.Set t e) name found is h = one_found t (SetOf e) name found h is
@@ -61,26 +73,32 @@ body_found (body.Address t j e) name found is h = one_found t (AddressOf j e) na
 body_found (body.Extrn xs) name found is h = extern_found xs 0 name found h
 body_found b name found is h = absurd (cc h)
 
-line_found : (label : Option (List ℕ)) (b : BodyTree) (name : List ℕ) (found : Definition) → IsSmallBody b → found_in (label_defined label ++ defined_by b) name ≡ some_definition found → IsSmallDefinition found
+line_found : (label : Option (List ℕ)) (b : BodyTree) (name : List ℕ) (found : Definition) → IsSmallBody b
+    → found_in (label_defined label ++ defined_by b) name ≡ some_definition found → IsSmallDefinition found
 line_found None b name found is h = body_found b name found is h
-line_found (Some t) b name found is h = elim (found_if (bytes_eq name t) Label found (found_in (defined_by b) name) h) as (λ _. IsSmallDefinition found) [
-  | inl e ↦ subst IsSmallDefinition e tt
-  | inr e ↦ body_found b name found is e
-]
+line_found (Some t) b name found is h =
+    elim (found_if (bytes_eq name t) Label found (found_in (defined_by b) name) h) as (λ _. IsSmallDefinition found) [
+      | inl e ↦ subst IsSmallDefinition e tt
+      | inr e ↦ body_found b name found is e
+    ]
 
-from_found : (ls : List LineTree) (n : ℕ) (name : List ℕ) (line : ℕ) (found : Definition) → AllByRecursion SmallTree ls → definition_from n ls name ≡ Some (line, found) → IsSmallDefinition found
+from_found : (ls : List LineTree) (n : ℕ) (name : List ℕ) (line : ℕ) (found : Definition) → AllByRecursion SmallTree ls
+    → definition_from n ls name ≡ Some (line, found) → IsSmallDefinition found
 from_found [] n name line found all h = absurd (cc h)
-from_found (l ∷ ls) n name line found all h = elim (later_is n (found_in (definitions_in l.stmt) name) (definition_from (suc n) ls name) line found h) as (λ _. IsSmallDefinition found) [
-  | inl p ↦ line_found l.stmt.label l.stmt.body name found all.0 p.1
-  | inr e ↦ from_found ls (suc n) name line found all.1 e
-]
+from_found (l ∷ ls) n name line found all h =
+    elim (later_is n (found_in (definitions_in l.stmt) name) (definition_from (suc n) ls name) line found h) as
+    (λ _. IsSmallDefinition found) [
+      | inl p ↦ line_found l.stmt.label l.stmt.body name found all.0 p.1
+      | inr e ↦ from_found ls (suc n) name line found all.1 e
+    ]
 
 small_at : (ls : List LineTree) (k : ℕ) → AllByRecursion SmallTree ls → IsSmallBody (body_at ls k)
 small_at [] k all = tt
 small_at (l ∷ ls) zero all = all.0
 small_at (l ∷ ls) (suc k) all = small_at ls k all.1
 
-there_found : (ls : List LineTree) (k : ℕ) (name : List ℕ) (found : Definition) → AllByRecursion SmallTree ls → found_in (defined_of (slice_get ls k)) name ≡ some_definition found → IsSmallDefinition found
+there_found : (ls : List LineTree) (k : ℕ) (name : List ℕ) (found : Definition) → AllByRecursion SmallTree ls
+    → found_in (defined_of (slice_get ls k)) name ≡ some_definition found → IsSmallDefinition found
 there_found [] k name found all h = absurd (cc h)
 there_found (l ∷ ls) zero name found all h = line_found l.stmt.label l.stmt.body name found all.0 h
 there_found (l ∷ ls) (suc k) name found all h = there_found ls k name found all.1 h
@@ -89,15 +107,18 @@ there_found (l ∷ ls) (suc k) name found all h = there_found ls k name found al
 abbrev fits : Row → Bool
 fits r = nat_lt r.address 65536
 
-row_small : (b : Bool) (n m : ℕ) (o : Option ℕ) → cond b (Some n) o ≡ Some m → n < 65536 → (o ≡ Some m → m < 65536) → m < 65536
+row_small : (b : Bool) (n m : ℕ) (o : Option ℕ) → cond b (Some n) o ≡ Some m → n < 65536 → (o ≡ Some m → m < 65536)
+    → m < 65536
 row_small true n m o h less more = let same : n ≡ m = cc h in subst (λ x. x < 65536) same less
 row_small false n m o h less more = more h
 
-rows_small : (rows : List Row) (name : List ℕ) (n : ℕ) → list_all fits rows ≡ true → address_in rows name ≡ Some n → n < 65536
+rows_small : (rows : List Row) (name : List ℕ) (n : ℕ) → list_all fits rows ≡ true → address_in rows name ≡ Some n
+    → n < 65536
 rows_small [] name n all h = absurd (cc h)
 rows_small (r ∷ rows) name n all h =
     let p = and_parts (fits r) (list_all fits rows) all in
-    row_small (bytes_eq r.name name) r.address n (address_in rows name) h (ltb-true r.address 65536 p.0) (λ e. rows_small rows name n p.1 e)
+    row_small (bytes_eq r.name name) r.address n (address_in rows name) h (ltb-true r.address 65536 p.0)
+    (λ e. rows_small rows name n p.1 e)
 
 registers_fit : list_all fits registers ≡ true
 unfolding registers table
@@ -118,7 +139,8 @@ module _ (lines : List LineTree) (a : Assignment) (c : IsClean lines a) (all : A
   here_small : (k : ℕ) → IsSmall (here_at a k)
   here_small k = record { number = let n = a.place k in omega arith }
 
-  tree_small : (k : ℕ) (e : Tree) → IsTree e → AreSmall (above lines a k) → IfSomeSmall (value_or_none (value_of (above lines a k) e))
+  tree_small : (k : ℕ) (e : Tree) → IsTree e → AreSmall (above lines a k)
+      → IfSomeSmall (value_or_none (value_of (above lines a k) e))
   tree_small k e is are = result_small (value_of (above lines a k) e) (value_small (above lines a k) are e is)
 
   classed : (kind : Kind) (o : Option Value) → IfSomeSmall o → IfSomeSmall (option_map (with_class kind) o)
@@ -134,7 +156,8 @@ module _ (lines : List LineTree) (a : Assignment) (c : IsClean lines a) (all : A
       few false fault is none = ltb-false 3 n is
   bank_is (Err e) h = absurd (cc h)
 
-  bank_line : (k before : ℕ) (b : BodyTree) → before ≤ 3 → operand_fault lines (above lines a k) k b ≡ None → bank_by (above lines a k) before b ≤ 3
+  bank_line : (k before : ℕ) (b : BodyTree) → before ≤ 3 → operand_fault lines (above lines a k) k b ≡ None
+      → bank_by (above lines a k) before b ≤ 3
   bank_line k before (body.Using e) few none = bank_is (numbered (above lines a k) e) none
   bank_line k before b few none = few
 
@@ -142,15 +165,19 @@ module _ (lines : List LineTree) (a : Assignment) (c : IsClean lines a) (all : A
   unfolding bank_before
   few_banks zero = omega arith
   few_banks (suc k) = elim (cases_lt k (length lines)) as (λ _. bank_before lines a (suc k) ≤ 3) [
-    | inl below ↦ bank_line k (bank_before lines a k) (body_at lines k) (few_banks k) (free lines a k (c.placed k below)).operand
-    | inr past ↦ subst (λ (o : Option LineTree). bank_by (above lines a k) (bank_before lines a k) (body_of o) ≤ 3) (sym (slice_get_past lines k past)) (few_banks k)
+    | inl below ↦ bank_line k (bank_before lines a k) (body_at lines k) (few_banks k)
+        (free lines a k (c.placed k below)).operand
+    | inr past ↦ subst (λ (o : Option LineTree). bank_by (above lines a k) (bank_before lines a k) (body_of o) ≤ 3)
+        (sym (slice_get_past lines k past)) (few_banks k)
   ]
 
   -- names above each line have such values
   AllAbove : ℕ → Type 0
   AllAbove k = (j : ℕ) → j < k → AreSmall (above lines a j)
 
-  set_small : (k : ℕ) (name : List ℕ) (o : Option Definition) (last : Option Value) → found_in (line_definitions lines k) name ≡ o → AreSmall (above lines a k) → IfSomeSmall last → IfSomeSmall (set_by (above lines a k) last o)
+  set_small : (k : ℕ) (name : List ℕ) (o : Option Definition) (last : Option Value)
+      → found_in (line_definitions lines k) name ≡ o → AreSmall (above lines a k) → IfSomeSmall last
+      → IfSomeSmall (set_by (above lines a k) last o)
   set_small k name (Some (SetOf e)) last is are h = tree_small k e (there_found lines k name (SetOf e) all is) are
   set_small k name o last is are h = h
 
@@ -158,45 +185,60 @@ module _ (lines : List LineTree) (a : Assignment) (c : IsClean lines a) (all : A
   unfolding last_set AllAbove
   last_small name zero above_it = none_small
   last_small name (suc k) above_it =
-      set_small k name (found_in (line_definitions lines k) name) (last_set lines a name k) refl (above_it k (omega arith)) (last_small name k (λ j less. above_it j (omega (arith, less))))
+      set_small k name (found_in (line_definitions lines k) name) (last_set lines a name k) refl
+      (above_it k (omega arith)) (last_small name k (λ j less. above_it j (omega (arith, less))))
 
-  defined_small : (k : ℕ) (name : List ℕ) (d : ℕ) (definition : Definition) → IsSmallDefinition definition → AllAbove k → AreSmall (above lines a d)
-      → IfSomeSmall (value_by (here_at a d) (above lines a d) (last_set lines a name k) (externals_before lines d) d definition)
+  defined_small : (k : ℕ) (name : List ℕ) (d : ℕ) (definition : Definition) → IsSmallDefinition definition → AllAbove k
+      → AreSmall (above lines a d)
+      → IfSomeSmall (value_by (here_at a d) (above lines a d) (last_set lines a name k) (externals_before lines d) d
+      definition)
   defined_small k name d Label is above_it are = some_small (here_at a d) (here_small d)
-  defined_small k name d (SegmentOf kind) is above_it are = some_small (segment_value kind d) (record { number = omega arith })
+  defined_small k name d (SegmentOf kind) is above_it are =
+      some_small (segment_value kind d) (record { number = omega arith })
   defined_small k name d (EquOf e) is above_it are = tree_small d e is are
   defined_small k name d (SetOf e) is above_it are = last_small name k above_it
-  defined_small k name d (AddressOf kind e) is above_it are = classed kind (value_or_none (value_of (above lines a d) e)) (tree_small d e is are)
-  defined_small k name d (ExternOf kind m) is above_it are = some_small (external_value kind (externals_before lines d + m + 1)) (record { number = omega arith })
+  defined_small k name d (AddressOf kind e) is above_it are =
+      classed kind (value_or_none (value_of (above lines a d) e)) (tree_small d e is are)
+  defined_small k name d (ExternOf kind m) is above_it are =
+      some_small (external_value kind (externals_before lines d + m + 1)) (record { number = omega arith })
 
-  predefined_small : (o p : Option ℕ) → ((n : ℕ) → o ≡ Some n → n < 65536) → ((n : ℕ) → p ≡ Some n → n < 65536) → IfSomeSmall (register_or_bit o p)
+  predefined_small : (o p : Option ℕ) → ((n : ℕ) → o ≡ Some n → n < 65536) → ((n : ℕ) → p ≡ Some n → n < 65536)
+      → IfSomeSmall (register_or_bit o p)
   predefined_small (Some n) p h k = some_small _ (plain_small n _ (h n refl))
   predefined_small None (Some n) h k = some_small _ (plain_small n _ (k n refl))
   predefined_small None None h k = none_small
 
-  register_small : (on : Bool) (bank : ℕ) (name : List ℕ) (o : Option ℕ) → bank ≤ 3 → absolute_register_of name ≡ o → IfSomeSmall (register_or_predefined on bank name o)
+  register_small : (on : Bool) (bank : ℕ) (name : List ℕ) (o : Option ℕ) → bank ≤ 3 → absolute_register_of name ≡ o
+      → IfSomeSmall (register_or_predefined on bank name o)
   register_small on bank name (Some n) few is =
       let less : n < 8 = (position-Some (λ word. bytes_eq word name) bank_registers n name is).0 in
       some_small (register_value bank n) (record { number = omega (arith, few, less) })
   register_small true bank name None few is =
-      predefined_small (address_in registers name) (address_in bits name) (λ n e. rows_small registers name n registers_fit e) (λ n e. rows_small bits name n bits_fit e)
+      predefined_small (address_in registers name) (address_in bits name)
+      (λ n e. rows_small registers name n registers_fit e) (λ n e. rows_small bits name n bits_fit e)
   register_small false bank name None few is = none_small
 
   undefined_small : (k : ℕ) (name : List ℕ) → IfSomeSmall (undefined_value lines a k name)
   unfolding undefined_value
-  undefined_small k name = register_small (mod51 lines) (bank_before lines a k) name (absolute_register_of name) (few_banks k) refl
+  undefined_small k name = register_small (mod51 lines) (bank_before lines a k) name (absolute_register_of name)
+      (few_banks k) refl
 
-  definition_small : (name : List ℕ) (d : ℕ) (definition : Definition) → definition_of lines name ≡ Some (d, definition) → IsSmallDefinition definition
+  definition_small : (name : List ℕ) (d : ℕ) (definition : Definition) → definition_of lines name ≡ Some (d, definition)
+      → IsSmallDefinition definition
   unfolding definition_of
   definition_small name d definition is = from_found lines 0 name d definition all is
 
-  before_by : (k : ℕ) (name : List ℕ) (d : ℕ) (definition : Definition) (b : Bool) → nat_lt d k ≡ b → definition_of lines name ≡ Some (d, definition) → AllAbove k
+  before_by : (k : ℕ) (name : List ℕ) (d : ℕ) (definition : Definition) (b : Bool) → nat_lt d k ≡ b
+      → definition_of lines name ≡ Some (d, definition) → AllAbove k
       → IfSomeSmall (cond b (named_value lines a k name (Some (d, definition))) None)
   unfolding AllAbove
-  before_by k name d definition true test is above_it = defined_small k name d definition (definition_small name d definition is) above_it (above_it d (ltb-true d k test))
+  before_by k name d definition true test is above_it =
+      defined_small k name d definition (definition_small name d definition is) above_it
+      (above_it d (ltb-true d k test))
   before_by k name d definition false test is above_it = none_small
 
-  before_small : (k : ℕ) (name : List ℕ) (o : Option (ℕ × Definition)) → definition_of lines name ≡ o → AllAbove k → IfSomeSmall (if_before k (named_value lines a k name o) o)
+  before_small : (k : ℕ) (name : List ℕ) (o : Option (ℕ × Definition)) → definition_of lines name ≡ o → AllAbove k
+      → IfSomeSmall (if_before k (named_value lines a k name o) o)
   before_small k name None is above_it = undefined_small k name
   before_small k name (Some d) is above_it = before_by k name d.0 d.1 (nat_lt d.0 k) refl is above_it
 
@@ -204,7 +246,8 @@ module _ (lines : List LineTree) (a : Assignment) (c : IsClean lines a) (all : A
   unfolding above
   above_by k above_it = record {
     value = λ name.
-        subst (λ v. IfSomeSmall (if_before k v (definition_of lines name))) (sym (c.fits.values k name)) (before_small k name (definition_of lines name) refl above_it);
+        subst (λ v. IfSomeSmall (if_before k v (definition_of lines name))) (sym (c.fits.values k name))
+        (before_small k name (definition_of lines name) refl above_it);
     here = here_small k;
   }
 
@@ -219,9 +262,11 @@ module _ (lines : List LineTree) (a : Assignment) (c : IsClean lines a) (all : A
       last_or_below : (j k : ℕ) → j < suc k → (j ≡ k) ⊎ (j < k)
       last_or_below j k h = grind (arith, h)
 
-  named_small : (k : ℕ) (name : List ℕ) (o : Option (ℕ × Definition)) → definition_of lines name ≡ o → IfSomeSmall (named_value lines a k name o)
+  named_small : (k : ℕ) (name : List ℕ) (o : Option (ℕ × Definition)) → definition_of lines name ≡ o
+      → IfSomeSmall (named_value lines a k name o)
   named_small k name None is = undefined_small k name
-  named_small k name (Some d) is = defined_small k name d.0 d.1 (definition_small name d.0 d.1 is) (all_above k) (above_by d.0 (all_above d.0))
+  named_small k name (Some d) is =
+      defined_small k name d.0 d.1 (definition_small name d.0 d.1 is) (all_above k) (above_by d.0 (all_above d.0))
 
   renumbered : (number : ℕ → ℕ) (o : Option Value) → IfSomeSmall o → IfSomeSmall (option_map (object_value number) o)
   renumbered number None h = none_small

@@ -1,6 +1,7 @@
 -- Where names and the place of a statement have numbers of 16 bits, so has the value of each expression that writes
 -- such numbers.
-use Rattle.std.proofs.Common.{◌≡◌, ℕ, ◌+◌, ◌*◌, ◌-◌, ◌/◌, ◌%◌, ◌^◌, ◌<◌, ◌≤◌, nat_lt, nat_le, ◌==◌, Bool, true, false, not, ◌&&◌, ◌||◌, cond, List, Option, Some, None, Ok, Err, refl, subst, arith}
+use Rattle.std.proofs.Common.{◌≡◌, ℕ, ◌+◌, ◌*◌, ◌-◌, ◌/◌, ◌%◌, ◌^◌, ◌<◌, ◌≤◌, nat_lt, nat_le, ◌==◌, Bool, true, false}
+use Rattle.std.proofs.Common.{not, ◌&&◌, ◌||◌, cond, List, Option, Some, None, Ok, Err, refl, subst, arith}
 use Rattle.std.specs.Prelude.{unwrap_or}
 use Rattle.std.proofs.Math.Nat.{div-le_self, mod-le}
 use Rattle.std.proofs.lemmas.Bool.{and_parts, leb-true, ltb-false}
@@ -23,7 +24,8 @@ use Rattle.m51_expr.specs.declared.tree.Binary.TheVariants as op2
 use Rattle.m51_expr.specs.Tree.{Tree, Number, Name, Here, One, Two}
 use Rattle.m51_expr.specs.Value.{Valued, fault, plain, is_whole, bit_address, counted, part_of}
 use Rattle.m51_expr.specs.Meanings.{Meanings, is_absolute, is_unplaced, as_number}
-use Rattle.m51_expr.specs.Operators.{under, kept_under, or_number, unary, settled, beside, arithmetic, class_of, base_of, on_base, of_numbers, of_wholes, binary, truth}
+use Rattle.m51_expr.specs.Operators.{under, kept_under, or_number, unary, settled, beside, arithmetic, class_of}
+use Rattle.m51_expr.specs.Operators.{base_of, on_base, of_numbers, of_wholes, binary, truth}
 use Rattle.m51_expr.specs.Bits.{has_bits, keeps_base, with_bit, placed_bit, bit_of, dot}
 use Rattle.m51_expr.specs.Evaluation.{is_dot, applied, or_unknown, value_of}
 use Rattle.m51_stmt.proofs.PrintedTrees.{IsTree}
@@ -59,7 +61,8 @@ if_cond : (b : Bool) (r q : Valued Value) → IfSmall r → IfSmall q → IfSmal
 if_cond true r q h k = h
 if_cond false r q h k = k
 
-if_then : (r : Valued Value) (f : Value → Valued Value) → IfSmall r → ((v : Value) → IsSmall v → IfSmall (f v)) → IfSmall (and_then r f)
+if_then : (r : Valued Value) (f : Value → Valued Value) → IfSmall r → ((v : Value) → IsSmall v → IfSmall (f v))
+    → IfSmall (and_then r f)
 if_then (Ok v) f h go = go v (h.holds v refl)
 if_then (Err k) f h go = if_err k
 
@@ -73,11 +76,13 @@ number_cond : (b : Bool) (r q : Valued ℕ) → IfNumber r → IfNumber q → If
 number_cond true r q h k = h
 number_cond false r q h k = k
 
-if_number : (r : Valued ℕ) (f : ℕ → Valued Value) → IfNumber r → ((n : ℕ) → n < 65536 → IfSmall (f n)) → IfSmall (and_then r f)
+if_number : (r : Valued ℕ) (f : ℕ → Valued Value) → IfNumber r → ((n : ℕ) → n < 65536 → IfSmall (f n))
+    → IfSmall (and_then r f)
 if_number (Ok n) f h go = go n (h.holds n refl)
 if_number (Err k) f h go = if_err k
 
-number_then : (r : Valued ℕ) (f : ℕ → Valued ℕ) → IfNumber r → ((n : ℕ) → n < 65536 → IfNumber (f n)) → IfNumber (and_then r f)
+number_then : (r : Valued ℕ) (f : ℕ → Valued ℕ) → IfNumber r → ((n : ℕ) → n < 65536 → IfNumber (f n))
+    → IfNumber (and_then r f)
 number_then (Ok n) f h go = go n (h.holds n refl)
 number_then (Err k) f h go = number_err k
 
@@ -91,7 +96,8 @@ no_address = record { holds = λ w e. absurd (cc e) }
 some_address : (n : ℕ) → n < 65536 → IfAddress (Some n)
 some_address n h = record { holds = λ m e. subst (λ x. x < 65536) (same_Some n m e) h }
 
-address_by : (byte bit : ℕ) (a b c : Bool) → nat_lt 7 bit ≡ a → (nat_le 0x20 byte && nat_le byte 0x2F) ≡ b → ((nat_le 0x80 byte && nat_le byte 0xF8) && byte % 8 == 0) ≡ c
+address_by : (byte bit : ℕ) (a b c : Bool) → nat_lt 7 bit ≡ a → (nat_le 0x20 byte && nat_le byte 0x2F) ≡ b
+    → ((nat_le 0x80 byte && nat_le byte 0xF8) && byte % 8 == 0) ≡ c
     → IfAddress (cond a None (cond b (Some ((byte - 0x20) * 8 + bit)) (cond c (Some (byte + bit)) None)))
 address_by byte bit true b c one two three = no_address
 address_by byte bit false true c one two three =
@@ -142,10 +148,14 @@ truth_small b = small_cond b 65535 0 (omega arith) (omega arith)
 
 arithmetic_small : (op : Binary) (a b : ℕ) → a < 65536 → b < 65536 → IfNumber (arithmetic op a b)
 arithmetic_small op2.Mul a b h k = number_ok _ (small_mod (a * b))
-arithmetic_small op2.Div a b h k = number_cond (b == 0) _ _ (number_err _) (number_ok (a / b) (at_most (a / b) a (div-le_self a b) h))
-arithmetic_small op2.Rem a b h k = number_cond (b == 0) _ _ (number_err _) (number_ok (a % b) (at_most (a % b) a (mod-le a b) h))
-arithmetic_small op2.Shl a b h k = number_ok _ (small_cond (nat_lt b 16) (a * 2 ^ b % 65536) 0 (small_mod (a * 2 ^ b)) (omega arith))
-arithmetic_small op2.Shr a b h k = number_ok _ (small_cond (nat_lt b 16) (a / 2 ^ b) 0 (at_most (a / 2 ^ b) a (div-le_self a (2 ^ b)) h) (omega arith))
+arithmetic_small op2.Div a b h k =
+    number_cond (b == 0) _ _ (number_err _) (number_ok (a / b) (at_most (a / b) a (div-le_self a b) h))
+arithmetic_small op2.Rem a b h k =
+    number_cond (b == 0) _ _ (number_err _) (number_ok (a % b) (at_most (a % b) a (mod-le a b) h))
+arithmetic_small op2.Shl a b h k =
+    number_ok _ (small_cond (nat_lt b 16) (a * 2 ^ b % 65536) 0 (small_mod (a * 2 ^ b)) (omega arith))
+arithmetic_small op2.Shr a b h k =
+    number_ok _ (small_cond (nat_lt b 16) (a / 2 ^ b) 0 (at_most (a / 2 ^ b) a (div-le_self a (2 ^ b)) h) (omega arith))
 arithmetic_small op2.Add a b h k = number_ok _ (small_mod (a + b))
 arithmetic_small op2.Sub a b h k = number_ok _ (small_mod (65536 + a - b))
 arithmetic_small op2.Eq a b h k = number_ok _ (truth_small (a == b))
@@ -165,42 +175,60 @@ none_small = record { holds = λ w e. absurd (cc e) }
 pub some_small : (v : Value) → IsSmall v → IfSomeSmall (Some v)
 some_small v h = record { holds = λ w e. subst IsSmall (same_Some v w e) h }
 
-under_small : (part : Part) (n : ℕ) (c : Kind) (b : Base) (p : Part) → n < 65536 → IfSomeSmall (under part (record { number = n; class = c; base = b; part = p }) b p)
+under_small : (part : Part) (n : ℕ) (c : Kind) (b : Base) (p : Part) → n < 65536
+    → IfSomeSmall (under part (record { number = n; class = c; base = b; part = p }) b p)
 under_small part n c base.None p h = none_small
 under_small part n c (base.Segment s) Whole h = some_small _ (record { number = h })
 under_small part n c (base.External e) Whole h = some_small _ (record { number = h })
 under_small part n c (base.Segment s) p h = none_small
 under_small part n c (base.External e) p h = none_small
 
-if_plain : (r : Valued ℕ) (f : ℕ → ℕ) (c : Kind) → IfNumber r → ((n : ℕ) → n < 65536 → f n < 65536) → IfSmall (and_then r (λ n. Ok (plain (f n) c)))
-if_plain r f c h go = if_number r (λ n. Ok (plain (f n) c)) h (λ n less. if_ok (plain (f n) c) (plain_small (f n) c (go n less)))
+if_plain : (r : Valued ℕ) (f : ℕ → ℕ) (c : Kind) → IfNumber r → ((n : ℕ) → n < 65536 → f n < 65536)
+    → IfSmall (and_then r (λ n. Ok (plain (f n) c)))
+if_plain r f c h go =
+    if_number r (λ n. Ok (plain (f n) c)) h (λ n less. if_ok (plain (f n) c) (plain_small (f n) c (go n less)))
 
-or_plain : (o : Option Value) (r : Valued ℕ) (f : ℕ → ℕ) → IfSomeSmall o → IfNumber r → ((n : ℕ) → n < 65536 → f n < 65536) → IfSmall (or_number o r f)
+or_plain : (o : Option Value) (r : Valued ℕ) (f : ℕ → ℕ) → IfSomeSmall o → IfNumber r
+    → ((n : ℕ) → n < 65536 → f n < 65536) → IfSmall (or_number o r f)
 or_plain (Some v) r f h k go = if_ok v (h.holds v refl)
 or_plain None r f h k go = if_plain r f kind.Number k go
 
 unary_small : (names : Meanings) (op : Unary) (v : Value) → IsSmall v → IfSmall (unary names op v)
-unary_small names op1.High v h = or_plain (kept_under High v) (as_number names v) (λ n. n / 256) (under_small High v.number v.class v.base v.part h.number) (as_number_small names v h) (λ n less. omega (arith, less))
-unary_small names op1.Low v h = or_plain (kept_under Low v) (as_number names v) (λ n. n % 256) (under_small Low v.number v.class v.base v.part h.number) (as_number_small names v h) (λ n less. omega (arith, less))
-unary_small names op1.Plus v h = if_plain (as_number names v) (λ n. n) v.class (as_number_small names v h) (λ n less. less)
-unary_small names op1.Minus v h = if_plain (as_number names v) (λ n. (65536 - n) % 65536) kind.Number (as_number_small names v h) (λ n less. small_mod (65536 - n))
-unary_small names op1.Not v h = if_plain (as_number names v) (λ n. 65535 - n) kind.Number (as_number_small names v h) (λ n less. omega arith)
+unary_small names op1.High v h =
+    or_plain (kept_under High v) (as_number names v) (λ n. n / 256)
+    (under_small High v.number v.class v.base v.part h.number) (as_number_small names v h)
+    (λ n less. omega (arith, less))
+unary_small names op1.Low v h =
+    or_plain (kept_under Low v) (as_number names v) (λ n. n % 256)
+    (under_small Low v.number v.class v.base v.part h.number) (as_number_small names v h)
+    (λ n less. omega (arith, less))
+unary_small names op1.Plus v h =
+    if_plain (as_number names v) (λ n. n) v.class (as_number_small names v h) (λ n less. less)
+unary_small names op1.Minus v h =
+    if_plain (as_number names v) (λ n. (65536 - n) % 65536) kind.Number (as_number_small names v h)
+    (λ n less. small_mod (65536 - n))
+unary_small names op1.Not v h = if_plain (as_number names v) (λ n. 65535 - n) kind.Number (as_number_small names v h)
+    (λ n less. omega arith)
 
 value_cond : (b : Bool) (v w : Value) → IsSmall v → IsSmall w → IsSmall (cond b v w)
 value_cond true v w h k = h
 value_cond false v w h k = k
 
 settled_small : (names : Meanings) (v : Value) → IsSmall v → IsSmall (settled names v)
-settled_small names v h = value_cond (is_unplaced names v.base || is_whole v.part) v (plain (counted v) v.class) h (plain_small (counted v) v.class (counted_small v h))
+settled_small names v h = value_cond (is_unplaced names v.base || is_whole v.part) v (plain (counted v) v.class) h
+    (plain_small (counted v) v.class (counted_small v h))
 
 beside_small : (names : Meanings) (other : Base) (v : Value) → IsSmall v → IsSmall (beside names other v)
-beside_small names other v h = value_cond (is_unplaced names other && is_absolute names v.base) (plain v.number v.class) v (plain_small v.number v.class h.number) h
+beside_small names other v h = value_cond (is_unplaced names other && is_absolute names v.base) (plain v.number v.class)
+    v (plain_small v.number v.class h.number) h
 
-on_small : (class : Kind) (o : Option Base) (from number : Valued ℕ) → IfNumber from → IfNumber number → IfSmall (on_base class o from number)
+on_small : (class : Kind) (o : Option Base) (from number : Valued ℕ) → IfNumber from → IfNumber number
+    → IfSmall (on_base class o from number)
 on_small class (Some b) from number h k = if_number from _ h (λ n less. if_ok _ (record { number = less }))
 on_small class None from number h k = if_plain number (λ n. n) class k (λ n less. less)
 
-numbers_small : (names : Meanings) (op : Binary) (x y : Value) → IsSmall x → IsSmall y → IfNumber (of_numbers names op x y)
+numbers_small : (names : Meanings) (op : Binary) (x y : Value) → IsSmall x → IsSmall y
+    → IfNumber (of_numbers names op x y)
 numbers_small names op x y h k =
     number_then (as_number names x) _ (as_number_small names x h) (λ a one.
     number_then (as_number names y) _ (as_number_small names y k) (λ b two. arithmetic_small op a b one two))
@@ -223,22 +251,27 @@ placed_small : (x : Value) (bit : ℕ) (o : Option ℕ) → IsSmall x → IfAddr
 placed_small x bit None h k = if_err _
 placed_small x bit (Some address) h k =
     if_ok (cond (keeps_base x) (with_bit x bit) (plain address kind.Bits))
-    (value_cond (keeps_base x) (with_bit x bit) (plain address kind.Bits) (record { number = h.number }) (plain_small address kind.Bits (k.holds address refl)))
+    (value_cond (keeps_base x) (with_bit x bit) (plain address kind.Bits) (record { number = h.number })
+    (plain_small address kind.Bits (k.holds address refl)))
 
 bit_small : (names : Meanings) (x : Value) (bit : ℕ) → IsSmall x → IfSmall (bit_of names x bit)
 bit_small names x bit h =
     if_cond (nat_lt 7 bit) (fault 10) _ (if_err _)
-    (if_cond (is_unplaced names x.base) (cond (has_bits names x.base x.class) (Ok (with_bit x bit)) (fault 10)) (placed_bit x bit (bit_address (counted x) bit))
-    (if_cond (has_bits names x.base x.class) (Ok (with_bit x bit)) (fault 10) (if_ok (with_bit x bit) (record { number = h.number })) (if_err _))
+    (if_cond (is_unplaced names x.base) (cond (has_bits names x.base x.class) (Ok (with_bit x bit)) (fault 10))
+    (placed_bit x bit (bit_address (counted x) bit))
+    (if_cond (has_bits names x.base x.class) (Ok (with_bit x bit)) (fault 10)
+    (if_ok (with_bit x bit) (record { number = h.number })) (if_err _))
     (placed_small x bit (bit_address (counted x) bit) h (address_small (counted x) bit)))
 
 dot_small : (names : Meanings) (x n : Value) → IsSmall x → IsSmall n → IfSmall (dot names x n)
 dot_small names x n h k =
-    if_cond (is_unplaced names x.base && not (is_whole x.part)) (fault 8) (and_then (as_number names n) (bit_of names x)) (if_err _)
+    if_cond (is_unplaced names x.base && not (is_whole x.part)) (fault 8)
+    (and_then (as_number names n) (bit_of names x)) (if_err _)
     (if_number (as_number names n) (bit_of names x) (as_number_small names n k) (λ bit less. bit_small names x bit h))
 
 applied_small : (names : Meanings) (op : Binary) (x y : Value) → IsSmall x → IsSmall y → IfSmall (applied names op x y)
-applied_small names op x y h k = if_cond (is_dot op) (dot names x y) (binary names op x y) (dot_small names x y h k) (binary_small names op x y h k)
+applied_small names op x y h k =
+    if_cond (is_dot op) (dot names x y) (binary names op x y) (dot_small names x y h k) (binary_small names op x y h k)
 
 known_small : (o : Option Value) → IfSomeSmall o → IfSmall (or_unknown o)
 known_small (Some v) h = if_ok v (h.holds v refl)
@@ -250,7 +283,9 @@ unfolding value_of
 value_small names are (Number n) is = if_ok (plain n kind.Number) (plain_small n kind.Number is)
 value_small names are Here is = if_ok names.here are.here
 value_small names are (Name name) is = known_small (names.value name) (are.value name)
-value_small names are (One op e) is = if_then (value_of names e) (unary names op) (value_small names are e is) (λ v h. unary_small names op v h)
+value_small names are (One op e) is =
+    if_then (value_of names e) (unary names op) (value_small names are e is) (λ v h. unary_small names op v h)
 value_small names are (Two op e f) is =
     if_then (value_of names e) (λ x. and_then (value_of names f) (applied names op x)) (value_small names are e is.0)
-    (λ x h. if_then (value_of names f) (applied names op x) (value_small names are f is.1) (λ y k. applied_small names op x y h k))
+    (λ x h. if_then (value_of names f) (applied names op x) (value_small names are f is.1)
+    (λ y k. applied_small names op x y h k))

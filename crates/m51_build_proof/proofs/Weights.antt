@@ -1,5 +1,6 @@
 -- Each graph has a weight: without cycles there is a heaviest walk from each unit.
-use Rattle.std.proofs.Common.{◌≡◌, ◌⊎◌, inl, inr, ℕ, zero, suc, ◌+◌, ◌<◌, ◌≤◌, true, Bool, not, List, [], ◌∷◌, length, map, refl, sym, ap, subst, ◌∙◌, arith}
+use Rattle.std.proofs.Common.{◌≡◌, ◌⊎◌, inl, inr, ℕ, zero, suc, ◌+◌, ◌<◌, ◌≤◌, true, Bool, not, List, [], ◌∷◌, length}
+use Rattle.std.proofs.Common.{map, refl, sym, ap, subst, ◌∙◌, arith}
 use Rattle.std.specs.List.{Contains, list_any, sum_by}
 use Rattle.std.proofs.lemmas.Bool.{cases_Bool, cases_lt, false≢true, not-true}
 use Rattle.std.proofs.lemmas.List.Folds.{Any-from_list_any, list_any-from_Any}
@@ -28,18 +29,19 @@ first_self (x ∷ xs) = inr (refl, first_self xs)
 first_of_two : (xs ys : List ℕ) → ComesFirst xs ys ⊎ ComesFirst ys xs
 first_of_two [] ys = inl tt
 first_of_two (x ∷ xs) [] = inr tt
-first_of_two (x ∷ xs) (y ∷ ys) = elim (cases_lt x y) as (λ _. ComesFirst (x ∷ xs) (y ∷ ys) ⊎ ComesFirst (y ∷ ys) (x ∷ xs)) [
-  | inl less ↦ inl (inl less)
-  | inr not_less ↦ elim (cases_lt y x) as (λ _. ComesFirst (x ∷ xs) (y ∷ ys) ⊎ ComesFirst (y ∷ ys) (x ∷ xs)) [
-    | inl less ↦ inr (inl less)
-    | inr also_not ↦
-        let same : x ≡ y = omega (arith, not_less, also_not) in
-        elim (first_of_two xs ys) as (λ _. ComesFirst (x ∷ xs) (y ∷ ys) ⊎ ComesFirst (y ∷ ys) (x ∷ xs)) [
-          | inl h ↦ inl (inr (same, h))
-          | inr h ↦ inr (inr (sym same, h))
-        ]
-  ]
-]
+first_of_two (x ∷ xs) (y ∷ ys) =
+    elim (cases_lt x y) as (λ _. ComesFirst (x ∷ xs) (y ∷ ys) ⊎ ComesFirst (y ∷ ys) (x ∷ xs)) [
+      | inl less ↦ inl (inl less)
+      | inr not_less ↦ elim (cases_lt y x) as (λ _. ComesFirst (x ∷ xs) (y ∷ ys) ⊎ ComesFirst (y ∷ ys) (x ∷ xs)) [
+        | inl less ↦ inr (inl less)
+        | inr also_not ↦
+            let same : x ≡ y = omega (arith, not_less, also_not) in
+            elim (first_of_two xs ys) as (λ _. ComesFirst (x ∷ xs) (y ∷ ys) ⊎ ComesFirst (y ∷ ys) (x ∷ xs)) [
+              | inl h ↦ inl (inr (same, h))
+              | inr h ↦ inr (inr (sym same, h))
+            ]
+      ]
+    ]
 
 first_over : (xs ys zs : List ℕ) → ComesFirst xs ys → ComesFirst ys zs → ComesFirst xs zs
 first_over [] ys zs h k = tt
@@ -59,24 +61,27 @@ module _ (weight : ℕ → ℕ) where
 
   -- the first walk from the unit weighs more, or as much and comes first
   abbrev Beats : ℕ → List ℕ → List ℕ → Type 0
-  Beats unit more other = (total unit other < total unit more) ⊎ ((total unit other ≡ total unit more) × ComesFirst more other)
+  Beats unit more other =
+      (total unit other < total unit more) ⊎ ((total unit other ≡ total unit more) × ComesFirst more other)
 
   beats_self : (unit : ℕ) (more : List ℕ) → Beats unit more more
   beats_self unit more = inr (refl, first_self more)
 
   beats_or : (unit : ℕ) (one two : List ℕ) → Beats unit one two ⊎ Beats unit two one
-  beats_or unit one two = elim (cases_lt (total unit two) (total unit one)) as (λ _. Beats unit one two ⊎ Beats unit two one) [
-    | inl less ↦ inl (inl less)
-    | inr not_less ↦ elim (cases_lt (total unit one) (total unit two)) as (λ _. Beats unit one two ⊎ Beats unit two one) [
-      | inl less ↦ inr (inl less)
-      | inr also_not ↦
-          let same : total unit two ≡ total unit one = omega (arith, not_less, also_not) in
-          elim (first_of_two one two) as (λ _. Beats unit one two ⊎ Beats unit two one) [
-            | inl h ↦ inl (inr (same, h))
-            | inr h ↦ inr (inr (sym same, h))
-          ]
-    ]
-  ]
+  beats_or unit one two =
+      elim (cases_lt (total unit two) (total unit one)) as (λ _. Beats unit one two ⊎ Beats unit two one) [
+        | inl less ↦ inl (inl less)
+        | inr not_less ↦ elim (cases_lt (total unit one) (total unit two)) as
+            (λ _. Beats unit one two ⊎ Beats unit two one) [
+              | inl less ↦ inr (inl less)
+              | inr also_not ↦
+                  let same : total unit two ≡ total unit one = omega (arith, not_less, also_not) in
+                  elim (first_of_two one two) as (λ _. Beats unit one two ⊎ Beats unit two one) [
+                    | inl h ↦ inl (inr (same, h))
+                    | inr h ↦ inr (inr (sym same, h))
+                  ]
+            ]
+      ]
 
   beats_over : (unit : ℕ) (one two three : List ℕ) → Beats unit one two → Beats unit two three → Beats unit one three
   beats_over unit one two three (inl h) (inl k) = inl (omega (arith, h, k))
@@ -87,7 +92,10 @@ module _ (weight : ℕ → ℕ) where
   beats_on : (unit next : ℕ) (more other : List ℕ) → Beats next more other → Beats unit (next ∷ more) (next ∷ other)
   beats_on unit next more other (inl h) = inl (omega (arith, h, total_on unit next more, total_on unit next other))
   beats_on unit next more other (inr h) =
-      inr (total_on unit next other ∙ ap (λ (n : ℕ). weight unit + n) h.0 ∙ sym (total_on unit next more), inr (refl, h.1))
+      inr (
+        total_on unit next other ∙ ap (λ (n : ℕ). weight unit + n) h.0 ∙ sym (total_on unit next more),
+        inr (refl, h.1),
+      )
 
   module _ (edges : Edges) where
     -- a walk from the unit that beats all others
@@ -111,32 +119,39 @@ module _ (weight : ℕ → ℕ) where
     none_yet unit (next ∷ other) walk h = absurd (none_in_empty (unit, next) h)
 
     -- the edge begins each walk that takes it first
-    by_edge : (unit : ℕ) (e : ℕ × ℕ) (es : Edges) (step : HasBest e.1) (rest : HasBestIn es unit) (more : List ℕ) → Beats unit more (e.1 ∷ step.more) → Beats unit more rest.more
+    by_edge : (unit : ℕ) (e : ℕ × ℕ) (es : Edges) (step : HasBest e.1) (rest : HasBestIn es unit) (more : List ℕ)
+        → Beats unit more (e.1 ∷ step.more) → Beats unit more rest.more
         → (other : List ℕ) → IsWalk edges unit other → BeginsIn (e ∷ es) unit other → Beats unit more other
     by_edge unit e es step rest more one two [] walk h = beats_over unit more rest.more [] two (rest.most [] tt tt)
-    by_edge unit e es step rest more one two (next ∷ other) walk h = elim (first_or_after e es (unit, next) h) as (λ _. Beats unit more (next ∷ other)) [
-      | inl here ↦
-          let same : e.1 ≡ next = ap (λ (p : ℕ × ℕ). p.1) here in
-          let on : IsWalk edges e.1 other = subst (λ (n : ℕ). IsWalk edges n other) (sym same) walk.1 in
-          subst (λ (n : ℕ). Beats unit more (n ∷ other)) same
-          (beats_over unit more (e.1 ∷ step.more) (e.1 ∷ other) one (beats_on unit e.1 step.more other (step.most other on)))
-      | inr later ↦ beats_over unit more rest.more (next ∷ other) two (rest.most (next ∷ other) walk later)
-    ]
+    by_edge unit e es step rest more one two (next ∷ other) walk h =
+        elim (first_or_after e es (unit, next) h) as (λ _. Beats unit more (next ∷ other)) [
+          | inl here ↦
+              let same : e.1 ≡ next = ap (λ (p : ℕ × ℕ). p.1) here in
+              let on : IsWalk edges e.1 other = subst (λ (n : ℕ). IsWalk edges n other) (sym same) walk.1 in
+              subst (λ (n : ℕ). Beats unit more (n ∷ other)) same
+              (beats_over unit more (e.1 ∷ step.more) (e.1 ∷ other) one
+              (beats_on unit e.1 step.more other (step.most other on)))
+          | inr later ↦ beats_over unit more rest.more (next ∷ other) two (rest.most (next ∷ other) walk later)
+        ]
 
-    passed : (unit : ℕ) (e : ℕ × ℕ) (es : Edges) (rest : HasBestIn es unit) → (e.0 ≡ unit → ⊥) → (other : List ℕ) → IsWalk edges unit other → BeginsIn (e ∷ es) unit other → Beats unit rest.more other
+    passed : (unit : ℕ) (e : ℕ × ℕ) (es : Edges) (rest : HasBestIn es unit) → (e.0 ≡ unit → ⊥) → (other : List ℕ)
+        → IsWalk edges unit other → BeginsIn (e ∷ es) unit other → Beats unit rest.more other
     passed unit e es rest differs [] walk h = rest.most [] tt tt
-    passed unit e es rest differs (next ∷ other) walk h = elim (first_or_after e es (unit, next) h) as (λ _. Beats unit rest.more (next ∷ other)) [
-      | inl here ↦ absurd (differs (ap (λ (p : ℕ × ℕ). p.0) here))
-      | inr later ↦ rest.most (next ∷ other) walk later
-    ]
+    passed unit e es rest differs (next ∷ other) walk h =
+        elim (first_or_after e es (unit, next) h) as (λ _. Beats unit rest.more (next ∷ other)) [
+          | inl here ↦ absurd (differs (ap (λ (p : ℕ × ℕ). p.0) here))
+          | inr later ↦ rest.most (next ∷ other) walk later
+        ]
 
-    best_in : (es : Edges) (unit : ℕ) → ((e : ℕ × ℕ) → Contains es e → Contains edges e) → ((next : ℕ) → HasEdge edges unit next → HasBest next) → HasBestIn es unit
+    best_in : (es : Edges) (unit : ℕ) → ((e : ℕ × ℕ) → Contains es e → Contains edges e)
+        → ((next : ℕ) → HasEdge edges unit next → HasBest next) → HasBestIn es unit
     best_in [] unit among steps = record { more = []; walk = tt; most = none_yet unit }
     best_in (e ∷ es) unit among steps =
         let rest = best_in es unit (λ x h. among x (contains_after e es x h)) steps in
         elim (same_or_not e.0 unit) as (λ _. HasBestIn (e ∷ es) unit) [
           | inl same ↦
-              let there : HasEdge edges unit e.1 = subst (λ (n : ℕ). HasEdge edges n e.1) same (among e (contains_first e es)) in
+              let there : HasEdge edges unit e.1 =
+              subst (λ (n : ℕ). HasEdge edges n e.1) same (among e (contains_first e es)) in
               let step = steps e.1 there in
               elim (beats_or unit (e.1 ∷ step.more) rest.more) as (λ _. HasBestIn (e ∷ es) unit) [
                 | inl wins ↦ record {
@@ -144,7 +159,11 @@ module _ (weight : ℕ → ℕ) where
                   walk = (there, step.walk);
                   most = by_edge unit e es step rest (e.1 ∷ step.more) (beats_self unit (e.1 ∷ step.more)) wins;
                 }
-                | inr loses ↦ record { more = rest.more; walk = rest.walk; most = by_edge unit e es step rest rest.more loses (beats_self unit rest.more) }
+                | inr loses ↦ record {
+                  more = rest.more;
+                  walk = rest.walk;
+                  most = by_edge unit e es step rest rest.more loses (beats_self unit rest.more);
+                }
               ]
           | inr differs ↦ record { more = rest.more; walk = rest.walk; most = passed unit e es rest differs }
         ]
@@ -173,32 +192,43 @@ module _ (weight : ℕ → ℕ) where
       has_best : (left unit : ℕ) → n ≤ height unit + left → HasBest unit
       has_best zero unit high = record { more = []; walk = tt; most = no_other unit (omega (arith, high)) }
       has_best (suc left) unit high =
-          let best = best_in edges unit (λ e h. h) (λ next e. has_best left next (omega (arith, rises unit next e, high))) in
-          record { more = best.more; walk = best.walk; most = λ other walk. best.most other walk (begins unit other walk) }
+          let best = best_in edges unit (λ e h. h)
+          (λ next e. has_best left next (omega (arith, rises unit next e, high))) in
+          record {
+            more = best.more;
+            walk = best.walk;
+            most = λ other walk. best.most other walk (begins unit other walk);
+          }
 
       best_of : (unit : ℕ) → HasBest unit
       best_of unit = has_best n unit (omega arith)
 
 -- the root at a vector, or that there is none
-root_at : (roots : List (ℕ × ℕ)) (vector : ℕ) → ((unit : ℕ) × Contains roots (vector, unit)) ⊎ ((unit : ℕ) → Contains roots (vector, unit) → ⊥)
+root_at : (roots : List (ℕ × ℕ)) (vector : ℕ)
+    → ((unit : ℕ) × Contains roots (vector, unit)) ⊎ ((unit : ℕ) → Contains roots (vector, unit) → ⊥)
 root_at [] vector = inr (λ unit h. none_in_empty (vector, unit) h)
-root_at (r ∷ roots) vector = elim (same_or_not r.0 vector) as (λ _. ((unit : ℕ) × Contains (r ∷ roots) (vector, unit)) ⊎ ((unit : ℕ) → Contains (r ∷ roots) (vector, unit) → ⊥)) [
-  | inl same ↦ inl (r.1, subst (λ (v : ℕ). Contains (r ∷ roots) (v, r.1)) same (contains_first r roots))
-  | inr differs ↦ elim (root_at roots vector) as (λ _. ((unit : ℕ) × Contains (r ∷ roots) (vector, unit)) ⊎ ((unit : ℕ) → Contains (r ∷ roots) (vector, unit) → ⊥)) [
-    | inl found ↦ inl (found.0, contains_after r roots (vector, found.0) found.1)
-    | inr none ↦ inr (λ unit h. elim (first_or_after r roots (vector, unit) h) as (λ _. ⊥) [
-      | inl here ↦ differs (ap (λ (p : ℕ × ℕ). p.0) here)
-      | inr later ↦ none unit later
-    ])
-  ]
-]
+root_at (r ∷ roots) vector =
+    elim (same_or_not r.0 vector) as
+    (λ _. ((unit : ℕ) × Contains (r ∷ roots) (vector, unit)) ⊎ ((unit : ℕ) → Contains (r ∷ roots) (vector, unit) → ⊥)) [
+      | inl same ↦ inl (r.1, subst (λ (v : ℕ). Contains (r ∷ roots) (v, r.1)) same (contains_first r roots))
+      | inr differs ↦ elim (root_at roots vector) as
+          (λ _. ((unit : ℕ) × Contains (r ∷ roots) (vector, unit)) ⊎
+          ((unit : ℕ) → Contains (r ∷ roots) (vector, unit) → ⊥)) [
+            | inl found ↦ inl (found.0, contains_after r roots (vector, found.0) found.1)
+            | inr none ↦ inr (λ unit h. elim (first_or_after r roots (vector, unit) h) as (λ _. ⊥) [
+              | inl here ↦ differs (ap (λ (p : ℕ × ℕ). p.0) here)
+              | inr later ↦ none unit later
+            ])
+          ]
+    ]
 
 module _ (g : GraphParts) (is : IsGraph g) (weight : ℕ → ℕ) where
   record HasChains (at : List ℕ) : Type 0 where
     chains : List Chain
     are : ChainsFrom (joined_graph g) weight at chains
 
-  without : (vector : ℕ) (more : List ℕ) (chains : List Chain) → LacksRoot (joined_graph g) vector → ChainsFrom (joined_graph g) weight more chains
+  without : (vector : ℕ) (more : List ℕ) (chains : List Chain) → LacksRoot (joined_graph g) vector
+      → ChainsFrom (joined_graph g) weight more chains
       → ChainsFrom (joined_graph g) weight (vector ∷ more) chains
   without vector more [] lacks are = (lacks, are)
   without vector more (c ∷ chains) lacks are = inl (lacks, are)
@@ -210,8 +240,13 @@ module _ (g : GraphParts) (is : IsGraph g) (weight : ℕ → ℕ) where
       elim (root_at g.roots vector) as (λ _. HasChains (vector ∷ more)) [
         | inl found ↦
             let best = best_of weight g.edges (length g.units) is.units.edges is.no_cycle found.0 in
-            let chain : Chain = record { root = found.0; bytes = sum_along weight (found.0 ∷ best.more); units = found.0 ∷ best.more } in
-            let walk : IsHeaviestWalk g.edges weight chain = record { more = best.more; units = refl; walk = best.walk; bytes = refl; most = best.most } in
+            let chain : Chain = record {
+              root = found.0;
+              bytes = sum_along weight (found.0 ∷ best.more);
+              units = found.0 ∷ best.more;
+            } in
+            let walk : IsHeaviestWalk g.edges weight chain =
+            record { more = best.more; units = refl; walk = best.walk; bytes = refl; most = best.most } in
             record { chains = chain ∷ rest.chains; are = inr (found.1, walk, rest.are) }
         | inr lacks ↦ record { chains = rest.chains; are = without vector more rest.chains lacks rest.are }
       ]
@@ -226,22 +261,26 @@ module _ (g : GraphParts) (is : IsGraph g) (weight : ℕ → ℕ) where
   unfolding under free
   frees unit h vector lies =
       let at : Contains vectors vector = (is.units.roots vector lies.root lies.is_root).0 in
-      let some = list_any-from_Any (under unit) vectors (at.0, vector, at.1, at.2, (above_tells g vector unit).1 lies) in
+      let some = list_any-from_Any (under unit) vectors
+      (at.0, vector, at.1, at.2, (above_tells g vector unit).1 lies) in
       false≢true (sym (not-true (list_any (under unit) vectors) h) ∙ some)
 
   is_free : (unit : ℕ) → ((vector : ℕ) → UnitLiesUnder g vector unit → ⊥) → free unit ≡ true
   unfolding under free
-  is_free unit none = elim (cases_Bool (list_any (under unit) vectors)) as (λ _. not (list_any (under unit) vectors) ≡ true) [
-    | inl some ↦ let any = Any-from_list_any (under unit) vectors some in absurd (none any.1 ((above_tells g any.1 unit).0 any.4))
-    | inr not_some ↦ ap not not_some
-  ]
+  is_free unit none = elim (cases_Bool (list_any (under unit) vectors)) as
+      (λ _. not (list_any (under unit) vectors) ≡ true) [
+        | inl some ↦ let any = Any-from_list_any (under unit) vectors some in
+            absurd (none any.1 ((above_tells g any.1 unit).0 any.4))
+        | inr not_some ↦ ap not not_some
+      ]
 
 -- each graph has a weight
 pub has_weight : (segments : List JoinedSegment) (g : GraphParts) → IsGraph g → HasWeight segments g
 has_weight segments g is =
     let found = has_chains g is (unit_weight segments g) vectors in
     record {
-      weight = sum_by (λ (c : Chain). c.bytes) found.chains + bytes_joined g (free g is (unit_weight segments g)) 0 segments;
+      weight = sum_by (λ (c : Chain). c.bytes) found.chains + bytes_joined g (free g is (unit_weight segments g)) 0
+          segments;
       is = record {
         chains = found.chains;
         heaviest = found.are;

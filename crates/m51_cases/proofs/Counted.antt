@@ -19,8 +19,10 @@ by_transfer Ret taken after e = sym e
 by_transfer Reti taken after e = omega (arith, e)
 by_transfer (Vector source) taken after e = sym e
 
-pub counted : (m : Monitored) (e : Effect) (step : Move) (taken : ℕ) → WasJudged m e step → interrupts m.records.returns ≡ taken
+pub counted : (m : Monitored) (e : Effect) (step : Move) (taken : ℕ) → WasJudged m e step
+    → interrupts m.records.returns ≡ taken
     → taken_by e.transfer taken ≡ interrupts (moved m.records e step).returns
 counted m e step taken j same =
     by_transfer e.transfer taken (interrupts (moved m.records e step).returns)
-    (subst (λ n. CountsInterrupts e.transfer n (interrupts (moved m.records e step).returns)) same (interrupts_are_counted m j.cpu e step j.judges))
+    (subst (λ n. CountsInterrupts e.transfer n (interrupts (moved m.records e step).returns)) same
+    (interrupts_are_counted m j.cpu e step j.judges))

@@ -1,5 +1,7 @@
 -- A layout that passes the tests is sound.
-use Rattle.std.proofs.Common.{◌≡◌, ◌≢◌, ◌⊎◌, inl, inr, ℕ, zero, suc, ◌+◌, ◌*◌, ◌<◌, ◌≤◌, Bool, true, false, not, ◌&&◌, ◌||◌, nat_eq, nat_le, nat_lt, Option, Some, None, List, [], ◌∷◌, length, get_or, refl, sym, ap, subst, ◌∙◌, ⊎_elim, arith}
+use Rattle.std.proofs.Common.{◌≡◌, ◌≢◌, ◌⊎◌, inl, inr, ℕ, zero, suc, ◌+◌, ◌*◌, ◌<◌, ◌≤◌, Bool, true, false, not, ◌&&◌}
+use Rattle.std.proofs.Common.{◌||◌, nat_eq, nat_le, nat_lt, Option, Some, None, List, [], ◌∷◌, length, get_or, refl}
+use Rattle.std.proofs.Common.{sym, ap, subst, ◌∙◌, ⊎_elim, arith}
 use Rattle.std.specs.Prelude.{slice_get, slice_index}
 use Rattle.std.specs.List.{Contains}
 use Rattle.std.proofs.lemmas.Bool.Decides.{eqb_tells, nat_tests}
@@ -21,8 +23,10 @@ use Rattle.m51_module.specs.declared.placed.Mark.{Mark}
 use Rattle.m51_module.specs.declared.placed.Mark.TheVariants.{Bank, Reserve, Absolute, Plain, Overlaid}
 use Rattle.m51_module.specs.declared.placed.Placed.{Placed}
 use Rattle.m51_module.specs.Cells.{extent_at}
-use Rattle.m51_module.specs.Conflict.{Same, Before, After, FirstUnderNone, SecondUnderNone, UnderTwo, FirstPlain, SecondPlain, Owners}
-use Rattle.m51_module.specs.Plan.{IsPlaced, IsOverlaid, IsCodeSegment, IsSegment, IsRootAt, owners_of, Owns, UnitLiesUnder, UnitsRelated, ExtentsConflict}
+use Rattle.m51_module.specs.Conflict.{Same, Before, After, FirstUnderNone, SecondUnderNone, UnderTwo, FirstPlain}
+use Rattle.m51_module.specs.Conflict.{SecondPlain, Owners}
+use Rattle.m51_module.specs.Plan.{IsPlaced, IsOverlaid, IsCodeSegment, IsSegment, IsRootAt, owners_of, Owns}
+use Rattle.m51_module.specs.Plan.{UnitLiesUnder, UnitsRelated, ExtentsConflict}
 use Rattle.m51_module.specs.Sound.{IsSound, IsFit, IsInside, HasOwners}
 use Rattle.m51_module.specs.Walks.{HasEdge, IsWalk, last_of, Reaches, has_edge}
 use Rattle.m51_module.proofs.Owning.{pair_of_owner}
@@ -30,7 +34,9 @@ use Rattle.m51_module.proofs.Reach.{reach_edge}
 use Rattle.m51_monitor.specs.Found.{is_absolute, passes}
 use Rattle.m51_monitor.specs.Stores.{is_in, is_overlaid_at, is_overlaid_mark, is_segment}
 use Rattle.m51_module.proofs.EdgeTests.{edge_tells}
-use Rattle.m51_cases.proofs.SoundTests.{apart_at, are_apart, are_siblings, each_below, each_of, ends_inside, fits, has_owners, is_code_segment, is_leaf, is_no_late_code, is_number, is_owner, is_root_in_place, is_unit_in_order, leads_up, may_share, may_stand, one_or_two}
+use Rattle.m51_cases.proofs.SoundTests.{apart_at, are_apart, are_siblings, each_below, each_of, ends_inside, fits}
+use Rattle.m51_cases.proofs.SoundTests.{has_owners, is_code_segment, is_leaf, is_no_late_code, is_number, is_owner}
+use Rattle.m51_cases.proofs.SoundTests.{is_root_in_place, is_unit_in_order, leads_up, may_share, may_stand, one_or_two}
 
 or_cases : (a b : Bool) → (a || b) ≡ true → (a ≡ true) ⊎ (b ≡ true)
 or_cases true b e = inl refl
@@ -52,7 +58,8 @@ below_each (suc n) test h i lt =
     (λ (e : i ≡ n). subst (λ m. test m ≡ true) (sym e) k.0)
     (below_or_last i n (omega (arith, lt)))
 
-of_each : {X : Type 0} (xs : List X) (test : X → Bool) → each_of xs test ≡ true → (x : X) → Contains xs x → test x ≡ true
+of_each : {X : Type 0} (xs : List X) (test : X → Bool) → each_of xs test ≡ true → (x : X) → Contains xs x
+    → test x ≡ true
 of_each [] test h x k = absurd (none_in_empty x k)
 of_each {X} (y ∷ ys) test h x k =
     let q = and_parts (test y) (each_of ys test) h in
@@ -82,10 +89,13 @@ in_itself CodeSpace = refl
 
 no_meet : (e f : Extent) → are_apart e f ≡ true → Meet e f → ⊥
 no_meet e f h (c, one, two) = ⊎_elim
-    (λ (k : not (is_in e.space f.space) ≡ true). refuted (is_in e.space f.space) k (subst (λ (s : Space). is_in e.space s ≡ true) (sym one.space ∙ two.space) (in_itself e.space)))
+    (λ (k : not (is_in e.space f.space) ≡ true). refuted (is_in e.space f.space) k
+    (subst (λ (s : Space). is_in e.space s ≡ true) (sym one.space ∙ two.space) (in_itself e.space)))
     (λ (k : (nat_le (e.first + e.len) f.first || nat_le (f.first + f.len) e.first) ≡ true). ⊎_elim
-    (λ (q : nat_le (e.first + e.len) f.first ≡ true). let le = leb-true (e.first + e.len) f.first q in omega (arith, le, one.below, two.from))
-    (λ (q : nat_le (f.first + f.len) e.first ≡ true). let le = leb-true (f.first + f.len) e.first q in omega (arith, le, two.below, one.from))
+    (λ (q : nat_le (e.first + e.len) f.first ≡ true). let le = leb-true (e.first + e.len) f.first q in
+    omega (arith, le, one.below, two.from))
+    (λ (q : nat_le (f.first + f.len) e.first ≡ true). let le = leb-true (f.first + f.len) e.first q in
+    omega (arith, le, two.below, one.from))
     (or_cases (nat_le (e.first + e.len) f.first) (nat_le (f.first + f.len) e.first) k))
     (or_cases (not (is_in e.space f.space)) (nat_le (e.first + e.len) f.first || nat_le (f.first + f.len) e.first) h)
 
@@ -105,23 +115,42 @@ module _ (p : Placed) (some : 0 < p.size) where
       }
   fit_by Direct e h =
       let end = leb-true (8 * p.base + 8 * p.size) 2048 h in
-      record { kind = λ n. cc (e, n); inside = inside_of Direct e (λ c m. omega (arith, m.below, end)); absolute = λ _. some; code = λ n. absurd (cc (e, n)) }
+      record {
+        kind = λ n. cc (e, n);
+        inside = inside_of Direct e (λ c m. omega (arith, m.below, end));
+        absolute = λ _. some;
+        code = λ n. absurd (cc (e, n));
+      }
   fit_by Bits e h =
       let end = leb-true (256 + p.base + p.size) 2048 h in
-      record { kind = λ n. cc (e, n); inside = inside_of Bits e (λ c m. omega (arith, m.below, end)); absolute = λ _. some; code = λ n. absurd (cc (e, n)) }
+      record {
+        kind = λ n. cc (e, n);
+        inside = inside_of Bits e (λ c m. omega (arith, m.below, end));
+        absolute = λ _. some;
+        code = λ n. absurd (cc (e, n));
+      }
   fit_by Xdata e h = cc h
   fit_by Idata e h = cc h
   fit_by Number e h = cc h
 
 fit_of : (p : Placed) → fits p ≡ true → IsFit p
-fit_of p h = let k = and_parts (nat_lt 0 p.size) (ends_inside p.kind p.base p.size p.mark) h in fit_by p (lt_is 0 p.size k.0) p.kind refl k.1
+fit_of p h = let k = and_parts (nat_lt 0 p.size) (ends_inside p.kind p.base p.size p.mark) h in
+    fit_by p (lt_is 0 p.size k.0) p.kind refl k.1
 
 code_of : (p : Placed) → is_code_segment p ≡ true → IsCodeSegment p
-code_of p h = let k = and_parts (is_code p.kind) (is_segment p.mark) h in record { kind = code_is p.kind k.0; segment = segment_is p.mark k.1 }
+code_of p h = let k = and_parts (is_code p.kind) (is_segment p.mark) h in
+    record { kind = code_is p.kind k.0; segment = segment_is p.mark k.1 }
 
 owners_are : (us : List ℕ) → one_or_two us ≡ true → HasOwners us
 owners_are [] h = cc h
-owners_are (own ∷ []) h = record { own = own; others = []; are = refl; rising = λ i j d less below. absurd (omega (arith, below)); different = λ k. none_in_empty own k }
+owners_are (own ∷ []) h =
+    record {
+      own = own;
+      others = [];
+      are = refl;
+      rising = λ i j d less below. absurd (omega (arith, below));
+      different = λ k. none_in_empty own k;
+    }
 owners_are (own ∷ other ∷ []) h = record {
   own = own;
   others = other ∷ [];
@@ -151,38 +180,48 @@ module _ (l : LayoutParts) (vectors : List ℕ) (root : IsRootAt l 0 0)
   inside s p h = slice_get_within l.placed s p h
 
   fit : (s : ℕ) (p : Placed) → IsPlaced l s p → IsFit p
-  fit s p h = fit_of p (subst (λ (o : Option Placed). passes fits o ≡ true) h (below_each (length l.placed) (λ s. passes fits (slice_get l.placed s)) fitting s (inside s p h)))
+  fit s p h = fit_of p (subst (λ (o : Option Placed). passes fits o ≡ true) h
+      (below_each (length l.placed) (λ s. passes fits (slice_get l.placed s)) fitting s (inside s p h)))
 
   in_order : (u s : ℕ) → slice_get l.units u ≡ Some s → (s ≡ u) × (passes is_code_segment (slice_get l.placed u) ≡ true)
   in_order u s h =
-      let k = and_parts (is_number (slice_get l.units u) u) (passes is_code_segment (slice_get l.placed u)) (below_each (length l.units) (is_unit_in_order l) ordered u (slice_get_within l.units u s h)) in
+      let k = and_parts (is_number (slice_get l.units u) u) (passes is_code_segment (slice_get l.placed u))
+      (below_each (length l.units) (is_unit_in_order l) ordered u (slice_get_within l.units u s h)) in
       (eqb-true s u (subst (λ (o : Option ℕ). is_number o u ≡ true) h k.0), k.1)
 
-  code_at : (s : ℕ) (o : Option Placed) → slice_get l.placed s ≡ o → passes is_code_segment o ≡ true → (p : Placed) × IsPlaced l s p × IsCodeSegment p
+  code_at : (s : ℕ) (o : Option Placed) → slice_get l.placed s ≡ o → passes is_code_segment o ≡ true
+      → (p : Placed) × IsPlaced l s p × IsCodeSegment p
   code_at s None e h = cc h
   code_at s (Some p) e h = (p, e, code_of p h)
 
   is_code_at : (u s : ℕ) → slice_get l.units u ≡ Some s → (p : Placed) × IsPlaced l s p × IsCodeSegment p
   is_code_at u s h =
       let k = in_order u s h in
-      code_at s (slice_get l.placed s) refl (subst (λ n. passes is_code_segment (slice_get l.placed n) ≡ true) (sym k.0) k.1)
+      code_at s (slice_get l.placed s) refl
+      (subst (λ n. passes is_code_segment (slice_get l.placed n) ≡ true) (sym k.0) k.1)
 
   is_unit : (s : ℕ) (p : Placed) → IsPlaced l s p → IsCodeSegment p → Contains l.units s
   is_unit s p h code = ⊎_elim
-      (λ (e : nat_lt s (length l.units) ≡ true). let lt = lt_is s (length l.units) e in (s, lt, (in_order s (get_or l.units s s) (slice_get-get_or l.units s s lt)).0))
+      (λ (e : nat_lt s (length l.units) ≡ true). let lt = lt_is s (length l.units) e in
+      (s, lt, (in_order s (get_or l.units s s) (slice_get-get_or l.units s s lt)).0))
       (λ (e : not (passes is_code_segment (slice_get l.placed s)) ≡ true).
-      absurd (refuted (passes is_code_segment (slice_get l.placed s)) e (subst (λ (o : Option Placed). passes is_code_segment o ≡ true) (sym h)
+      absurd (refuted (passes is_code_segment (slice_get l.placed s)) e
+      (subst (λ (o : Option Placed). passes is_code_segment o ≡ true) (sym h)
       (and_from (is_code p.kind) (is_segment p.mark) (ap is_code code.kind) (is_a_segment p.mark code.segment)))))
-      (or_cases (nat_lt s (length l.units)) (not (passes is_code_segment (slice_get l.placed s))) (below_each (length l.placed) (is_no_late_code l) none_late s (inside s p h)))
+      (or_cases (nat_lt s (length l.units)) (not (passes is_code_segment (slice_get l.placed s)))
+      (below_each (length l.placed) (is_no_late_code l) none_late s (inside s p h)))
 
   edge_up : (u v : ℕ) → HasEdge l.edges u v → (u < v) × (v < length l.units) × (vector u ≡ vector v)
   unfolding vector
   edge_up u v h =
-      let k = and_parts (nat_lt u v) (nat_lt v (length l.units) && nat_eq (slice_index vectors u) (slice_index vectors v)) (of_each l.edges (leads_up vectors l) upwards (u, v) h) in
+      let k = and_parts (nat_lt u v)
+      (nat_lt v (length l.units) && nat_eq (slice_index vectors u) (slice_index vectors v))
+      (of_each l.edges (leads_up vectors l) upwards (u, v) h) in
       let q = and_parts (nat_lt v (length l.units)) (nat_eq (slice_index vectors u) (slice_index vectors v)) k.1 in
       (lt_is u v k.0, lt_is v (length l.units) q.0, eqb-true (slice_index vectors u) (slice_index vectors v) q.1)
 
-  walk_up : (u next : ℕ) (more : List ℕ) → IsWalk l.edges u (next ∷ more) → (u < last_of next more) × (vector u ≡ vector (last_of next more))
+  walk_up : (u next : ℕ) (more : List ℕ) → IsWalk l.edges u (next ∷ more)
+      → (u < last_of next more) × (vector u ≡ vector (last_of next more))
   walk_up u next [] w = let k = edge_up u next w.0 in (k.0, k.2)
   walk_up u next (third ∷ more) w =
       let k = edge_up u next w.0 in
@@ -199,16 +238,22 @@ module _ (l : LayoutParts) (vectors : List ℕ) (root : IsRootAt l 0 0)
       let same = (in_order r s h.unit_is.unit_is).0 in
       ⊎_elim
       (λ (e : not (passes (λ p. is_absolute p.mark) (slice_get l.placed s)) ≡ true).
-      absurd (refuted (passes (λ p. is_absolute p.mark) (slice_get l.placed s)) e (subst (λ (o : Option Placed). passes (λ p. is_absolute p.mark) o ≡ true) (sym h.unit_is.placed) (ap is_absolute h.absolute))))
+      absurd (refuted (passes (λ p. is_absolute p.mark) (slice_get l.placed s)) e
+      (subst (λ (o : Option Placed). passes (λ p. is_absolute p.mark) o ≡ true) (sym h.unit_is.placed)
+      (ap is_absolute h.absolute))))
       (λ (e : passes (λ p. nat_eq p.base (slice_index vectors s)) (slice_get l.placed s) ≡ true).
-      sym h.base ∙ eqb-true h.is.base (slice_index vectors s) (subst (λ (o : Option Placed). passes (λ p. nat_eq p.base (slice_index vectors s)) o ≡ true) h.unit_is.placed e) ∙ ap (slice_index vectors) same)
-      (or_cases (not (passes (λ p. is_absolute p.mark) (slice_get l.placed s))) (passes (λ p. nat_eq p.base (slice_index vectors s)) (slice_get l.placed s))
+      sym h.base ∙ eqb-true h.is.base (slice_index vectors s)
+      (subst (λ (o : Option Placed). passes (λ p. nat_eq p.base (slice_index vectors s)) o ≡ true) h.unit_is.placed
+      e) ∙ ap (slice_index vectors) same)
+      (or_cases (not (passes (λ p. is_absolute p.mark) (slice_get l.placed s)))
+      (passes (λ p. nat_eq p.base (slice_index vectors s)) (slice_get l.placed s))
       (below_each (length l.placed) (is_root_in_place vectors l) in_place s (inside s h.is h.unit_is.placed)))
 
   under_vector : (x u : ℕ) → UnitLiesUnder l x u → x ≡ vector u
   under_vector x u h = ⊎_elim
       (λ (e : h.root ≡ u). root_vector x h.root h.is_root ∙ ap vector e)
-      (λ (r : Reaches l.edges h.root u). root_vector x h.root h.is_root ∙ (walk_up h.root r.next r.more r.walk).1 ∙ ap vector r.ends)
+      (λ (r : Reaches l.edges h.root u). root_vector x h.root h.is_root ∙ (walk_up h.root r.next r.more r.walk).1
+      ∙ ap vector r.ends)
       h.leads
 
   overlaid_at : (s : ℕ) (o : Option Placed) → slice_get l.placed s ≡ o → is_overlaid_at o ≡ true → IsOverlaid l s
@@ -217,14 +262,18 @@ module _ (l : LayoutParts) (vectors : List ℕ) (root : IsRootAt l 0 0)
 
   owned : (u s : ℕ) → Owns l u s → (u < length l.units) × IsOverlaid l s
   owned u s h =
-      let k = and_parts (nat_lt u (length l.units)) (is_overlaid_at (slice_get l.placed s)) (of_each l.owners (is_owner l) all_owners (s, u) (pair_of_owner l.owners s u h)) in
+      let k = and_parts (nat_lt u (length l.units)) (is_overlaid_at (slice_get l.placed s))
+      (of_each l.owners (is_owner l) all_owners (s, u) (pair_of_owner l.owners s u h)) in
       (lt_is u (length l.units) k.0, overlaid_at s (slice_get l.placed s) refl k.1)
 
   owners : (s : ℕ) → IsOverlaid l s → HasOwners (owners_of l.owners s)
   owners s (p, at, mark) = ⊎_elim
-      (λ (e : not (is_overlaid_at (slice_get l.placed s)) ≡ true). absurd (refuted (is_overlaid_at (slice_get l.placed s)) e (subst (λ (o : Option Placed). is_overlaid_at o ≡ true) (sym at) (ap is_overlaid_mark mark))))
+      (λ (e : not (is_overlaid_at (slice_get l.placed s)) ≡ true). absurd
+      (refuted (is_overlaid_at (slice_get l.placed s)) e
+      (subst (λ (o : Option Placed). is_overlaid_at o ≡ true) (sym at) (ap is_overlaid_mark mark))))
       (λ (e : one_or_two (owners_of l.owners s) ≡ true). owners_are (owners_of l.owners s) e)
-      (or_cases (not (is_overlaid_at (slice_get l.placed s))) (one_or_two (owners_of l.owners s)) (below_each (length l.placed) (has_owners l) all_owned s (inside s p at)))
+      (or_cases (not (is_overlaid_at (slice_get l.placed s))) (one_or_two (owners_of l.owners s))
+      (below_each (length l.placed) (has_owners l) all_owned s (inside s p at)))
 
   no_reach : (u v : ℕ) → is_leaf l u ≡ true → Reaches l.edges u v → ⊥
   no_reach u v leaf r =
@@ -252,27 +301,38 @@ module _ (l : LayoutParts) (vectors : List ℕ) (root : IsRootAt l 0 0)
         | After r ↦ no_reach v u q.1 r
         | FirstUnderNone none ↦ none 0 (under_first u q.0)
         | SecondUnderNone none ↦ none 0 (under_first v q.1)
-        | UnderTwo x y two first second ↦ two (under_vector x u first ∙ sym (edge_up 0 u (called u q.0)).2 ∙ (edge_up 0 v (called v q.1)).2 ∙ sym (under_vector y v second))
+        | UnderTwo x y two first second ↦ two
+            (under_vector x u first ∙ sym (edge_up 0 u (called u q.0)).2 ∙ (edge_up 0 v (called v q.1)).2
+            ∙ sym (under_vector y v second))
       ]
 
   no_conflict : (s t : ℕ) → may_share l s t ≡ true → ExtentsConflict l s t → ⊥
   no_conflict s t h conflict =
-      let k = and_parts (is_overlaid_at (slice_get l.placed s) && is_overlaid_at (slice_get l.placed t)) (each_of (owners_of l.owners s) (λ u. each_of (owners_of l.owners t) (λ v. are_siblings l u v))) h in
+      let k = and_parts (is_overlaid_at (slice_get l.placed s) && is_overlaid_at (slice_get l.placed t))
+      (each_of (owners_of l.owners s) (λ u. each_of (owners_of l.owners t) (λ v. are_siblings l u v))) h in
       let q = and_parts (is_overlaid_at (slice_get l.placed s)) (is_overlaid_at (slice_get l.placed t)) k.0 in
       elim conflict as (λ _. ⊥) [
         | FirstPlain plain ↦ plain (overlaid_at s (slice_get l.placed s) refl q.0)
         | SecondPlain plain ↦ plain (overlaid_at t (slice_get l.placed t) refl q.1)
-        | Owners u v owns_s owns_t related ↦ unrelated u v (of_each (owners_of l.owners t) (λ v. are_siblings l u v) (of_each (owners_of l.owners s) (λ u. each_of (owners_of l.owners t) (λ v. are_siblings l u v)) k.1 u owns_s) v owns_t) related
+        | Owners u v owns_s owns_t related ↦ unrelated u v
+            (of_each (owners_of l.owners t) (λ v. are_siblings l u v)
+            (of_each (owners_of l.owners s) (λ u. each_of (owners_of l.owners t) (λ v. are_siblings l u v)) k.1 u
+            owns_s) v owns_t) related
       ]
 
-  apart : (s t : ℕ) (p q : Placed) → IsPlaced l s p → IsPlaced l t q → s ≢ t → ExtentsConflict l s t → Meet (extent_at p) (extent_at q) → ⊥
+  apart : (s t : ℕ) (p q : Placed) → IsPlaced l s p → IsPlaced l t q → s ≢ t → ExtentsConflict l s t
+      → Meet (extent_at p) (extent_at q) → ⊥
   apart s t p q at_s at_t differ conflict meet =
-      let both_of = below_each (length l.placed) (may_stand l s) (below_each (length l.placed) (λ s. each_below (length l.placed) (may_stand l s)) all_stand s (inside s p at_s)) t (inside t q at_t) in
+      let both_of = below_each (length l.placed) (may_stand l s)
+      (below_each (length l.placed) (λ s. each_below (length l.placed) (may_stand l s)) all_stand s
+      (inside s p at_s)) t (inside t q at_t) in
       ⊎_elim
       (λ (e : nat_eq s t ≡ true). differ (eqb-true s t e))
       (λ (e : (apart_at (slice_get l.placed s) (slice_get l.placed t) || may_share l s t) ≡ true). ⊎_elim
       (λ (f : apart_at (slice_get l.placed s) (slice_get l.placed t) ≡ true).
-      no_meet (extent_at p) (extent_at q) (subst (λ (o : Option Placed). apart_at (Some p) o ≡ true) at_t (subst (λ (o : Option Placed). apart_at o (slice_get l.placed t) ≡ true) at_s f)) meet)
+      no_meet (extent_at p) (extent_at q)
+      (subst (λ (o : Option Placed). apart_at (Some p) o ≡ true) at_t
+      (subst (λ (o : Option Placed). apart_at o (slice_get l.placed t) ≡ true) at_s f)) meet)
       (λ (f : may_share l s t ≡ true). no_conflict s t f conflict)
       (or_cases (apart_at (slice_get l.placed s) (slice_get l.placed t)) (may_share l s t) e))
       (or_cases (nat_eq s t) (apart_at (slice_get l.placed s) (slice_get l.placed t) || may_share l s t) both_of)

@@ -1,7 +1,9 @@
--- Tests that show a small layout to be sound: its first extents are its units in order, its edges lead from lower numbers
+-- Tests that show a small layout to be sound: its first extents are its units in order, its edges lead from lower
+-- numbers
 -- to higher ones, each unit lies under at most one root, and segments that share cells are of units that the first unit
 -- calls and that call none.
-use Rattle.std.specs.Prelude.{ℕ, zero, suc, ◌+◌, ◌*◌, Bool, true, false, not, ◌&&◌, ◌||◌, nat_eq, nat_le, nat_lt, Option, Some, None, List, [], ◌∷◌, length, slice_get, slice_index}
+use Rattle.std.specs.Prelude.{ℕ, zero, suc, ◌+◌, ◌*◌, Bool, true, false, not, ◌&&◌, ◌||◌, nat_eq, nat_le, nat_lt}
+use Rattle.std.specs.Prelude.{Option, Some, None, List, [], ◌∷◌, length, slice_get, slice_index}
 use Rattle.m51_cells.specs.declared.extent.Extent.{Extent}
 use Rattle.m51_cells.specs.declared.kind.Kind.{Kind}
 use Rattle.m51_cells.specs.declared.kind.Kind.TheVariants.{Code, Direct, Bits}
@@ -52,10 +54,13 @@ is_no_late_code l s = nat_lt s (length l.units) || not (passes is_code_segment (
 
 -- a root begins at the vector of its unit
 abbrev pub is_root_in_place : List ℕ → LayoutParts → ℕ → Bool
-is_root_in_place vectors l s = not (passes (λ p. is_absolute p.mark) (slice_get l.placed s)) || passes (λ p. nat_eq p.base (slice_index vectors s)) (slice_get l.placed s)
+is_root_in_place vectors l s = not (passes (λ p. is_absolute p.mark) (slice_get l.placed s))
+    || passes (λ p. nat_eq p.base (slice_index vectors s)) (slice_get l.placed s)
 
 abbrev pub leads_up : List ℕ → LayoutParts → ℕ × ℕ → Bool
-leads_up vectors l edge = nat_lt edge.0 edge.1 && (nat_lt edge.1 (length l.units) && nat_eq (slice_index vectors edge.0) (slice_index vectors edge.1))
+leads_up vectors l edge =
+    nat_lt edge.0 edge.1 &&
+    (nat_lt edge.1 (length l.units) && nat_eq (slice_index vectors edge.0) (slice_index vectors edge.1))
 
 abbrev pub is_owner : LayoutParts → ℕ × ℕ → Bool
 is_owner l pair = nat_lt pair.1 (length l.units) && is_overlaid_at (slice_get l.placed pair.0)
@@ -72,7 +77,8 @@ has_owners l s = not (is_overlaid_at (slice_get l.placed s)) || one_or_two (owne
 
 -- the extents share no cell
 abbrev pub are_apart : Extent → Extent → Bool
-are_apart one two = not (is_in one.space two.space) || (nat_le (one.first + one.len) two.first || nat_le (two.first + two.len) one.first)
+are_apart one two = not (is_in one.space two.space)
+    || (nat_le (one.first + one.len) two.first || nat_le (two.first + two.len) one.first)
 
 -- the first unit calls it, and it calls none
 abbrev pub is_leaf : LayoutParts → ℕ → Bool

@@ -16,4 +16,5 @@ three_roots_root = record {
 }
 
 pub three_roots_sound : IsSound three_roots
-three_roots_sound = sound_by_tests three_roots vectors_of_units three_roots_root (omega arith) (omega arith) refl refl refl refl refl refl refl refl
+three_roots_sound = sound_by_tests three_roots vectors_of_units three_roots_root (omega arith) (omega arith) refl refl
+    refl refl refl refl refl refl

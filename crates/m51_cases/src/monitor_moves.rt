@@ -1,5 +1,5 @@
 //! Lists of moves over a layout with three roots, and what is live and written after each. All of it is worked by hand.
-use crate::monitor_run::{Act, Run, Spot};
+use crate::monitor_run::{Act, MonitorRun, PcAndSp};
 use m51_cells::digit_value;
 use m51_flat::Source;
 use m51_monitor::Move;
@@ -61,7 +61,7 @@ R call B C4 ?.....??.?";
 // and 1, and with the byte 09H, which jumps to one with the byte 0AH, and calls itself; the root at 0003H with the
 // byte 0CH, the unit that it calls, with 0BH, the root at 000BH, with 0DH, above both, and the first of these roots
 // once more.
-fn spot(letter: u8) -> Spot {
+fn spot(letter: u8) -> PcAndSp {
     let (pc, sp) = match letter {
         b'R' => (0x00, 0x40),
         b'D' => (0x30, 0x42),
@@ -76,7 +76,7 @@ fn spot(letter: u8) -> Spot {
         b'A' => (0x03, 0x48),
         _ => (0xFF, 0xFF),
     };
-    Spot { pc, sp }
+    PcAndSp { pc, sp }
 }
 
 // The byte of a row.
@@ -126,7 +126,7 @@ fn numeral(unit: u16) -> u8 {
 }
 
 // The step of a row ends as the row says.
-fn holds(run: &mut Run, row: &[u8]) -> bool {
+fn holds(run: &mut MonitorRun, row: &[u8]) -> bool {
     let (kind, unit) = written(run.go(spot(at(row, 0)), act(row), spot(at(row, 7))));
     let marks = run.marks();
     kind == at(row, 9)
@@ -138,7 +138,7 @@ fn holds(run: &mut Run, row: &[u8]) -> bool {
 }
 
 // How many rows, from the first, end as they say.
-fn rows_held(run: &mut Run, table: &str) -> usize {
+fn rows_held(run: &mut MonitorRun, table: &str) -> usize {
     for (place, row) in table.lines().enumerate() {
         if !holds(run, row.as_bytes()) {
             return place;
@@ -149,7 +149,7 @@ fn rows_held(run: &mut Run, table: &str) -> usize {
 
 // How many do from the reset on; none where there is no memory.
 fn followed(alloc: Global, table: &str) -> usize {
-    match Run::start(alloc) {
+    match MonitorRun::start(alloc) {
         Ok(mut run) => rows_held(&mut run, table),
         Err(_) => 0,
     }
@@ -184,7 +184,7 @@ fn the_rows_of_each_list_end_as_they_say(rt: HostRuntime) {
 
 // The segments over the cell of the bit 0: at the reset, in the unit with the bits, and in the unit with the byte 20H;
 // none where a move there is not made.
-fn segments_over_a_cell(run: &mut Run) -> Option<[Option<u16>; 3]> {
+fn segments_over_a_cell(run: &mut MonitorRun) -> Option<[Option<u16>; 3]> {
     let reset = run.segment_at(256);
     let _call = run.go(spot(b'R'), Act::Call, spot(b'B'))?;
     let bits = run.segment_at(256);
@@ -195,7 +195,7 @@ fn segments_over_a_cell(run: &mut Run) -> Option<[Option<u16>; 3]> {
 
 // Those of a run from the reset on.
 fn live_over_a_cell(alloc: Global) -> Option<[Option<u16>; 3]> {
-    let mut run = Run::start(alloc).ok()?;
+    let mut run = MonitorRun::start(alloc).ok()?;
     segments_over_a_cell(&mut run)
 }
 
@@ -206,7 +206,7 @@ fn of_two_segments_on_a_cell_the_live_one_answers(rt: HostRuntime) {
 
 // Return records and names at the reset, after a call of the unit 5, after two calls within it, and after their returns
 // and a jump to the unit 6.
-fn depths_and_names(run: &mut Run) -> Option<[(u8, [u8; 8]); 4]> {
+fn depths_and_names(run: &mut MonitorRun) -> Option<[(u8, [u8; 8]); 4]> {
     let reset = run.depth_and_named();
     let _call = run.go(spot(b'R'), Act::Call, spot(b'J'))?;
     let call = run.depth_and_named();
@@ -221,7 +221,7 @@ fn depths_and_names(run: &mut Run) -> Option<[(u8, [u8; 8]); 4]> {
 
 // Those of a run from the reset on.
 fn depths_and_names_of_run(alloc: Global) -> Option<[(u8, [u8; 8]); 4]> {
-    let mut run = Run::start(alloc).ok()?;
+    let mut run = MonitorRun::start(alloc).ok()?;
     depths_and_names(&mut run)
 }
 

@@ -31,12 +31,12 @@ pub(crate) enum Act {
 
 /// An address, and SP there.
 #[derive(Clone, Copy)]
-pub(crate) struct Spot {
+pub(crate) struct PcAndSp {
     pub pc: u8,
     pub sp: u8,
 }
 
-impl Spot {
+impl PcAndSp {
     /// The processor there.
     pub(crate) fn cpu(self) -> Cpu {
         let mut cpu = reset();
@@ -79,7 +79,7 @@ impl Act {
     }
 
     // The effect that leads there.
-    fn effect(self, from: Spot, to: Spot) -> Effect {
+    fn effect(self, from: PcAndSp, to: PcAndSp) -> Effect {
         let (first, second) = self.puts(from.pc, to.sp);
         Effect {
             cpu: to.cpu(),
@@ -149,26 +149,26 @@ fn mark(seen: Seen) -> u8 {
 
 /// A monitor, and how many interrupts are in progress.
 #[derive(Drop)]
-pub(crate) struct Run {
+pub(crate) struct MonitorRun {
     monitor: Monitor,
     taken: u8,
     ghost counted: { interrupts monitor.records.returns ≡ taken },
 }
 
-impl Run {
+impl MonitorRun {
     /// At the reset.
-    pub(crate) fn start(alloc: Global) -> Result<Run, NoMemory> {
+    pub(crate) fn start(alloc: Global) -> Result<MonitorRun, NoMemory> {
         let monitor = monitor(alloc)?;
-        Ok(Run { monitor, taken: 0 })
+        Ok(MonitorRun { monitor, taken: 0 })
     }
 
     /// What the table says.
-    pub(crate) fn judge(&self, from: Spot, act: Act, to: Spot) -> Result<Move, Event> {
+    pub(crate) fn judge(&self, from: PcAndSp, act: Act, to: PcAndSp) -> Result<Move, Event> {
         self.monitor.judge(&from.cpu(), &act.effect(from, to))
     }
 
     // Makes the move that was judged, where its writes are open.
-    fn make(&mut self, from: Spot, effect: &Effect) -> Option<Move> {
+    fn make(&mut self, from: PcAndSp, effect: &Effect) -> Option<Move> {
         let Ok(step) = self.monitor.judge(&from.cpu(), effect) else {
             return None;
         };
@@ -186,7 +186,7 @@ impl Run {
     }
 
     /// The move, where it is allowed and its writes are open.
-    pub(crate) fn go(&mut self, from: Spot, act: Act, to: Spot) -> Option<Move> {
+    pub(crate) fn go(&mut self, from: PcAndSp, act: Act, to: PcAndSp) -> Option<Move> {
         self.make(from, &act.effect(from, to))
     }
 

@@ -1,5 +1,5 @@
 //! Transfers of control for which two or three rules of the table fail, and which of them comes first.
-use crate::monitor_run::{Act, Run, Spot};
+use crate::monitor_run::{Act, MonitorRun, PcAndSp};
 use m51_cells::{Event, NoMemory, Why, digit_value};
 use m51_flat::Source;
 use std::alloc::Global;
@@ -50,8 +50,8 @@ fn byte(row: &[u8], index: usize) -> u8 {
 }
 
 // An address and SP of a table's row.
-fn spot(row: &[u8], index: usize) -> Spot {
-    Spot {
+fn spot(row: &[u8], index: usize) -> PcAndSp {
+    PcAndSp {
         pc: byte(row, index),
         sp: byte(row, index.saturating_add(3)),
     }
@@ -98,7 +98,7 @@ fn cause(event: Event, from: u8, to: u8) -> Option<Why> {
 }
 
 // The rule that fails first is the one that the row names.
-fn holds(run: &Run, row: &[u8]) -> bool {
+fn holds(run: &MonitorRun, row: &[u8]) -> bool {
     let (from, to) = (spot(row, 2), spot(row, 13));
     match run.judge(from, act(row), to) {
         Ok(_) => false,
@@ -107,14 +107,14 @@ fn holds(run: &Run, row: &[u8]) -> bool {
 }
 
 // A monitor with that record on top.
-fn with_top(alloc: Global, letter: u8) -> Result<Run, NoMemory> {
-    let mut run = Run::start(alloc)?;
+fn with_top(alloc: Global, letter: u8) -> Result<MonitorRun, NoMemory> {
+    let mut run = MonitorRun::start(alloc)?;
     let (act, to) = match letter {
-        b'C' => (Act::Call, Spot { pc: 0x50, sp: 0x42 }),
-        b'I' => (Act::Vector(Source::Ie0), Spot { pc: 3, sp: 0x42 }),
-        _ => (Act::Next, Spot { pc: 0, sp: 0x40 }),
+        b'C' => (Act::Call, PcAndSp { pc: 0x50, sp: 0x42 }),
+        b'I' => (Act::Vector(Source::Ie0), PcAndSp { pc: 3, sp: 0x42 }),
+        _ => (Act::Next, PcAndSp { pc: 0, sp: 0x40 }),
     };
-    let _step = run.go(Spot { pc: 0, sp: 0x40 }, act, to);
+    let _step = run.go(PcAndSp { pc: 0, sp: 0x40 }, act, to);
     Ok(run)
 }
 

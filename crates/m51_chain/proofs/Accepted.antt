@@ -1,5 +1,6 @@
 -- What files of sources give, where they are accepted: a module for each, and the script that was read.
-use Rattle.std.proofs.Common.{◌≡◌, ℕ, suc, ◌+◌, ◌≤◌, true, List, [], ◌∷◌, length, take, drop, length-append, Option, Some, None, Result, Ok, Err, refl, sym, ap, ◌∙◌, subst, arith}
+use Rattle.std.proofs.Common.{◌≡◌, ℕ, suc, ◌+◌, ◌≤◌, true, List, [], ◌∷◌, length, take, drop, length-append, Option}
+use Rattle.std.proofs.Common.{Some, None, Result, Ok, Err, refl, sym, ap, ◌∙◌, subst, arith}
 use Rattle.std.specs.Prelude.{option_to_list}
 use Rattle.std.specs.List.{list_all}
 use Rattle.std.specs.Result.{IsOk}
@@ -32,7 +33,8 @@ use Rattle.m51_chain.specs.Parties.{party_files}
 use Rattle.m51_chain.specs.ProgramFiles.{AreAnswered, script_content}
 
 -- the value with which a step continues
-pub on_value : {A B E : Type 0} (r : Result A E) (go : A → Result B E) (y : B) (P : Type 0) → ((x : A) → r ≡ Ok x → go x ≡ Ok y → P) → and_then r go ≡ Ok y → P
+pub on_value : {A B E : Type 0} (r : Result A E) (go : A → Result B E) (y : B) (P : Type 0)
+    → ((x : A) → r ≡ Ok x → go x ≡ Ok y → P) → and_then r go ≡ Ok y → P
 on_value (Ok x) go y P k h = k x refl h
 on_value (Err e) go y P k h = absurd (cc h)
 
@@ -55,13 +57,19 @@ script_is (Some bytes) s h = script_given (script_of bytes) s h
 
 -- ---- the modules
 
-first_module : (r : Result Linked InputError) (m : ModuleParts) (linked : Linked) (n : ℕ) → ((rest : Linked) → r ≡ Ok rest → length rest.modules ≡ n)
+first_module : (r : Result Linked InputError) (m : ModuleParts) (linked : Linked) (n : ℕ)
+    → ((rest : Linked) → r ≡ Ok rest → length rest.modules ≡ n)
     → with_module r m ≡ Ok linked → length linked.modules ≡ suc n
-first_module (Ok rest) m linked n on h = ap (λ (l : Linked). length l.modules) (sym (ok_same _ (record { modules = m ∷ rest.modules; libraries = rest.libraries }) linked refl h)) ∙ ap suc (on rest refl)
+first_module (Ok rest) m linked n on h =
+    ap (λ (l : Linked). length l.modules)
+    (sym (ok_same _ (record { modules = m ∷ rest.modules; libraries = rest.libraries }) linked refl h))
+    ∙ ap suc (on rest refl)
 first_module (Err e) m linked n on h = absurd (cc h)
 
-by_source : (e : Option Ending) (word : ℕ) (bytes : List ℕ) (m : ModuleParts) (ms : List ModuleParts) (go : List ModuleParts → Result Linked InputError) (linked : Linked) (n : ℕ)
-    → is_a_source e ≡ true → ((rest : Linked) → go ms ≡ Ok rest → length rest.modules ≡ n) → linked_by e word bytes (m ∷ ms) go ≡ Ok linked → length linked.modules ≡ suc n
+by_source : (e : Option Ending) (word : ℕ) (bytes : List ℕ) (m : ModuleParts) (ms : List ModuleParts)
+    (go : List ModuleParts → Result Linked InputError) (linked : Linked) (n : ℕ)
+    → is_a_source e ≡ true → ((rest : Linked) → go ms ≡ Ok rest → length rest.modules ≡ n)
+    → linked_by e word bytes (m ∷ ms) go ≡ Ok linked → length linked.modules ≡ suc n
 by_source (Some ending.Source) word bytes m ms go linked n is on h = first_module (go ms) m linked n on h
 by_source (Some ending.Include) word bytes m ms go linked n is on h = absurd (cc is)
 by_source (Some ending.Object) word bytes m ms go linked n is on h = absurd (cc is)
@@ -69,57 +77,72 @@ by_source (Some ending.Library) word bytes m ms go linked n is on h = absurd (cc
 by_source None word bytes m ms go linked n is on h = absurd (cc is)
 
 -- each of sources gives the next module
-linked_count : (word : ℕ) (names contents : List (List ℕ)) (sources : List ModuleParts) (linked : Linked) → list_all is_source names ≡ true
-    → length contents ≡ length names → length sources ≡ length names → linked_from word names contents sources ≡ Ok linked → length linked.modules ≡ length names
-linked_count word [] contents sources linked all count each h = ap (λ (l : Linked). length l.modules) (sym (ok_same _ (record { modules = []; libraries = [] }) linked refl h))
+linked_count : (word : ℕ) (names contents : List (List ℕ)) (sources : List ModuleParts) (linked : Linked)
+    → list_all is_source names ≡ true
+    → length contents ≡ length names → length sources ≡ length names
+    → linked_from word names contents sources ≡ Ok linked → length linked.modules ≡ length names
+linked_count word [] contents sources linked all count each h =
+    ap (λ (l : Linked). length l.modules) (sym (ok_same _ (record { modules = []; libraries = [] }) linked refl h))
 linked_count word (name ∷ names) [] sources linked all count each h = absurd (omega (arith, count))
 linked_count word (name ∷ names) (bytes ∷ contents) [] linked all count each h = absurd (omega (arith, each))
 linked_count word (name ∷ names) (bytes ∷ contents) (m ∷ ms) linked all count each h =
     let parts = and_parts (is_source name) (list_all is_source names) all in
     by_source (ending_of name) word bytes m ms (linked_from (word + 1) names contents) linked (length names) parts.0
-    (λ rest is. linked_count (word + 1) names contents ms rest parts.1 (omega (arith, count)) (omega (arith, each)) is) h
+    (λ rest is. linked_count (word + 1) names contents ms rest parts.1 (omega (arith, count)) (omega (arith, each)) is)
+    h
 
 -- as many answers as sources, and as many file arguments
-sources_count : (names contents : List (List ℕ)) → list_all is_source names ≡ true → length contents ≡ length names → length (sources_of names contents) ≡ length names
+sources_count : (names contents : List (List ℕ)) → list_all is_source names ≡ true → length contents ≡ length names
+    → length (sources_of names contents) ≡ length names
 sources_count [] contents all count = refl
 sources_count (name ∷ names) [] all count = absurd (omega (arith, count))
 sources_count (name ∷ names) (bytes ∷ contents) all count =
     let parts = and_parts (is_source name) (list_all is_source names) all in
     rw parts.0 (ap suc (sources_count names contents parts.1 (omega (arith, count))))
 
-words_count : (word : ℕ) (names : List (List ℕ)) → list_all is_source names ≡ true → length (source_words word names) ≡ length names
+words_count : (word : ℕ) (names : List (List ℕ)) → list_all is_source names ≡ true
+    → length (source_words word names) ≡ length names
 words_count word [] all = refl
 words_count word (name ∷ names) all =
     let parts = and_parts (is_source name) (list_all is_source names) all in
     rw parts.0 (ap suc (words_count (word + 1) names parts.1))
 
-answers_count : (includes sources : List SourceFile) (answers : List AnswerTree) → AreAnswers includes sources answers → length answers ≡ length sources
+answers_count : (includes sources : List SourceFile) (answers : List AnswerTree) → AreAnswers includes sources answers
+    → length answers ≡ length sources
 answers_count includes [] [] h = refl
 answers_count includes (source ∷ sources) (answer ∷ answers) h = ap suc (answers_count includes sources answers h.1)
 answers_count includes [] (answer ∷ answers) h = absurd h
 answers_count includes (source ∷ sources) [] h = absurd h
 
 -- where none has faults, each has a module
-modules_count : (words : List ℕ) (answers : List AnswerTree) → length words ≡ length answers → faults_in words answers ≡ [] → length (modules_in answers) ≡ length answers
+modules_count : (words : List ℕ) (answers : List AnswerTree) → length words ≡ length answers
+    → faults_in words answers ≡ [] → length (modules_in answers) ≡ length answers
 modules_count words [] count none = refl
 modules_count [] (answer ∷ answers) count none = absurd (omega (arith, count))
-modules_count (word ∷ words) (Gives parts rows ∷ answers) count none = ap suc (modules_count words answers (omega (arith, count)) none)
+modules_count (word ∷ words) (Gives parts rows ∷ answers) count none =
+    ap suc (modules_count words answers (omega (arith, count)) none)
 modules_count (word ∷ words) (Faults faults ∷ answers) count none = absurd (cc none)
 
-accepted_count : (faults : List SourceFaults) (modules found : List ModuleParts) (n : ℕ) → (faults ≡ [] → length modules ≡ n) → unless_faults faults modules ≡ Ok found → length found ≡ n
+accepted_count : (faults : List SourceFaults) (modules found : List ModuleParts) (n : ℕ)
+    → (faults ≡ [] → length modules ≡ n) → unless_faults faults modules ≡ Ok found → length found ≡ n
 accepted_count [] modules found n on h = ap length (sym (ok_same _ modules found refl h)) ∙ on refl
 accepted_count (fault ∷ faults) modules found n on h = absurd (cc h)
 
 -- ---- both
 
 abbrev inputs_with : Linked → List (ℕ × Control) → Script → InputsTree
-inputs_with found controls s = record { modules = found.modules; libraries = found.libraries; controls = controls; script = s }
+inputs_with found controls s =
+    record { modules = found.modules; libraries = found.libraries; controls = controls; script = s }
 
 -- the answer for sources, step by step
-answered : (names contents : List (List ℕ)) (control file : Option (List ℕ)) (answers : List AnswerTree) (inputs : InputsTree) (n : ℕ)
-    → ((sources : List ModuleParts) → unless_faults (faults_in (source_words 0 names) answers) (modules_in answers) ≡ Ok sources → length sources ≡ n)
-    → ((sources : List ModuleParts) (linked : Linked) → length sources ≡ n → linked_from 0 names contents sources ≡ Ok linked → length linked.modules ≡ n)
-    → inputs_of names contents control file answers ≡ Ok inputs → (length inputs.modules ≡ n) × (script_in file ≡ Ok inputs.script)
+answered : (names contents : List (List ℕ)) (control file : Option (List ℕ)) (answers : List AnswerTree)
+    (inputs : InputsTree) (n : ℕ)
+    → ((sources : List ModuleParts) → unless_faults (faults_in (source_words 0 names) answers) (modules_in answers)
+    ≡ Ok sources → length sources ≡ n)
+    → ((sources : List ModuleParts) (linked : Linked) → length sources ≡ n
+    → linked_from 0 names contents sources ≡ Ok linked → length linked.modules ≡ n)
+    → inputs_of names contents control file answers ≡ Ok inputs
+    → (length inputs.modules ≡ n) × (script_in file ≡ Ok inputs.script)
 unfolding inputs_of
 answered names contents control file answers inputs n sourced linked h =
     on_value _ _ inputs _ (λ sources is.
@@ -131,12 +154,17 @@ answered names contents control file answers inputs n sourced linked h =
       subst (λ (i : InputsTree). script_in file ≡ Ok i.script) same (script_is file s ran),
     ))))) h
 
-pub sources_give : (names contents : List (List ℕ)) (control file : Option (List ℕ)) (inputs : InputsTree) → list_all is_source names ≡ true
-    → length contents ≡ length names → Answers names contents control file (Ok inputs) → (length inputs.modules ≡ length names) × (script_in file ≡ Ok inputs.script)
+pub sources_give : (names contents : List (List ℕ)) (control file : Option (List ℕ)) (inputs : InputsTree)
+    → list_all is_source names ≡ true
+    → length contents ≡ length names → Answers names contents control file (Ok inputs)
+    → (length inputs.modules ≡ length names) × (script_in file ≡ Ok inputs.script)
 sources_give names contents control file inputs all count given =
-    let each : length given.answers ≡ length names = answers_count (includes_of names contents) (sources_of names contents) given.answers given.are ∙ sources_count names contents all count in
+    let each : length given.answers ≡ length names =
+    answers_count (includes_of names contents) (sources_of names contents) given.answers given.are
+    ∙ sources_count names contents all count in
     answered names contents control file given.answers inputs (length names)
-    (λ sources is. accepted_count (faults_in (source_words 0 names) given.answers) (modules_in given.answers) sources (length names)
+    (λ sources is. accepted_count (faults_in (source_words 0 names) given.answers) (modules_in given.answers) sources
+    (length names)
     (λ none. modules_count (source_words 0 names) given.answers (words_count 0 names all ∙ sym each) none ∙ each) is)
     (λ sources linked same are. linked_count 0 names contents sources linked all count same are)
     (sym given.is)
@@ -161,12 +189,16 @@ pub record AreGiven (job : PartyJob) (contents : List (List ℕ)) (inputs : Inpu
   pub script : script_in (content_if job.script (drop (length job.files) contents)) ≡ Ok inputs.script
 
 pub party_given : (job : PartyJob) (contents : List (List ℕ)) (inputs : InputsTree) → are_boards job.files ≡ true
-    → length contents ≡ length (names_read (Party job)) → AreAnswered (party_files job) contents (Ok inputs) → AreGiven job contents inputs
+    → length contents ≡ length (names_read (Party job)) → AreAnswered (party_files job) contents (Ok inputs)
+    → AreGiven job contents inputs
 party_given job contents inputs fit count has =
     let files : AreBoards job.files = boards_are job.files fit in
-    let all : length contents ≡ length job.files + length (option_to_list job.script) = count ∙ length-append job.files (option_to_list job.script) in
-    let words : length (take (length job.files) contents) ≡ length job.files = length-take-le (length job.files) contents (omega (arith, all)) in
-    let given = sources_give job.files (take (length job.files) contents) None (script_content (party_files job) contents) inputs files.sources words has in
+    let all : length contents ≡ length job.files + length (option_to_list job.script) =
+    count ∙ length-append job.files (option_to_list job.script) in
+    let words : length (take (length job.files) contents) ≡ length job.files =
+    length-take-le (length job.files) contents (omega (arith, all)) in
+    let given = sources_give job.files (take (length job.files) contents) None
+    (script_content (party_files job) contents) inputs files.sources words has in
     let none : length job.files + length (option_to_list (party_files job).control) ≡ length job.files = omega arith in
     record {
       least = omega (arith, files.least, given.0);

@@ -16,7 +16,8 @@ use Rattle.m51_verbs.specs.declared.work.Finish.TheVariants.{Ran, Run}
 use Rattle.m51_verbs.specs.Outcome.{outcome_of, status_at, text_at}
 
 -- the report of a linked program, by the board that is made of it
-pub report_is : (linked : Linked) (hex : Option (List ℕ)) (script : Script) (steps : ℕ) (board : BoardState) (text : List ℕ) (keeps : Option (List ℕ))
+pub report_is : (linked : Linked) (hex : Option (List ℕ)) (script : Script) (steps : ℕ) (board : BoardState)
+    (text : List ℕ) (keeps : Option (List ℕ))
     → IsStarted linked.layout linked.image script board → (map : IsMap linked text) → keeps ≡ hex_kept hex linked
     → IsReport linked hex script steps (outcome_of (record { keeps = keeps; text = text; ending = Run board steps }))
 unfolding status_at text_at report_of
@@ -28,8 +29,11 @@ report_is linked hex script steps board text keeps started map kept = record {
 }
 
 -- an object that is kept, and a listing that is written
-pub listed : (files : List (List ℕ)) (source : SourceFile) (includes : List SourceFile) (parts : ModuleParts) (rows : List Row) (object text : List ℕ)
+pub listed : (files : List (List ℕ)) (source : SourceFile) (includes : List SourceFile) (parts : ModuleParts)
+    (rows : List Row) (object text : List ℕ)
     → object ≡ bytes_of parts → text ≡ listing_of source includes rows
-    → outcome_of (record { keeps = Some object; text = text; ending = Ran }) ≡ assembled_outcome files source includes (Assembled parts rows)
+    → outcome_of (record { keeps = Some object; text = text; ending = Ran })
+    ≡ assembled_outcome files source includes (Assembled parts rows)
 unfolding status_at text_at
-listed files source includes parts rows object text kept is = rw (kept, is, append-nil (listing_of source includes rows)) refl
+listed files source includes parts rows object text kept is =
+    rw (kept, is, append-nil (listing_of source includes rows)) refl

@@ -1,5 +1,6 @@
 -- Arguments and files have one answer, and it is given if no call fails.
-use Rattle.std.proofs.Common.{◌≡◌, ◌⊎◌, ℕ, ◌<◌, ◌≤◌, List, Option, Some, None, refl, sym, ap, ◌∙◌, subst, arith, inl, inr}
+use Rattle.std.proofs.Common.{◌≡◌, ◌⊎◌, ℕ, ◌<◌, ◌≤◌, List, Option, Some, None, refl, sym, ap, ◌∙◌, subst, arith, inl}
+use Rattle.std.proofs.Common.{inr}
 use Rattle.m51_cells.specs.declared.limits.TheConstants.{MOST_FILES}
 use Rattle.m51_jobs.specs.declared.job.Job.{Job}
 use Rattle.m51_jobs.specs.Files.{file_count, name_kept, names_read}
@@ -34,7 +35,8 @@ abbrev ByAsked : Files → Option Job → Answer → Type 0
 ByAsked files None answer = answer ≡ usage_answer
 ByAsked files (Some job) answer = ByJob files job answer
 
-by_asked : (words : List (List ℕ)) (files : Files) (answer : Answer) → IsAnswer words files answer → ByAsked files (job_of words) answer
+by_asked : (words : List (List ℕ)) (files : Files) (answer : Answer) → IsAnswer words files answer
+    → ByAsked files (job_of words) answer
 by_asked words files answer (answers.Faulty none is) = rw none is
 by_asked words files answer (answers.Many job asked many is) = rw asked (inl (many, is))
 by_asked words files answer (answers.NoFile job name asked few absent is) = rw asked (inr (few, rw absent is))
@@ -54,8 +56,10 @@ one_asked files (Some job) a b (inl many) (inr few) = absurd (omega (arith, many
 one_asked files (Some job) a b (inr few) (inl many) = absurd (omega (arith, many.0, few.0))
 one_asked files (Some job) a b (inr few) (inr less) = one_reading job (read_of files (names_read job)) a b few.1 less.1
 
-one_answer : (words : List (List ℕ)) (files : Files) (a b : Answer) → IsAnswer words files a → IsAnswer words files b → a ≡ b
-one_answer words files a b h k = one_asked files (job_of words) a b (by_asked words files a h) (by_asked words files b k)
+one_answer : (words : List (List ℕ)) (files : Files) (a b : Answer) → IsAnswer words files a → IsAnswer words files b
+    → a ≡ b
+one_answer words files a b h k =
+    one_asked files (job_of words) a b (by_asked words files a h) (by_asked words files b k)
 
 -- an answer that ended without a failed call is kept and written whole
 whole : (answer : Answer) (c : Change) (told : Status) → IsUnfailed c → Ended answer c told → Written answer c told
@@ -67,13 +71,15 @@ whole answer c told none (carried.UnkeptCut is unkept rose text) = absurd (none.
 abbrev IsAnswered : List (List ℕ) → Files → Change → Status → Type 0
 IsAnswered words held c told = (a : Answer) × (IsAnswer words held a ⊎ IsUnread words (Some held) c a) × Ended a c told
 
-answered : (words : List (List ℕ)) (held : Files) (c : Change) (answer : Answer) (told : Status) → IsAnswer words held answer → IsUnfailed c
+answered : (words : List (List ℕ)) (held : Files) (c : Change) (answer : Answer) (told : Status)
+    → IsAnswer words held answer → IsUnfailed c
     → IsAnswered words held c told → Completed answer c told
 answered words held c answer told is none (other, inl also, ended) =
     inr (subst (λ a. Written a c told) (one_answer words held other answer also is) (whole other c told none ended))
 answered words held c answer told is none (other, inr unread, ended) = absurd (none.reads unread.failed.rose)
 
-pub completed : (words : List (List ℕ)) (held : Files) (c : Change) (answer : Answer) (told : Status) → IsTold words held c told
+pub completed : (words : List (List ℕ)) (held : Files) (c : Change) (answer : Answer) (told : Status)
+    → IsTold words held c told
     → IsAnswer words held answer → IsComplete answer c told
 completed words held c answer status.Memory it is = λ none. inl (refl, it)
 completed words held c answer told it is = λ none. answered words held c answer told is none it

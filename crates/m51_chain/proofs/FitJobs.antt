@@ -1,5 +1,6 @@
 -- A job of asm has one source, one of gen makes 1 to 100 units, and one of party has 2 to 8 sources.
-use Rattle.std.proofs.Common.{◌≡◌, ◌≤◌, take, ℕ, Bool, true, false, cond, List, [], ◌∷◌, Option, Some, None, refl, subst}
+use Rattle.std.proofs.Common.{◌≡◌, ◌≤◌, take, ℕ, Bool, true, false, cond, List, [], ◌∷◌, Option, Some, None, refl}
+use Rattle.std.proofs.Common.{subst}
 use Rattle.std.specs.Prelude.{option_map, option_and_then, count_by, ◌==◌, codes}
 use Rattle.std.specs.Str.{bytes_eq}
 use Rattle.std.specs.Str.Parse.{digits_value}
@@ -10,8 +11,10 @@ use Rattle.m51_jobs.specs.declared.job.Job.{Job}
 use Rattle.m51_jobs.specs.declared.job.Job.TheVariants.{Build, Asm, Library, Flat, Gen, Dis, Stack, Party}
 use Rattle.m51_jobs.specs.Numbers.{number_of, start_of, units_of}
 use Rattle.m51_jobs.specs.Endings.{are_assembled, are_boards, is_source}
-use Rattle.m51_args.specs.Commands.{build_app, asm_app, lib_app, flat_app, gen_app, dis_app, stack_app, party_app, rows_in, value_of, words_of}
-use Rattle.m51_args.specs.Jobs.{asked, asm_files, asm_of, asm_with, gen_with, steps_in, build_of, lib_of, flat_of, gen_of, link_of, party_files, party_of, party_with, job_by, job_of}
+use Rattle.m51_args.specs.Commands.{build_app, asm_app, lib_app, flat_app, gen_app, dis_app, stack_app, party_app}
+use Rattle.m51_args.specs.Commands.{rows_in, value_of, words_of}
+use Rattle.m51_args.specs.Jobs.{asked, asm_files, asm_of, asm_with, gen_with, steps_in, build_of, lib_of, flat_of}
+use Rattle.m51_args.specs.Jobs.{gen_of, link_of, party_files, party_of, party_with, job_by, job_of}
 use Rattle.m51_chain.specs.Asked.{IsFit}
 
 -- what is known of a job, if there is one
@@ -32,7 +35,8 @@ asm_one false files out is = tt
 asm_one true files None is = tt
 asm_one true files (Some o) is = one_source files is
 
-asm_words : (rows : List Row) (words : Option (List (List ℕ))) → HasOne (option_map Asm (option_and_then (asm_files rows) words))
+asm_words : (rows : List Row) (words : Option (List (List ℕ)))
+    → HasOne (option_map Asm (option_and_then (asm_files rows) words))
 asm_words rows None = tt
 asm_words rows (Some files) = asm_one (are_assembled files) files _ refl
 
@@ -47,7 +51,8 @@ party_one false rows files steps is = tt
 party_one true rows files None is = tt
 party_one true rows files (Some n) is = is
 
-party_words : (rows : List Row) (words : Option (List (List ℕ))) → HasOne (option_map Party (option_and_then (party_files rows) words))
+party_words : (rows : List Row) (words : Option (List (List ℕ)))
+    → HasOne (option_map Party (option_and_then (party_files rows) words))
 party_words rows None = tt
 party_words rows (Some files) = party_one (are_boards files) rows files _ refl
 
@@ -56,7 +61,8 @@ unfolding party_of
 party_rows None = tt
 party_rows (Some rows) = party_words rows (words_of rows)
 
-number_within : (most low high : ℕ) (text : List ℕ) (n : ℕ) → number_of most low high text ≡ Some n → (low ≤ n) × (n ≤ high)
+number_within : (most low high : ℕ) (text : List ℕ) (n : ℕ) → number_of most low high text ≡ Some n
+    → (low ≤ n) × (n ≤ high)
 unfolding number_of
 number_within most low high text n h =
     let found = cond_some _ _ n h in
@@ -74,7 +80,8 @@ units_within None n h = absurd (cc h)
 units_within (Some text) n h = test_within (bytes_eq (take 1 text) (codes "0")) text n h
 
 gen_units : (units start steps : Option ℕ) → ((n : ℕ) → units ≡ Some n → (1 ≤ n) × (n ≤ 100))
-    → HasOne (option_map Gen (option_and_then (λ u. option_and_then (λ s. option_map (gen_with u s) steps) start) units))
+    → HasOne (option_map Gen
+    (option_and_then (λ u. option_and_then (λ s. option_map (gen_with u s) steps) start) units))
 gen_units None start steps within = tt
 gen_units (Some u) None steps within = tt
 gen_units (Some u) (Some s) None within = tt
@@ -84,11 +91,13 @@ gen_rows : (rows : Option (List Row)) → HasOne (option_map Gen (option_and_the
 unfolding gen_of
 gen_rows None = tt
 gen_rows (Some rows) =
-    gen_units (option_and_then units_of (value_of (codes "units") rows)) (option_and_then start_of (value_of (codes "start") rows)) (steps_in rows)
+    gen_units (option_and_then units_of (value_of (codes "units") rows))
+    (option_and_then start_of (value_of (codes "start") rows)) (steps_in rows)
     (units_within (value_of (codes "units") rows))
 
 -- jobs of another verb
-other_one : {A : Type 0} (app : App) (job_in : List Row → Option A) (of : A → Job) (words : List (List ℕ)) → ((a : A) → HasOne (Some (of a)))
+other_one : {A : Type 0} (app : App) (job_in : List Row → Option A) (of : A → Job) (words : List (List ℕ))
+    → ((a : A) → HasOne (Some (of a)))
     → HasOne (asked app job_in of words)
 other_one {A = A} app job_in of words one = by (option_and_then job_in (rows_in app words))
   where
@@ -129,7 +138,8 @@ from_lib words =
 
 abbrev verbs_of : List (List ℕ) → List Verb
 verbs_of words =
-    (codes "build", asked build_app build_of Build words) ∷ (codes "asm", asked asm_app asm_of Asm words) ∷ from_lib words
+    (codes "build", asked build_app build_of Build words) ∷ (codes "asm", asked asm_app asm_of Asm words)
+    ∷ from_lib words
 
 verbs_one : (words : List (List ℕ)) → AreOne (verbs_of words)
 verbs_one words =

@@ -9,8 +9,10 @@ use Rattle.m51_linker.specs.Link.{Program}
 use Rattle.m51_module.specs.declared.linked.Refusal.{Refusal}
 use Rattle.m51_script.specs.declared.script.Script.{Script}
 use Rattle.m51_chain.specs.declared.linking.LinkedFiles.{LinkedFiles}
-use Rattle.m51_chain.specs.Linking.{AreLinked, AreRefused, Follows, IsInputsOutcome, IsLinkedOutcome, IsProgramOutcome, Unlinked, program_in}
-use Rattle.m51_chain.specs.ProgramFiles.{AreAnswered, Given, IsFilesOutcome, IsGivenOutcome, Nothing, ProgramFiles, Refused}
+use Rattle.m51_chain.specs.Linking.{AreLinked, AreRefused, Follows, IsInputsOutcome, IsLinkedOutcome, IsProgramOutcome}
+use Rattle.m51_chain.specs.Linking.{Unlinked, program_in}
+use Rattle.m51_chain.specs.ProgramFiles.{AreAnswered, Given, IsFilesOutcome, IsGivenOutcome, Nothing, ProgramFiles}
+use Rattle.m51_chain.specs.ProgramFiles.{Refused}
 use Rattle.m51_verbs.specs.declared.work.Finished.{Finished}
 use Rattle.m51_verbs.specs.declared.work.Stop.{Stop}
 use Rattle.m51_verbs.specs.Outcome.{Comes, Outcome, stopped}
@@ -22,41 +24,53 @@ came (Ok value) why h = absurd h
 came (Err e) why h = ap (λ s. Err s) h
 
 -- a refusal of the link, whatever would come of the program
-pub unlinked : (program : Result Program Refusal) (Is : Linked → Outcome → Type 0) (outcome : Outcome) → IsProgramOutcome program Nothing outcome
+pub unlinked : (program : Result Program Refusal) (Is : Linked → Outcome → Type 0) (outcome : Outcome)
+    → IsProgramOutcome program Nothing outcome
     → IsProgramOutcome program Is outcome
 unlinked program Is outcome (Unlinked why refuses is) = Unlinked why refuses is
 unlinked program Is outcome (Follows p linked is are none) = absurd none
 
 -- a refusal of files or of their link, whatever would come of the program
-ungiven : (files : ProgramFiles) (Is : Script → Linked → Outcome → Type 0) (given : Result InputsTree InputError) (outcome : Outcome)
-    → IsGivenOutcome files (IsInputsOutcome (λ script. Nothing)) given outcome → IsGivenOutcome files (IsInputsOutcome Is) given outcome
+ungiven : (files : ProgramFiles) (Is : Script → Linked → Outcome → Type 0) (given : Result InputsTree InputError)
+    (outcome : Outcome)
+    → IsGivenOutcome files (IsInputsOutcome (λ script. Nothing)) given outcome
+    → IsGivenOutcome files (IsInputsOutcome Is) given outcome
 ungiven files Is given outcome (Refused error refuses is) = Refused error refuses is
-ungiven files Is given outcome (Given inputs is it) = Given inputs is (unlinked (program_in inputs) (Is inputs.script) outcome it)
+ungiven files Is given outcome (Given inputs is it) =
+    Given inputs is (unlinked (program_in inputs) (Is inputs.script) outcome it)
 
-pub files_refused : (files : ProgramFiles) (contents : List (List ℕ)) (Is : Script → Linked → Outcome → Type 0) (why : Stop) → AreRefused files contents why
+pub files_refused : (files : ProgramFiles) (contents : List (List ℕ)) (Is : Script → Linked → Outcome → Type 0)
+    (why : Stop) → AreRefused files contents why
     → IfSome (stopped why) (IsLinkedOutcome files contents Is)
 files_refused files contents Is why h =
-    IfSome_then (stopped why) h (λ o it. record { given = it.given; answer = it.answer; is = ungiven files Is it.given o it.is })
+    IfSome_then (stopped why) h
+    (λ o it. record { given = it.given; answer = it.answer; is = ungiven files Is it.given o it.is })
 
 -- a refusal of a file, whatever would come of what they give
-unfiled : (files : ProgramFiles) (Is : InputsTree → Outcome → Type 0) (given : Result InputsTree InputError) (outcome : Outcome)
+unfiled : (files : ProgramFiles) (Is : InputsTree → Outcome → Type 0) (given : Result InputsTree InputError)
+    (outcome : Outcome)
     → IsGivenOutcome files Nothing given outcome → IsGivenOutcome files Is given outcome
 unfiled files Is given outcome (Refused error refuses is) = Refused error refuses is
 unfiled files Is given outcome (Given inputs is none) = absurd none
 
 pub file_refused : (files : ProgramFiles) (contents : List (List ℕ)) (Is : InputsTree → Outcome → Type 0) (why : Stop)
-    → IfSome (stopped why) (IsFilesOutcome files contents Nothing) → IfSome (stopped why) (IsFilesOutcome files contents Is)
+    → IfSome (stopped why) (IsFilesOutcome files contents Nothing)
+    → IfSome (stopped why) (IsFilesOutcome files contents Is)
 file_refused files contents Is why h =
-    IfSome_then (stopped why) h (λ o it. record { given = it.given; answer = it.answer; is = unfiled files Is it.given o it.is })
+    IfSome_then (stopped why) h
+    (λ o it. record { given = it.given; answer = it.answer; is = unfiled files Is it.given o it.is })
 
 -- what refuses what the files give refuses the files
-pub inputs_refused : (files : ProgramFiles) (contents : List (List ℕ)) (Is : InputsTree → Outcome → Type 0) (inputs : InputsTree) (why : Stop)
-    → AreAnswered files contents (Ok inputs) → IfSome (stopped why) (Is inputs) → IfSome (stopped why) (IsFilesOutcome files contents Is)
+pub inputs_refused : (files : ProgramFiles) (contents : List (List ℕ)) (Is : InputsTree → Outcome → Type 0)
+    (inputs : InputsTree) (why : Stop)
+    → AreAnswered files contents (Ok inputs) → IfSome (stopped why) (Is inputs)
+    → IfSome (stopped why) (IsFilesOutcome files contents Is)
 inputs_refused files contents Is inputs why answer h =
     IfSome_then (stopped why) h (λ o it. record { given = Ok inputs; answer = answer; is = Given inputs refl it })
 
 -- what comes of a linked program comes of its files
-pub follows : (files : ProgramFiles) (contents : List (List ℕ)) (Is : Script → Linked → Outcome → Type 0) (found : LinkedFiles) (outcome : Outcome)
+pub follows : (files : ProgramFiles) (contents : List (List ℕ)) (Is : Script → Linked → Outcome → Type 0)
+    (found : LinkedFiles) (outcome : Outcome)
     → AreLinked files contents found → Is found.script found.linked outcome → IsLinkedOutcome files contents Is outcome
 follows files contents Is found outcome are it = record {
   given = Ok are.inputs;
@@ -65,7 +79,10 @@ follows files contents Is found outcome are it = record {
       (subst (λ s. Is s found.linked outcome) are.script it));
 }
 
-pub linked_comes : (files : ProgramFiles) (contents : List (List ℕ)) (Is : Script → Linked → Outcome → Type 0) (found : LinkedFiles) (result : Result Finished Stop)
-    → AreLinked files contents found → Comes (Is found.script found.linked) result → Comes (IsLinkedOutcome files contents Is) result
+pub linked_comes : (files : ProgramFiles) (contents : List (List ℕ)) (Is : Script → Linked → Outcome → Type 0)
+    (found : LinkedFiles) (result : Result Finished Stop)
+    → AreLinked files contents found → Comes (Is found.script found.linked) result
+    → Comes (IsLinkedOutcome files contents Is) result
 linked_comes files contents Is found result are h =
-    comes_weaker (IsLinkedOutcome files contents Is) (Is found.script found.linked) result (λ o it. follows files contents Is found o are it) h
+    comes_weaker (IsLinkedOutcome files contents Is) (Is found.script found.linked) result
+    (λ o it. follows files contents Is found o are it) h

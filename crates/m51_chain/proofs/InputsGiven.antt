@@ -13,6 +13,7 @@ pub error_told : (error : InputError) → error ≢ input.Memory → told (Err e
 error_told input.Memory some = absurd (some refl)
 error_told error some = refl
 
-pub script_refuses : (answer : Result Script ScriptError) (error : ScriptError) → error ≢ script.Memory → RefusesWith (refusal_of error) answer → answer ≡ Err error
+pub script_refuses : (answer : Result Script ScriptError) (error : ScriptError) → error ≢ script.Memory
+    → RefusesWith (refusal_of error) answer → answer ≡ Err error
 script_refuses answer script.Memory some h = absurd (some refl)
 script_refuses answer error some h = h

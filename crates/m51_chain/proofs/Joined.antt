@@ -1,5 +1,6 @@
 -- Modules that are linked each by itself, their boards, and the report of their party.
-use Rattle.std.proofs.Common.{◌≡◌, ◌≢◌, ℕ, suc, List, [], ◌∷◌, ◌++◌, length, drop, append-nil, Result, Ok, Err, refl, sym, ap, ◌∙◌, subst, arith}
+use Rattle.std.proofs.Common.{◌≡◌, ◌≢◌, ℕ, suc, List, [], ◌∷◌, ◌++◌, length, drop, append-nil, Result, Ok, Err, refl}
+use Rattle.std.proofs.Common.{sym, ap, ◌∙◌, subst, arith}
 use Rattle.std.specs.Prelude.{All, Vec}
 use Rattle.std.specs.declared.alloc.Global.{Global}
 use Rattle.std.specs.Result.{IsOk}
@@ -36,7 +37,8 @@ use Rattle.m51_chain.specs.Linking.{Follows, IsLinkedOr, IsProgramOutcome, Unlin
 use Rattle.m51_verbs.specs.Outcome.{Outcome, stopped}
 use Rattle.m51_chain.specs.Parties.{party_status, status_if}
 use Rattle.m51_chain.specs.Parties as parties
-use Rattle.m51_chain.specs.Parties.{AreBoardsFor, AreBoardsOf, AreBoardsOr, AreJoinedOr, IsBoardOf, IsBoardOr, IsPartyWork, IsUnlinked, each_of, party_files, programs_of}
+use Rattle.m51_chain.specs.Parties.{AreBoardsFor, AreBoardsOf, AreBoardsOr, AreJoinedOr, IsBoardOf, IsBoardOr}
+use Rattle.m51_chain.specs.Parties.{IsPartyWork, IsUnlinked, each_of, party_files, programs_of}
 use Rattle.m51_chain.specs.ProgramFiles.{AreAnswered, Given, Nothing}
 use Rattle.m51_verbs.proofs.Edits.{none_left}
 use Rattle.m51_chain.proofs.Accepted.{AreGiven, ok_same}
@@ -51,32 +53,41 @@ with_last y ys = Ok (ys ++ y ∷ [])
 
 one_more_given : {B E : Type 0} (first : Result B E) (old new : Result (List B) E) (ys : List B) (y : B)
     → ((zs : List B) → old ≡ Ok zs → new ≡ Ok (zs ++ y ∷ []))
-    → and_then first (λ b. and_then old (λ bs. Ok (b ∷ bs))) ≡ Ok ys → and_then first (λ b. and_then new (λ bs. Ok (b ∷ bs))) ≡ Ok (ys ++ y ∷ [])
+    → and_then first (λ b. and_then old (λ bs. Ok (b ∷ bs))) ≡ Ok ys
+    → and_then first (λ b. and_then new (λ bs. Ok (b ∷ bs))) ≡ Ok (ys ++ y ∷ [])
 one_more_given (Ok b) (Ok zs) new ys y on h = rw (on zs refl) (ap (with_last y) (ok_same _ (b ∷ zs) ys refl h))
 one_more_given (Ok b) (Err e) new ys y on h = absurd (cc h)
 one_more_given (Err e) old new ys y on h = absurd (cc h)
 
 one_refused : {B E : Type 0} (first : Result B E) (old new : Result (List B) E) (ys : List B) (why : E)
     → ((zs : List B) → old ≡ Ok zs → new ≡ Err why)
-    → and_then first (λ b. and_then old (λ bs. Ok (b ∷ bs))) ≡ Ok ys → and_then first (λ b. and_then new (λ bs. Ok (b ∷ bs))) ≡ Err why
+    → and_then first (λ b. and_then old (λ bs. Ok (b ∷ bs))) ≡ Ok ys
+    → and_then first (λ b. and_then new (λ bs. Ok (b ∷ bs))) ≡ Err why
 one_refused (Ok b) (Ok zs) new ys why on h = rw (on zs refl) refl
 one_refused (Ok b) (Err e) new ys why on h = absurd (cc h)
 one_refused (Err e) old new ys why on h = absurd (cc h)
 
 one_counted : {B E : Type 0} (first : Result B E) (others : Result (List B) E) (n : ℕ) (ys : List B)
-    → ((zs : List B) → others ≡ Ok zs → length zs ≡ n) → and_then first (λ b. and_then others (λ bs. Ok (b ∷ bs))) ≡ Ok ys → length ys ≡ suc n
-one_counted (Ok b) (Ok zs) n ys on h = subst (λ ws. length ws ≡ suc n) (ok_same _ (b ∷ zs) ys refl h) (ap suc (on zs refl))
+    → ((zs : List B) → others ≡ Ok zs → length zs ≡ n) → and_then first (λ b. and_then others (λ bs. Ok (b ∷ bs)))
+    ≡ Ok ys → length ys ≡ suc n
+one_counted (Ok b) (Ok zs) n ys on h =
+    subst (λ ws. length ws ≡ suc n) (ok_same _ (b ∷ zs) ys refl h) (ap suc (on zs refl))
 one_counted (Ok b) (Err e) n ys on h = absurd (cc h)
 one_counted (Err e) others n ys on h = absurd (cc h)
 
 module _ {A B E : Type 0} (give : A → Result B E) where
-  given_more : (xs : List A) (x : A) (ys : List B) (y : B) → each_of give xs ≡ Ok ys → give x ≡ Ok y → each_of give (xs ++ x ∷ []) ≡ Ok (ys ++ y ∷ [])
+  given_more : (xs : List A) (x : A) (ys : List B) (y : B) → each_of give xs ≡ Ok ys → give x ≡ Ok y
+      → each_of give (xs ++ x ∷ []) ≡ Ok (ys ++ y ∷ [])
   given_more [] x ys y h k = rw k (ap (with_last y) (ok_same _ [] ys refl h))
-  given_more (z ∷ xs) x ys y h k = one_more_given (give z) (each_of give xs) (each_of give (xs ++ x ∷ [])) ys y (λ zs e. given_more xs x zs y e k) h
+  given_more (z ∷ xs) x ys y h k =
+      one_more_given (give z) (each_of give xs) (each_of give (xs ++ x ∷ [])) ys y (λ zs e. given_more xs x zs y e k) h
 
-  given_refused : (xs : List A) (x : A) (rest : List A) (ys : List B) (why : E) → each_of give xs ≡ Ok ys → give x ≡ Err why → each_of give (xs ++ x ∷ rest) ≡ Err why
+  given_refused : (xs : List A) (x : A) (rest : List A) (ys : List B) (why : E) → each_of give xs ≡ Ok ys
+      → give x ≡ Err why → each_of give (xs ++ x ∷ rest) ≡ Err why
   given_refused [] x rest ys why h k = rw k refl
-  given_refused (z ∷ xs) x rest ys why h k = one_refused (give z) (each_of give xs) (each_of give (xs ++ x ∷ rest)) ys why (λ zs e. given_refused xs x rest zs why e k) h
+  given_refused (z ∷ xs) x rest ys why h k =
+      one_refused (give z) (each_of give xs) (each_of give (xs ++ x ∷ rest)) ys why
+      (λ zs e. given_refused xs x rest zs why e k) h
 
   given_count : (xs : List A) (ys : List B) → each_of give xs ≡ Ok ys → length ys ≡ length xs
   given_count [] ys h = subst (λ ws. length ws ≡ 0) (ok_same _ [] ys refl h) refl
@@ -84,7 +95,8 @@ module _ {A B E : Type 0} (give : A → Result B E) where
 
 -- ---- boards, one by one
 
-boards_more : (script : Script) (ps : List Program) (bs : List BoardState) (p : Program) (b : BoardState) → AreBoardsOf script ps bs → IsBoardOf script p b
+boards_more : (script : Script) (ps : List Program) (bs : List BoardState) (p : Program) (b : BoardState)
+    → AreBoardsOf script ps bs → IsBoardOf script p b
     → AreBoardsOf script (ps ++ p ∷ []) (bs ++ b ∷ [])
 boards_more script [] [] p b h is = (is, tt)
 boards_more script (q ∷ ps) (c ∷ bs) p b h is = (h.0, boards_more script ps bs p b h.1 is)
@@ -92,39 +104,47 @@ boards_more script [] (c ∷ bs) p b h is = absurd h
 boards_more script (q ∷ ps) [] p b h is = absurd h
 
 -- a board after a reset was not stepped
-started_fresh : (l : LayoutParts) (image : List ℕ) (script : Script) (b : BoardState) → IsStarted l image script b → IsFresh b
+started_fresh : (l : LayoutParts) (image : List ℕ) (script : Script) (b : BoardState) → IsStarted l image script b
+    → IsFresh b
 started_fresh l image script b h = record {
   layout_is = refl;
   image_is = refl;
   script_is = refl;
   state = h.state ∙ ap (λ (s : Script). reset_with (inputs_of s) (separate_start l s.fill)) (sym h.script_is)
-      ∙ ap (λ (x : LayoutParts). reset_with (inputs_of b.chip.script) (separate_start x b.chip.script.fill)) (sym h.layout_is);
+      ∙ ap (λ (x : LayoutParts). reset_with (inputs_of b.chip.script) (separate_start x b.chip.script.fill))
+      (sym h.layout_is);
 }
 
 pub all_fresh : (script : Script) (ps : List Program) (bs : List BoardState) → AreBoardsOf script ps bs → All IsFresh bs
 all_fresh script [] [] h = All-nil IsFresh
 all_fresh script (p ∷ ps) (b ∷ bs) h =
     let started = h.0.started in
-    All-cons IsFresh b bs (started_fresh h.0.linked.layout h.0.linked.image script b started) (all_fresh script ps bs h.1)
+    All-cons IsFresh b bs (started_fresh h.0.linked.layout h.0.linked.image script b started)
+    (all_fresh script ps bs h.1)
 all_fresh script [] (b ∷ bs) h = absurd h
 all_fresh script (p ∷ ps) [] h = absurd h
 
-boards_count : (script : Script) (ps : List Program) (bs : List BoardState) → AreBoardsOf script ps bs → length bs ≡ length ps
+boards_count : (script : Script) (ps : List Program) (bs : List BoardState) → AreBoardsOf script ps bs
+    → length bs ≡ length ps
 boards_count script [] [] h = refl
 boards_count script (p ∷ ps) (b ∷ bs) h = ap suc (boards_count script ps bs h.1)
 boards_count script [] (b ∷ bs) h = absurd h
 boards_count script (p ∷ ps) [] h = absurd h
 
-pub for_count : (script : Script) (modules : List ModuleParts) (boards : List BoardState) → AreBoardsFor script modules boards → length boards ≡ length modules
-for_count script modules boards h = boards_count script h.programs boards h.each ∙ given_count alone modules h.programs h.are
+pub for_count : (script : Script) (modules : List ModuleParts) (boards : List BoardState)
+    → AreBoardsFor script modules boards → length boards ≡ length modules
+for_count script modules boards h = boards_count script h.programs boards h.each
+    ∙ given_count alone modules h.programs h.are
 
 -- no module
 pub for_none : (script : Script) (boards : List BoardState) → boards ≡ [] → AreBoardsFor script [] boards
 for_none script boards none = rw none (record { programs = []; are = refl; each = tt })
 
 -- one more
-pub for_more : (script : Script) (done : List ModuleParts) (parts : ModuleParts) (boards new : List BoardState) (board : BoardState)
-    → AreBoardsFor script done boards → IsBoardOr script parts (Ok board) → new ≡ boards ++ board ∷ [] → AreBoardsFor script (done ++ parts ∷ []) new
+pub for_more : (script : Script) (done : List ModuleParts) (parts : ModuleParts) (boards new : List BoardState)
+    (board : BoardState)
+    → AreBoardsFor script done boards → IsBoardOr script parts (Ok board) → new ≡ boards ++ board ∷ []
+    → AreBoardsFor script (done ++ parts ∷ []) new
 for_more script done parts boards new board h is put = rw put (record {
   programs = h.programs ++ is.0 ∷ [];
   are = given_more alone done parts h.programs is.0 h.are is.1;
@@ -132,24 +152,30 @@ for_more script done parts boards new board h is put = rw put (record {
 })
 
 -- where none is left, all are done
-pub for_all : (script : Script) (all done old new : List ModuleParts) (boards : List BoardState) → old ≡ new → new ≡ drop 1 old → done ++ old ≡ all
+pub for_all : (script : Script) (all done old new : List ModuleParts) (boards : List BoardState) → old ≡ new
+    → new ≡ drop 1 old → done ++ old ≡ all
     → AreBoardsFor script done boards → AreBoardsFor script all boards
 for_all script all done old new boards same rest is h =
     subst (λ (modules : List ModuleParts). AreBoardsFor script modules boards)
     (sym (append-nil done) ∙ ap (λ (left : List ModuleParts). done ++ left) (sym (none_left old new same rest)) ∙ is) h
 
 -- a refusal of one is that of all
-pub for_refused : (script : Script) (all done rest : List ModuleParts) (parts : ModuleParts) (boards : List BoardState) (why : Stop)
-    → done ++ parts ∷ rest ≡ all → AreBoardsFor script done boards → IsBoardOr script parts (Err why) → AreBoardsOr script all (Err why)
+pub for_refused : (script : Script) (all done rest : List ModuleParts) (parts : ModuleParts) (boards : List BoardState)
+    (why : Stop)
+    → done ++ parts ∷ rest ≡ all → AreBoardsFor script done boards → IsBoardOr script parts (Err why)
+    → AreBoardsOr script all (Err why)
 for_refused script all done rest parts boards why is h none = IfSome_then (stopped why) none (λ o it. record {
   why = it.why;
-  refuses = subst (λ modules. programs_of modules ≡ Err it.why) is (given_refused alone done parts rest h.programs it.why h.are it.refuses);
+  refuses = subst (λ modules. programs_of modules ≡ Err it.why) is
+      (given_refused alone done parts rest h.programs it.why h.are it.refuses);
   is = it.is;
 })
 
 -- the boards of all modules are those of a party
-pub joined : (job : PartyJob) (contents : List (List ℕ)) (inputs : InputsTree) (result : Result (Vec BoardState Global) Stop)
-    → AreAnswered (party_files job) contents (Ok inputs) → AreGiven job contents inputs → AreBoardsOr inputs.script inputs.modules result
+pub joined : (job : PartyJob) (contents : List (List ℕ)) (inputs : InputsTree)
+    (result : Result (Vec BoardState Global) Stop)
+    → AreAnswered (party_files job) contents (Ok inputs) → AreGiven job contents inputs
+    → AreBoardsOr inputs.script inputs.modules result
     → AreJoinedOr job contents result
 joined job contents inputs (Ok boards) answered given h =
     let count : length boards.items ≡ length inputs.modules = for_count inputs.script inputs.modules boards.items h in
@@ -163,7 +189,9 @@ joined job contents inputs (Ok boards) answered given h =
       is = record {
         given = Ok inputs;
         answer = answered;
-        is = Given inputs refl (parties.Ran h.programs boards.items h.are h.each (record { family = family; belongs = one.is; is = refl }));
+        is = Given inputs refl
+            (parties.Ran h.programs boards.items h.are h.each
+            (record { family = family; belongs = one.is; is = refl }));
       };
     }
 joined job contents inputs (Err why) answered given none =
@@ -173,29 +201,45 @@ joined job contents inputs (Err why) answered given none =
 -- ---- one board
 
 -- a refusal of the link
-unlinked_only : (program : Result Program Refusal) (outcome : Outcome) → IsProgramOutcome program Nothing outcome → IsUnlinked program outcome
+unlinked_only : (program : Result Program Refusal) (outcome : Outcome) → IsProgramOutcome program Nothing outcome
+    → IsUnlinked program outcome
 unlinked_only program outcome (Unlinked why refuses is) = record { why = why; refuses = refuses; is = is }
 unlinked_only program outcome (Follows p linked is are none) = absurd none
 
-pub alone_refused : (script : Script) (parts : ModuleParts) (why : Stop) → IsLinkedOr (alone parts) (Err why) → IsBoardOr script parts (Err why)
+pub alone_refused : (script : Script) (parts : ModuleParts) (why : Stop) → IsLinkedOr (alone parts) (Err why)
+    → IsBoardOr script parts (Err why)
 alone_refused script parts why h = IfSome_then (stopped why) h (unlinked_only (alone parts))
 
 -- the board of a program as it is linked, where the script is read again
-pub alone_started : (script again : Script) (parts : ModuleParts) (linked : Linked) (board : BoardState) (answer : Result Script ScriptError)
-    → answer ≡ Ok script → answer ≡ Ok again → IsLinkedOr (alone parts) (Ok linked) → IsStarted linked.layout linked.image again board
+pub alone_started : (script again : Script) (parts : ModuleParts) (linked : Linked) (board : BoardState)
+    (answer : Result Script ScriptError)
+    → answer ≡ Ok script → answer ≡ Ok again → IsLinkedOr (alone parts) (Ok linked)
+    → IsStarted linked.layout linked.image again board
     → IsBoardOr script parts (Ok board)
-alone_started script again parts linked board answer is also h started =
-    (h.0, h.1, record { linked = linked; is = h.2; started = subst (λ s. IsStarted linked.layout linked.image s board) (ok_same answer again script also is) started })
+alone_started script again parts linked board answer is also h started = (
+  h.0,
+  h.1,
+  record {
+    linked = linked;
+    is = h.2;
+    started = subst (λ s. IsStarted linked.layout linked.image s board) (ok_same answer again script also is)
+        started;
+  },
+)
 
 -- a script that was accepted is not refused
-pub accepted : (answer : Result Script ScriptError) (error : ScriptError) → IsOk answer → error ≢ script.Memory → RefusesWith (refusal_of error) answer → ⊥
-accepted answer error ok some h = let refused : IsOk {T = Script} (Err error) = subst (λ (r : Result Script ScriptError). IsOk r) (script_refuses answer error some h) ok in absurd (cc refused)
+pub accepted : (answer : Result Script ScriptError) (error : ScriptError) → IsOk answer → error ≢ script.Memory
+    → RefusesWith (refusal_of error) answer → ⊥
+accepted answer error ok some h = let refused : IsOk {T = Script} (Err error) =
+    subst (λ (r : Result Script ScriptError). IsOk r) (script_refuses answer error some h) ok in absurd (cc refused)
 
 -- ---- the end of a party
 
 pub party_written : (boards : List BoardState) (n : ℕ) (old new : SinkState) (end : PartyEnd)
-    → IsPartyReport boards n (family_of boards n) old.text new.text end → (end ≡ ends.WriteFault → Rose old.faults new.faults)
-    → IsWritten (status_if (has_event (family_of boards n))) (party_text boards n (family_of boards n)) old new (party_status end)
+    → IsPartyReport boards n (family_of boards n) old.text new.text end
+    → (end ≡ ends.WriteFault → Rose old.faults new.faults)
+    → IsWritten (status_if (has_event (family_of boards n))) (party_text boards n (family_of boards n)) old new
+    (party_status end)
 party_written boards n old new ends.Finished report fault = (sym (ap status_if report.0), report.1)
 party_written boards n old new ends.Stopped report fault = (sym (ap status_if report.0), report.1)
 party_written boards n old new ends.WriteFault report fault = (fault refl, report)

@@ -26,7 +26,8 @@ module _ (l : LayoutParts) (sound : IsSound l) where
   -- of walks that weigh the most there is one that comes first
   one_more : (one two : Chain) → one.root ≡ two.root → (h : IsHeaviest l one) → (k : IsHeaviest l two) → h.more ≡ k.more
   one_more one two root h k =
-      both (h.most k.more (subst (λ r. IsWalk l.edges r k.more) (sym root) k.walk)) (k.most h.more (subst (λ r. IsWalk l.edges r h.more) root h.walk))
+      both (h.most k.more (subst (λ r. IsWalk l.edges r k.more) (sym root) k.walk))
+      (k.most h.more (subst (λ r. IsWalk l.edges r h.more) root h.walk))
     where
       weighs : one.bytes ≡ weight_along l (one.root ∷ h.more)
       weighs = h.bytes
@@ -37,21 +38,25 @@ module _ (l : LayoutParts) (sound : IsSound l) where
       mine : weight_along l (two.root ∷ h.more) ≡ weight_along l (one.root ∷ h.more)
       mine = ap (λ r. weight_along l (r ∷ h.more)) (sym root)
 
-      both : (weight_along l (one.root ∷ k.more) < one.bytes) ⊎ ((weight_along l (one.root ∷ k.more) ≡ one.bytes) × ComesFirst h.more k.more)
-          → (weight_along l (two.root ∷ h.more) < two.bytes) ⊎ ((weight_along l (two.root ∷ h.more) ≡ two.bytes) × ComesFirst k.more h.more)
+      both : (weight_along l (one.root ∷ k.more) < one.bytes) ⊎
+          ((weight_along l (one.root ∷ k.more) ≡ one.bytes) × ComesFirst h.more k.more)
+          → (weight_along l (two.root ∷ h.more) < two.bytes) ⊎
+          ((weight_along l (two.root ∷ h.more) ≡ two.bytes) × ComesFirst k.more h.more)
           → h.more ≡ k.more
       both (inl low) (inl high) = absurd (omega (arith, low, high, weighs, other, mine))
       both (inl low) (inr same) = absurd (omega (arith, low, same.0, weighs, other, mine))
       both (inr same) (inl high) = absurd (omega (arith, same.0, high, weighs, other, mine))
       both (inr a) (inr b) = one_first h.more k.more a.1 b.1
 
-  one_chain : (vector : ℕ) (one two : Chain) → IsRootAt l vector one.root → IsRootAt l vector two.root → IsHeaviest l one → IsHeaviest l two → one ≡ two
+  one_chain : (vector : ℕ) (one two : Chain) → IsRootAt l vector one.root → IsRootAt l vector two.root
+      → IsHeaviest l one → IsHeaviest l two → one ≡ two
   one_chain vector one two at to h k =
       let root : one.root ≡ two.root = one_root l sound vector one.root two.root at to in
       let more = one_more one two root h k in
       let units : one.units ≡ two.units = h.units ∙ cc (root, more) ∙ sym k.units in
       let bytes : one.bytes ≡ two.bytes = h.bytes ∙ cc (root, more) ∙ sym k.bytes in
-      ap (λ r. chain_of r one.bytes one.units) root ∙ ap (λ b. chain_of two.root b one.units) bytes ∙ ap (λ u. chain_of two.root two.bytes u) units
+      ap (λ r. chain_of r one.bytes one.units) root ∙ ap (λ b. chain_of two.root b one.units) bytes
+      ∙ ap (λ u. chain_of two.root two.bytes u) units
 
   one_list : (at : List ℕ) (one two : List Chain) → ChainsAt l at one → ChainsAt l at two → one ≡ two
   one_list [] [] [] h k = refl
@@ -70,5 +75,6 @@ module _ (l : LayoutParts) (sound : IsSound l) where
       let others = one_list at one two h.2 k.2 in
       cc (first, others)
 
-pub one_heaviest : (l : LayoutParts) (one two : List Chain) → IsSound l → AreHeaviest l one → AreHeaviest l two → one ≡ two
+pub one_heaviest : (l : LayoutParts) (one two : List Chain) → IsSound l → AreHeaviest l one → AreHeaviest l two
+    → one ≡ two
 one_heaviest l one two sound h k = one_list l sound vectors one two h k

@@ -49,8 +49,10 @@ may_refuse reason.Limit = refl
 may_refuse reason.Stack = refl
 
 -- the plan for work has the outcome of the work
-pub work_outcome : (job : Job) (contents : List (List ℕ)) (name : Option (List ℕ)) (work : Result Work Stop) (result : Result Task NoMemory) → name ≡ name_kept job
-    → Comes (IsOutcome job contents) work → IsPlanned name work result → IfOk result (λ task. HasOutcome job contents (answer_of task))
+pub work_outcome : (job : Job) (contents : List (List ℕ)) (name : Option (List ℕ)) (work : Result Work Stop)
+    (result : Result Task NoMemory) → name ≡ name_kept job
+    → Comes (IsOutcome job contents) work → IsPlanned name work result
+    → IfOk result (λ task. HasOutcome job contents (answer_of task))
 work_outcome job contents name (Ok work) (Ok task) is comes planned = record {
   outcome = outcome_of work;
   work = comes;

@@ -21,7 +21,8 @@ runs_below (run ∷ more) from most after inside ascending =
     (λ k d below. let later = ascending 0 (suc k) d (omega arith) (omega (arith, below)) in omega (arith, later))
     (All-tail IsInside run more inside)
     (λ i j d before below. ascending (suc i) (suc j) d (omega (arith, before)) (omega (arith, below))) in
-    let both : filled_by (run ∷ more) ≡ run.len + filled_by more = sum_by-cons (λ (x : ℕ). x) run.len (map (λ (r : Run). r.len) more) in
+    let both : filled_by (run ∷ more) ≡ run.len + filled_by more =
+    sum_by-cons (λ (x : ℕ). x) run.len (map (λ (r : Run). r.len) more) in
     omega (arith, first, rest, both)
 
 pub ready_few : (linked : Linked) → IsReady linked → filled_by linked.written ≤ 65536

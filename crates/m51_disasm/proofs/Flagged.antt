@@ -1,8 +1,10 @@
 -- Flags that are set one after another.
-use Rattle.std.proofs.Common.{◌≡◌, ℕ, ◌+◌, ◌<◌, Bool, true, false, ◌||◌, List, [], ◌∷◌, length, get_or, set, take, replicate, refl, sym, ap, subst, ◌∙◌, arith, ⊎_elim}
+use Rattle.std.proofs.Common.{◌≡◌, ℕ, ◌+◌, ◌<◌, Bool, true, false, ◌||◌, List, [], ◌∷◌, length, get_or, set, take}
+use Rattle.std.proofs.Common.{replicate, refl, sym, ap, subst, ◌∙◌, arith, ⊎_elim}
 use Rattle.std.specs.Prelude.{◌==◌}
 use Rattle.std.proofs.lemmas.Bool.Decides.{eqb_tells}
-use Rattle.std.proofs.lemmas.List.{length-replicate, get_or-replicate, length-set, take_more, get_or-set_same, get_or-set_other}
+use Rattle.std.proofs.lemmas.List.{length-replicate, get_or-replicate, length-set, take_more, get_or-set_same}
+use Rattle.std.proofs.lemmas.List.{get_or-set_other}
 use Rattle.std.proofs.lemmas.List.Folds.{list_any-append}
 use Rattle.m51_disasm.specs.Flags.{AreFlags, AreUnset}
 use Rattle.m51_disasm.specs.Lines.{is_among}
@@ -31,7 +33,8 @@ pub one_set : (addresses : List ℕ) (flags : List Bool) (i : ℕ) → i < lengt
 one_set addresses flags i below fits h =
     let x : ℕ = get_or addresses i 0 in
     let more : (a : ℕ) → is_among (take (i + 1) addresses) a ≡ (is_among (take i addresses) a || ((x == a) || false)) =
-    λ a. ap (λ l. is_among l a) (take_more addresses i 0 below) ∙ list_any-append (λ b. b == a) (take i addresses) (x ∷ []) in
+    λ a. ap (λ l. is_among l a) (take_more addresses i 0 below)
+    ∙ list_any-append (λ b. b == a) (take i addresses) (x ∷ []) in
     record {
       len = length-set flags x true ∙ h.len;
       each = λ a inside.

@@ -1,5 +1,6 @@
 -- The target of an instruction is the address that its text leads to.
-use Rattle.std.proofs.Common.{◌≡◌, ℕ, ◌+◌, ◌%◌, ◌<◌, Bool, true, false, cond, ltb, Option, Some, None, refl, ap, ◌∙◌, arith}
+use Rattle.std.proofs.Common.{◌≡◌, ℕ, ◌+◌, ◌%◌, ◌<◌, Bool, true, false, cond, ltb, Option, Some, None, refl, ap, ◌∙◌}
+use Rattle.std.proofs.Common.{arith}
 use Rattle.std.specs.Prelude.{IfSome}
 use Rattle.m51_isa.specs.declared.instr.Instr.{Instr}
 use Rattle.m51_isa.specs.declared.instr.Instr.TheVariants as row
@@ -20,7 +21,8 @@ cases_same false low high low' high' e f = f
 -- the next address is taken modulo 65,536
 relative_wraps : (next rel : ℕ) → relative (next % 65536) rel ≡ relative next rel
 relative_wraps next rel =
-    cases_same (ltb rel 128) ((next % 65536 + rel) % 65536) ((next % 65536 + 65280 + rel) % 65536) ((next + rel) % 65536) ((next + 65280 + rel) % 65536)
+    cases_same (ltb rel 128) ((next % 65536 + rel) % 65536) ((next % 65536 + 65280 + rel) % 65536)
+    ((next + rel) % 65536) ((next + 65280 + rel) % 65536)
     (sum_wraps next rel) (omega arith)
 
 near_wraps : (next address : ℕ) → near (next % 65536) address % 65536 ≡ near next address % 65536
@@ -39,16 +41,22 @@ operand_wraps next (Some f) = field_wraps next f.field f.number
 
 text_wraps : (next : ℕ) (t : Text) → address_of (next % 65536) t ≡ address_of next t
 text_wraps next t =
-    rw (operand_wraps next (field_in t.first), operand_wraps next (field_in t.second), operand_wraps next (field_in t.third)) refl
+    rw (
+      operand_wraps next (field_in t.first),
+      operand_wraps next (field_in t.second),
+      operand_wraps next (field_in t.third),
+    ) refl
 
 fits : (t : ℕ) → t < 65536 → Some t ≡ Some (t % 65536)
 fits t h = ap (λ t. Some t) (omega (arith, h))
 
-column_by_text : (i : Instr) (next : ℕ) → IfSome (target_of i next) (λ t. t < 65536) → target_of i next ≡ address_of next (text_of i)
+column_by_text : (i : Instr) (next : ℕ) → IfSome (target_of i next) (λ t. t < 65536)
+    → target_of i next ≡ address_of next (text_of i)
 unfolding address_by
 column_by_text (row.AjmpAddr11 address) next h = fits (near next address) h
 column_by_text (row.AcallAddr11 address) next h = fits (near next address) h
 column_by_text i next h = refl
 
-pub led_by_text : (i : Instr) (next : ℕ) → IfSome (target_of i (next % 65536)) (λ t. t < 65536) → target_of i (next % 65536) ≡ address_of next (text_of i)
+pub led_by_text : (i : Instr) (next : ℕ) → IfSome (target_of i (next % 65536)) (λ t. t < 65536)
+    → target_of i (next % 65536) ≡ address_of next (text_of i)
 led_by_text i next h = column_by_text i (next % 65536) h ∙ text_wraps next (text_of i)

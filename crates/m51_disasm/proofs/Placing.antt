@@ -1,5 +1,6 @@
 -- The bytes of the units of a sound layout lie in program memory.
-use Rattle.std.proofs.Common.{◌≡◌, ℕ, ◌+◌, ◌-◌, ◌<◌, ◌≤◌, true, List, length, get_or, map, Some, refl, sym, subst, arith}
+use Rattle.std.proofs.Common.{◌≡◌, ℕ, ◌+◌, ◌-◌, ◌<◌, ◌≤◌, true, List, length, get_or, map, Some, refl, sym, subst}
+use Rattle.std.proofs.Common.{arith}
 use Rattle.std.specs.Prelude.{nat_lt, slice_get}
 use Rattle.std.specs.List.{All, filter}
 use Rattle.std.proofs.lemmas.Bool.Decides.{nat_tests}
@@ -14,11 +15,11 @@ use Rattle.m51_module.specs.Plan.{IsCodeSegment, IsPlaced}
 use Rattle.m51_module.specs.Sound.{IsSound}
 use Rattle.m51_module.specs.declared.parts.LayoutParts.{LayoutParts}
 use Rattle.m51_module.specs.declared.placed.Placed.{Placed}
-use Rattle.m51_disasm.specs.declared.part.Part.{Part}
+use Rattle.m51_disasm.specs.declared.part.CodeRange.{CodeRange}
 use Rattle.m51_disasm.specs.Parts.{IsInside, has_bytes, part_of, units_of}
 
 -- if it has a byte, it ends in program memory
-abbrev EndsInside : Part → Type 0
+abbrev EndsInside : CodeRange → Type 0
 EndsInside part = 0 < part.size → part.base + part.size ≤ 65536
 
 -- so does a segment of program memory
@@ -41,11 +42,12 @@ unit_ends l sound u s is =
 
 pub all_inside : (l : LayoutParts) → IsSound l → All IsInside (units_of l)
 all_inside l sound =
-    let all : List Part = map (λ index. part_of (slice_get l.placed index)) l.units in
+    let all : List CodeRange = map (λ index. part_of (slice_get l.placed index)) l.units in
     let ends : All EndsInside all =
     All-map EndsInside (λ index. part_of (slice_get l.placed index)) l.units
     (λ k d below. unit_ends l sound k (get_or l.units k d)
-    (slice_get_read l.units (length l.units) k (get_or l.units k d) refl below (get_or_default l.units k d (get_or l.units k d) below))) in
+    (slice_get_read l.units (length l.units) k (get_or l.units k d) refl below
+    (get_or_default l.units k d (get_or l.units k d) below))) in
     let kept : All EndsInside (filter has_bytes all) = All-filter has_bytes EndsInside all ends in
     let pass = filter_passes has_bytes all in
     λ k d below.

@@ -1,9 +1,10 @@
 -- The statements of a part, one after another.
-use Rattle.std.proofs.Common.{◌≡◌, ℕ, zero, suc, ◌+◌, ◌-◌, ◌<◌, ◌≤◌, List, [], ◌∷◌, ◌++◌, map, refl, sym, ap, ◌∙◌, append_assoc, append-nil, arith}
+use Rattle.std.proofs.Common.{◌≡◌, ℕ, zero, suc, ◌+◌, ◌-◌, ◌<◌, ◌≤◌, List, [], ◌∷◌, ◌++◌, map, refl, sym, ap, ◌∙◌}
+use Rattle.std.proofs.Common.{append_assoc, append-nil, arith}
 use Rattle.std.specs.Prelude.{Err, Ok, OnOk, Option, Result}
 use Rattle.std.specs.List.{cons_option, filter_map}
-use Rattle.m51_disasm.specs.declared.line.Line.{Line}
-use Rattle.m51_disasm.specs.declared.part.Part.{Part}
+use Rattle.m51_disasm.specs.declared.line.SourceLine.{SourceLine}
+use Rattle.m51_disasm.specs.declared.part.CodeRange.{CodeRange}
 use Rattle.m51_disasm.specs.declared.statement.Statement.{Statement}
 use Rattle.m51_disasm.specs.Lines.{beginnings, line_of, statement_lines, targets}
 use Rattle.m51_disasm.specs.Statements.{length_in, statement_at, statements_from, statements_of, target_of}
@@ -88,7 +89,8 @@ filter_after h g [] = refl
 filter_after h g (x ∷ xs) = ap (cons_option (h (g x))) (filter_after h g xs)
 
 -- so their lines are those of the statements at their beginnings, and so are their targets
-pub lines_there : (image : List ℕ) (part : Part) (begin led : List ℕ) → begin ≡ beginnings (statements_of image part)
+pub lines_there : (image : List ℕ) (part : CodeRange) (begin led : List ℕ)
+    → begin ≡ beginnings (statements_of image part)
     → led ≡ filter_map (λ a. target_of (statement_at image (part.base + part.size) a)) begin
     → map (λ a. line_of begin led (statement_at image (part.base + part.size) a)) begin
     ≡ statement_lines (statements_of image part)
@@ -105,14 +107,14 @@ lines_there image part begin led is to =
     ∙ ap (λ t. map (line_of (beginnings all) t) all) found
 
 -- and so is what is put at the end of a text, where there is memory
-pub same_lines : {T E : Type 0} (r : Result T E) (image text : List ℕ) (part : Part) (end : ℕ)
+pub same_lines : {T E : Type 0} (r : Result T E) (image text : List ℕ) (part : CodeRange) (end : ℕ)
     (begin led found at after : List ℕ)
     → end ≡ part.base + part.size → begin ≡ beginnings (statements_of image part) → found ≡ begin
     → led ≡ filter_map (λ a. target_of (statement_at image end a)) found → at ≡ begin
     → OnOk r (after ≡ text ++ text_of_lines (map (λ a. line_of begin led (statement_at image end a)) at))
     → OnOk r (after ≡ text ++ text_of_lines (statement_lines (statements_of image part)))
 same_lines (Ok u) image text part end begin led found at after ends is same to there h =
-    let line : ℕ → ℕ → Line = λ n a. line_of begin led (statement_at image n a) in
+    let line : ℕ → ℕ → SourceLine = λ n a. line_of begin led (statement_at image n a) in
     let leads : ℕ → ℕ → Option ℕ = λ n a. target_of (statement_at image n a) in
     let targets_there : led ≡ filter_map (leads (part.base + part.size)) begin =
     to ∙ ap (filter_map (leads end)) same ∙ ap (λ n. filter_map (leads n) begin) ends in

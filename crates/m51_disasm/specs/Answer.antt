@@ -6,8 +6,8 @@ use Rattle.m51_module.specs.declared.linked.Quantity.TheVariants.{Parts, Lines}
 use Rattle.m51_module.specs.declared.parts.LayoutParts.{LayoutParts}
 use Rattle.m51_disasm.specs.declared.error.DisError.{DisError}
 use Rattle.m51_disasm.specs.declared.error.DisError.TheVariants.{Limit, Memory}
-use Rattle.m51_disasm.specs.declared.line.Line.{Line}
-use Rattle.m51_disasm.specs.declared.part.Part.{Part}
+use Rattle.m51_disasm.specs.declared.line.SourceLine.{SourceLine}
+use Rattle.m51_disasm.specs.declared.part.CodeRange.{CodeRange}
 use Rattle.m51_disasm.specs.Lines.{lines_of}
 use Rattle.m51_disasm.specs.Parts.{parts_of}
 use Rattle.m51_disasm.specs.Texts.{text_of_lines}
@@ -18,11 +18,11 @@ refusal_of (Limit what) = Some what
 refusal_of Memory = None
 
 -- the text of lines, of which an assembler takes 65,535
-unfoldable pub text_within : List Line → Result (List ℕ) Quantity
+unfoldable pub text_within : List SourceLine → Result (List ℕ) Quantity
 text_within lines = if nat_lt MOST_SOURCE_LINES (length lines) then Err Lines else Ok (text_of_lines lines)
 
 -- the text of parts, each of which is a segment of a module, which has at most 254
-unfoldable pub text_by : List ℕ → List Part → Result (List ℕ) Quantity
+unfoldable pub text_by : List ℕ → List CodeRange → Result (List ℕ) Quantity
 text_by image parts =
     if nat_lt MOST_MODULE_SEGMENTS (length parts) then Err Parts else text_within (lines_of image parts)
 

@@ -1,11 +1,11 @@
 -- The lines of a disassembly.
 use Rattle.std.specs.Prelude.{ℕ, Bool, ◌==◌, if◌then◌else◌, List, [], ◌∷◌, ◌++◌, map, flat_map, Option, Some, None}
 use Rattle.std.specs.List.{list_any, filter_map}
-use Rattle.m51_disasm.specs.declared.line.Line.{Line}
-use Rattle.m51_disasm.specs.declared.line.Line.TheVariants as line
+use Rattle.m51_disasm.specs.declared.line.SourceLine.{SourceLine}
+use Rattle.m51_disasm.specs.declared.line.SourceLine.TheVariants as line
 use Rattle.m51_disasm.specs.declared.line.Target.{Target}
 use Rattle.m51_disasm.specs.declared.line.Target.TheVariants.{Nowhere, Label, Number}
-use Rattle.m51_disasm.specs.declared.part.Part.{Part}
+use Rattle.m51_disasm.specs.declared.part.CodeRange.{CodeRange}
 use Rattle.m51_disasm.specs.declared.statement.Statement.{Statement}
 use Rattle.m51_disasm.specs.Statements.{statements_of, target_of}
 
@@ -30,7 +30,7 @@ abbrev pub label_at : List ℕ → ℕ → Option ℕ
 label_at led address = if is_among led address then Some address else None
 
 -- the line of a statement, where statements of its unit begin and where they lead
-abbrev pub line_of : List ℕ → List ℕ → Statement → Line
+abbrev pub line_of : List ℕ → List ℕ → Statement → SourceLine
 line_of begin led s = line.Statement (record {
   label = label_at led s.at;
   content = s.content;
@@ -38,13 +38,13 @@ line_of begin led s = line.Statement (record {
 })
 
 -- the lines of the statements of one unit
-abbrev pub statement_lines : List Statement → List Line
+abbrev pub statement_lines : List Statement → List SourceLine
 statement_lines statements = map (line_of (beginnings statements) (targets statements)) statements
 
 -- the lines of a part
-unfoldable pub part_lines : List ℕ → Part → List Line
+unfoldable pub part_lines : List ℕ → CodeRange → List SourceLine
 part_lines image part = line.Segment part.base ∷ statement_lines (statements_of image part)
 
 -- all lines
-unfoldable pub lines_of : List ℕ → List Part → List Line
+unfoldable pub lines_of : List ℕ → List CodeRange → List SourceLine
 lines_of image parts = line.Nomod51 ∷ (flat_map (part_lines image) parts ++ line.End ∷ [])

@@ -10,7 +10,7 @@ use Rattle.m51_isa.specs.declared.slot.FieldSlot.{FieldSlot}
 use Rattle.m51_isa.specs.Spelling.{Text, text_of, field_in}
 use Rattle.m51_isa.specs.Table.{decoded_at, length_of}
 use Rattle.m51_isa.specs.Targets.{relative, near}
-use Rattle.m51_disasm.specs.declared.part.Part.{Part}
+use Rattle.m51_disasm.specs.declared.part.CodeRange.{CodeRange}
 use Rattle.m51_disasm.specs.declared.statement.Content.{Content}
 use Rattle.m51_disasm.specs.declared.statement.Content.TheVariants.{Byte, Code}
 use Rattle.m51_disasm.specs.declared.statement.Statement.{Statement}
@@ -68,7 +68,7 @@ statements_from image end zero at (suc more) =
     let s = statement_at image end at in s ∷ statements_from image end (length_in s.content - 1) (at + 1) more
 
 -- the statements of a part
-abbrev pub statements_of : List ℕ → Part → List Statement
+abbrev pub statements_of : List ℕ → CodeRange → List Statement
 statements_of image part = statements_from image (part.base + part.size) 0 part.base part.size
 
 -- the address that a field leads to, with this next address, if it is one of a jump, branch or call

@@ -7,8 +7,8 @@ use Rattle.m51_isa.specs.declared.slot.Slot.{Slot}
 use Rattle.m51_isa.specs.declared.slot.Slot.TheVariants.{Nothing, A, Ab, C, Dptr, APc, ADptr, AtDptr, R, AtR, Imm}
 use Rattle.m51_isa.specs.declared.slot.Slot.TheVariants.{Plain, NotBit}
 use Rattle.m51_isa.specs.Spelling.{Text, text_of}
-use Rattle.m51_disasm.specs.declared.line.Line.{Line}
-use Rattle.m51_disasm.specs.declared.line.Line.TheVariants as line
+use Rattle.m51_disasm.specs.declared.line.SourceLine.{SourceLine}
+use Rattle.m51_disasm.specs.declared.line.SourceLine.TheVariants as line
 use Rattle.m51_disasm.specs.declared.line.StatementLine.{StatementLine}
 use Rattle.m51_disasm.specs.declared.line.Target.{Target}
 use Rattle.m51_disasm.specs.declared.line.Target.TheVariants.{Nowhere, Label, Number}
@@ -93,12 +93,12 @@ unfoldable pub statement_text : StatementLine → List ℕ
 statement_text s = label_front s.label ++ content_text s.target s.content
 
 -- a line, without its end
-unfoldable pub line_text : Line → List ℕ
+unfoldable pub line_text : SourceLine → List ℕ
 line_text line.Nomod51 = codes "$NOMOD51"
 line_text (line.Segment base) = codes "CSEG AT " ++ word_text base
 line_text (line.Statement s) = statement_text s
 line_text line.End = codes "END"
 
 -- lines, each with a line feed
-abbrev pub text_of_lines : List Line → List ℕ
+abbrev pub text_of_lines : List SourceLine → List ℕ
 text_of_lines lines = flat_map (λ one. line_text one ++ codes "\n") lines

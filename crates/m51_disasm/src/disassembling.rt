@@ -7,7 +7,7 @@ ghost use Rattle.m51_disasm.specs.Parts.{IsInside};
 
 use crate::error::DisError;
 use crate::listing::{line_count, text_of};
-use crate::part::Part;
+use crate::part::CodeRange;
 use crate::parting::parts_of;
 use m51_cells::{MOST_MODULE_SEGMENTS, MOST_SOURCE_LINES};
 use m51_module::{Image, Layout, Quantity};
@@ -15,7 +15,7 @@ use std::alloc::Global;
 
 // The text of parts, of which there are not too many.
 #[tactic(auto, unfolding(crate::specs::Answer::text_within))]
-fn text_within(alloc: Global, image: &[u8], parts: &[Part]) -> Result<Vec<u8>, DisError>
+fn text_within(alloc: Global, image: &[u8], parts: &[CodeRange]) -> Result<Vec<u8>, DisError>
     requires whole { length image.now ≡ 65536 }
     requires inside { All IsInside parts.now }
     requires few { length parts.now ≤ 254 }
@@ -31,7 +31,7 @@ fn text_within(alloc: Global, image: &[u8], parts: &[Part]) -> Result<Vec<u8>, D
 
 // The text of parts, or the limit that it passes.
 #[tactic(auto, unfolding(crate::specs::Answer::text_by))]
-fn text_by(alloc: Global, image: &[u8], parts: &[Part]) -> Result<Vec<u8>, DisError>
+fn text_by(alloc: Global, image: &[u8], parts: &[CodeRange]) -> Result<Vec<u8>, DisError>
     requires whole { length image.now ≡ 65536 }
     requires inside { All IsInside parts.now }
     ensures { Gives (λ text. text.items) refusal_of result (text_by image.now parts.now) }

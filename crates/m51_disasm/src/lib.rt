@@ -16,6 +16,6 @@ mod writing;
 
 pub use disassembling::disassemble;
 pub use error::DisError;
-pub use line::{Line, StatementLine, Target};
-pub use part::Part;
+pub use line::{SourceLine, StatementLine, Target};
+pub use part::CodeRange;
 pub use statement::{Content, Statement};

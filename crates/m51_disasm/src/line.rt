@@ -31,7 +31,7 @@ pub struct StatementLine {
 ///
 /// Source: own choice ("Disassembly").
 #[derive(Clone, Copy)]
-pub enum Line {
+pub enum SourceLine {
     /// `$NOMOD51`
     Nomod51,
     /// `CSEG AT` and this base.

@@ -9,8 +9,8 @@ ghost use Rattle.m51_disasm.specs.Texts.{text_of_lines};
 
 use crate::address_set::AddressSet;
 use crate::instructions::target_of;
-use crate::line::{Line, StatementLine, Target};
-use crate::part::Part;
+use crate::line::{SourceLine, StatementLine, Target};
+use crate::part::CodeRange;
 use crate::statement::Statement;
 use crate::statements::{beginnings_of, statement_at, target_at};
 use crate::writing::push_ended;
@@ -50,10 +50,10 @@ fn label_at(led: &AddressSet, address: u16) -> Option<u16>
 }
 
 // The line of a statement, where statements begin at the first addresses and lead to the others.
-fn line_of(begins: &AddressSet, led: &AddressSet, statement: &Statement) -> Line
+fn line_of(begins: &AddressSet, led: &AddressSet, statement: &Statement) -> SourceLine
     ensures { result ≡ line_of begins.now led.now statement.now }
 {
-    Line::Statement(StatementLine {
+    SourceLine::Statement(StatementLine {
         label: label_at(led, statement.at),
         content: statement.content,
         target: written_target(begins, target_of(statement)),
@@ -102,7 +102,7 @@ fn push_statements(
     alloc: Global,
     text: &mut Vec<u8>,
     image: &[u8],
-    part: Part,
+    part: CodeRange,
 ) -> Result<(), NoMemory>
     requires whole { length image.now ≡ 65536 }
     requires inside { IsInside part }
@@ -117,12 +117,17 @@ fn push_statements(
 
 // Puts the lines of a part at the end of the text.
 #[tactic(auto, using(crate::proofs::Written::part_written))]
-fn push_part(alloc: Global, text: &mut Vec<u8>, image: &[u8], part: Part) -> Result<(), NoMemory>
+fn push_part(
+    alloc: Global,
+    text: &mut Vec<u8>,
+    image: &[u8],
+    part: CodeRange,
+) -> Result<(), NoMemory>
     requires whole { length image.now ≡ 65536 }
     requires inside { IsInside part }
     ensures { OnOk result (text.new.items ≡ text.old.items ++ text_of_lines (part_lines image.now part)) }
 {
-    push_ended(text, &Line::Segment(part.base))?;
+    push_ended(text, &SourceLine::Segment(part.base))?;
     push_statements(alloc, text, image, part)
 }
 
@@ -132,7 +137,7 @@ fn push_parts(
     alloc: Global,
     text: &mut Vec<u8>,
     image: &[u8],
-    parts: &[Part],
+    parts: &[CodeRange],
 ) -> Result<(), NoMemory>
     requires whole { length image.now ≡ 65536 }
     requires inside { All IsInside parts.now }
@@ -147,21 +152,25 @@ fn push_parts(
 
 /// The text of parts.
 #[tactic(auto, using(crate::proofs::Written::all_written))]
-pub(crate) fn text_of(alloc: Global, image: &[u8], parts: &[Part]) -> Result<Vec<u8>, NoMemory>
+pub(crate) fn text_of(alloc: Global, image: &[u8], parts: &[CodeRange]) -> Result<Vec<u8>, NoMemory>
     requires whole { length image.now ≡ 65536 }
     requires inside { All IsInside parts.now }
     ensures { IfOk result (λ text. text.items ≡ text_of_lines (lines_of image.now parts.now)) }
 {
     let mut text = Vec::new(alloc);
-    push_ended(&mut text, &Line::Nomod51)?;
+    push_ended(&mut text, &SourceLine::Nomod51)?;
     push_parts(alloc, &mut text, image, parts)?;
-    push_ended(&mut text, &Line::End)?;
+    push_ended(&mut text, &SourceLine::End)?;
     Ok(text)
 }
 
 /// How many lines the text of parts has.
 #[tactic(auto, using(crate::proofs::Written::one_counted))]
-pub(crate) fn line_count(alloc: Global, image: &[u8], parts: &[Part]) -> Result<usize, NoMemory>
+pub(crate) fn line_count(
+    alloc: Global,
+    image: &[u8],
+    parts: &[CodeRange],
+) -> Result<usize, NoMemory>
     requires whole { length image.now ≡ 65536 }
     requires inside { All IsInside parts.now }
     requires few { length parts.now ≤ 254 }

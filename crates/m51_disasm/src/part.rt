@@ -4,7 +4,7 @@
 ///
 /// Source: own choice ("Disassembly").
 #[derive(Clone, Copy, Debug, PartialEq, Eq)]
-pub struct Part {
+pub struct CodeRange {
     /// The address at which it begins.
     pub base: u16,
     /// How many bytes it has.

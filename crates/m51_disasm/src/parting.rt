@@ -2,18 +2,18 @@
 ghost use Rattle.std.specs.Prelude.{◌≡◌, IfOk, OnOk, All, slice_get};
 ghost use Rattle.m51_disasm.specs.Parts.{part_of, units_of, parts_below, parts_of, IsInside};
 
-use crate::part::Part;
+use crate::part::CodeRange;
 use m51_cells::NoMemory;
 use m51_module::{Layout, Placed};
 use std::alloc::{AllocError, Global};
 
 // Base and size of a placed extent, by its index.
-fn part_at(placed: &[Placed], index: u16) -> Part
+fn part_at(placed: &[Placed], index: u16) -> CodeRange
     ensures { result ≡ part_of (slice_get placed.now index) }
 {
     match placed.get(usize::from(index)) {
-        None => Part { base: 0, size: 0 },
-        Some(placed) => Part {
+        None => CodeRange { base: 0, size: 0 },
+        Some(placed) => CodeRange {
             base: placed.base,
             size: placed.size,
         },
@@ -21,7 +21,7 @@ fn part_at(placed: &[Placed], index: u16) -> Part
 }
 
 // The units of one byte or more, in the order of the layout.
-fn units_of(alloc: Global, layout: &Layout) -> Result<Vec<Part>, AllocError>
+fn units_of(alloc: Global, layout: &Layout) -> Result<Vec<CodeRange>, AllocError>
     ensures { IfOk result (λ units. units.items ≡ units_of layout.now) }
 {
     let placed = layout.placed();
@@ -35,7 +35,7 @@ fn units_of(alloc: Global, layout: &Layout) -> Result<Vec<Part>, AllocError>
 
 // The same, with their bytes in program memory.
 #[tactic(auto, using(crate::proofs::Placing::all_inside))]
-fn units_inside(alloc: Global, layout: &Layout) -> Result<Vec<Part>, AllocError>
+fn units_inside(alloc: Global, layout: &Layout) -> Result<Vec<CodeRange>, AllocError>
     ensures units { IfOk result (λ units. units.items ≡ units_of layout.now) }
     ensures inside { IfOk result (λ units. All IsInside units.items) }
 {
@@ -44,7 +44,7 @@ fn units_inside(alloc: Global, layout: &Layout) -> Result<Vec<Part>, AllocError>
 }
 
 // Puts units into the order of their bases.
-fn arrange(units: &mut Vec<Part>) -> Result<(), AllocError>
+fn arrange(units: &mut Vec<CodeRange>) -> Result<(), AllocError>
     requires { All IsInside units.old.items }
     ensures order { OnOk result (units.new.items ≡ parts_below units.old.items 0x10000) }
     ensures inside { All IsInside units.new.items }
@@ -54,7 +54,7 @@ fn arrange(units: &mut Vec<Part>) -> Result<(), AllocError>
 
 /// The units of one byte or more, by ascending base.
 #[tactic(auto, unfolding(crate::specs::Parts::parts_of))]
-pub(crate) fn parts_of(alloc: Global, layout: &Layout) -> Result<Vec<Part>, NoMemory>
+pub(crate) fn parts_of(alloc: Global, layout: &Layout) -> Result<Vec<CodeRange>, NoMemory>
     ensures order { IfOk result (λ parts. parts.items ≡ parts_of layout.now) }
     ensures inside { IfOk result (λ parts. All IsInside parts.items) }
 {

@@ -5,7 +5,7 @@ ghost use Rattle.m51_disasm.specs.Parts.{IsInside};
 ghost use Rattle.m51_disasm.specs.Statements.{content_of, length_in, statement_at, statements_of, target_of};
 
 use crate::instructions::{can_stand, instr_at, length_of, target_of};
-use crate::part::Part;
+use crate::part::CodeRange;
 use crate::statement::{Content, Statement};
 use m51_cells::NoMemory;
 use std::alloc::Global;
@@ -55,7 +55,11 @@ pub(crate) fn target_at(image: &[u8], end: u32, at: u16) -> Option<u16>
 }
 
 /// Where the statements of a part begin.
-pub(crate) fn beginnings_of(alloc: Global, image: &[u8], part: Part) -> Result<Vec<u16>, NoMemory>
+pub(crate) fn beginnings_of(
+    alloc: Global,
+    image: &[u8],
+    part: CodeRange,
+) -> Result<Vec<u16>, NoMemory>
     requires whole { length image.now ≡ 65536 }
     requires inside { IsInside part }
     ensures value { IfOk result (λ addresses. addresses.items ≡ beginnings (statements_of image.now part)) }

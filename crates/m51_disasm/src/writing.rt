@@ -4,7 +4,7 @@ ghost use Rattle.m51_isa.specs.Spelling.{text_in};
 ghost use Rattle.m51_disasm.specs.Texts.{target_text, data_text, plain_text, operand_text, after, spelled};
 ghost use Rattle.m51_disasm.specs.Texts.{content_text, label_front, statement_text, line_text, text_of_lines};
 
-use crate::line::{Line, StatementLine, Target};
+use crate::line::{SourceLine, StatementLine, Target};
 use crate::pushing::{push_byte, push_label, push_register, push_short, push_text, push_word};
 use crate::statement::Content;
 use m51_cells::NoMemory;
@@ -136,22 +136,22 @@ fn push_statement(text: &mut Vec<u8>, statement: &StatementLine) -> Result<(), N
 
 // A line, without its end.
 #[tactic(auto, unfolding(crate::specs::Texts::line_text))]
-fn push_line(text: &mut Vec<u8>, line: &Line) -> Result<(), NoMemory>
+fn push_line(text: &mut Vec<u8>, line: &SourceLine) -> Result<(), NoMemory>
     ensures { OnOk result (text.new.items ≡ text.old.items ++ line_text line.now) }
 {
     match line {
-        Line::Nomod51 => push_text(text, b"$NOMOD51"),
-        Line::Segment(base) => {
+        SourceLine::Nomod51 => push_text(text, b"$NOMOD51"),
+        SourceLine::Segment(base) => {
             push_text(text, b"CSEG AT ")?;
             push_word(text, *base)
         }
-        Line::Statement(statement) => push_statement(text, statement),
-        Line::End => push_text(text, b"END"),
+        SourceLine::Statement(statement) => push_statement(text, statement),
+        SourceLine::End => push_text(text, b"END"),
     }
 }
 
 /// A line, with a line feed.
-pub(crate) fn push_ended(text: &mut Vec<u8>, line: &Line) -> Result<(), NoMemory>
+pub(crate) fn push_ended(text: &mut Vec<u8>, line: &SourceLine) -> Result<(), NoMemory>
     ensures { OnOk result (text.new.items ≡ text.old.items ++ text_of_lines (line.now ∷ [])) }
 {
     push_line(text, line)?;

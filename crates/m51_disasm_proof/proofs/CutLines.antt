@@ -1,5 +1,6 @@
 -- The cut of a line of words, with blanks between them or none.
-use Rattle.std.proofs.Common.{◌≡◌, ℕ, ◌+◌, ◌-◌, ◌<◌, ◌&&◌, true, List, [], ◌∷◌, ◌++◌, length, length-append, drop, map, Some, Ok, refl, ap, ◌∙◌, append_assoc, arith, subst}
+use Rattle.std.proofs.Common.{◌≡◌, ℕ, ◌+◌, ◌-◌, ◌<◌, ◌&&◌, true, List, [], ◌∷◌, ◌++◌, length, length-append, drop, map}
+use Rattle.std.proofs.Common.{Some, Ok, refl, ap, ◌∙◌, append_assoc, arith, subst}
 use Rattle.std.specs.List.{list_all}
 use Rattle.std.proofs.Math.Seq.{drop-append_seam}
 use Rattle.std.proofs.lemmas.List.Folds.{list_all-append}
@@ -18,7 +19,8 @@ use Rattle.m51_text.specs.Said.{is_character}
 -- the word is cut as a token of its own before these bytes
 pub record Stands (w : Word) (rest : List ℕ) : Type 0 where
   pub some : 0 < length w.text
-  pub front : (at : ℕ) (go : ℕ → Cut) → after_lexeme at (lexeme_of (w.text ++ rest)) go ≡ put_front (token_at at w ∷ []) (go (length w.text - 1))
+  pub front : (at : ℕ) (go : ℕ → Cut)
+      → after_lexeme at (lexeme_of (w.text ++ rest)) go ≡ put_front (token_at at w ∷ []) (go (length w.text - 1))
   pub characters : list_all is_character w.text ≡ true
 
 -- the line is cut into these words
@@ -32,7 +34,8 @@ pub record IsCutInto (line : List ℕ) (ws : List Word) : Type 0 where
 pub no_words : IsCutInto [] []
 no_words = record { tokens = λ at. []; cut = λ at. refl; words = λ before. tt; characters = refl }
 
-moved : (line : List ℕ) (more : List Token) (ws : List Word) (other : List ℕ) → other ≡ line → AreWords other more ws → AreWords line more ws
+moved : (line : List ℕ) (more : List Token) (ws : List Word) (other : List ℕ) → other ≡ line → AreWords other more ws
+    → AreWords line more ws
 moved line more ws other e h = subst (λ l. AreWords l more ws) e h
 
 -- a blank before a line
@@ -42,12 +45,14 @@ after_blank rest ws c = record {
   cut = λ at. one_blank at rest ∙ c.cut (at + 1);
   words = λ before.
       let next : length (before ++ space ∷ []) ≡ length before + 1 = length-append before (space ∷ []) in
-      moved (before ++ space ∷ rest) (c.tokens (length before + 1)) ws ((before ++ space ∷ []) ++ rest) (append_assoc before (space ∷ []) rest)
+      moved (before ++ space ∷ rest) (c.tokens (length before + 1)) ws ((before ++ space ∷ []) ++ rest)
+      (append_assoc before (space ∷ []) rest)
       (subst (λ n. AreWords ((before ++ space ∷ []) ++ rest) (c.tokens n) ws) next (c.words (before ++ space ∷ [])));
   characters = c.characters;
 }
 
-one_token : (w : Word) (rest : List ℕ) (at : ℕ) → Stands w rest → tokens_at 0 at (w.text ++ rest) ≡ put_front (token_at at w ∷ []) (tokens_at 0 (at + length w.text) rest)
+one_token : (w : Word) (rest : List ℕ) (at : ℕ) → Stands w rest
+    → tokens_at 0 at (w.text ++ rest) ≡ put_front (token_at at w ∷ []) (tokens_at 0 (at + length w.text) rest)
 one_token w rest at is =
     let l = w.text ++ rest in
     let n = length w.text in
@@ -55,10 +60,13 @@ one_token w rest at is =
     let after : at + 1 + (n - 1) ≡ at + n = omega (arith, is.some) in
     from_front at l (simp length-append (omega (arith, is.some)))
     ∙ is.front at (λ k. tokens_at 0 (at + 1 + k) (drop (1 + k) l))
-    ∙ ap (put_front (token_at at w ∷ [])) (ap (λ a. tokens_at 0 a (drop (1 + (n - 1)) l)) after ∙ ap (λ k. tokens_at 0 (at + n) (drop k l)) same ∙ ap (λ r. tokens_at 0 (at + n) r) (drop-append_seam w.text rest))
+    ∙ ap (put_front (token_at at w ∷ []))
+    (ap (λ a. tokens_at 0 a (drop (1 + (n - 1)) l)) after ∙ ap (λ k. tokens_at 0 (at + n) (drop k l)) same
+    ∙ ap (λ r. tokens_at 0 (at + n) r) (drop-append_seam w.text rest))
 
 -- a word before a line
-pub after_word : (w : Word) (rest : List ℕ) (ws : List Word) → Stands w rest → IsCutInto rest ws → IsCutInto (w.text ++ rest) (w ∷ ws)
+pub after_word : (w : Word) (rest : List ℕ) (ws : List Word) → Stands w rest → IsCutInto rest ws
+    → IsCutInto (w.text ++ rest) (w ∷ ws)
 after_word w rest ws is c = record {
   tokens = λ at. token_at at w ∷ c.tokens (at + length w.text);
   cut = λ at. one_token w rest at is ∙ ap (put_front (token_at at w ∷ [])) (c.cut (at + length w.text));
@@ -66,14 +74,16 @@ after_word w rest ws is c = record {
       let next : length (before ++ w.text) ≡ length before + length w.text = length-append before w.text in (
         refl,
         word_within before w.text rest,
-        moved (before ++ (w.text ++ rest)) (c.tokens (length before + length w.text)) ws ((before ++ w.text) ++ rest) (append_assoc before w.text rest)
+        moved (before ++ (w.text ++ rest)) (c.tokens (length before + length w.text)) ws ((before ++ w.text) ++ rest)
+            (append_assoc before w.text rest)
             (subst (λ n. AreWords ((before ++ w.text) ++ rest) (c.tokens n) ws) next (c.words (before ++ w.text))),
       );
   characters = list_all-append is_character w.text rest ∙ (λ i. is.characters i && c.characters i);
 }
 
 -- a line of these words says what their symbols do
-pub words_read : (line : List ℕ) (ws : List Word) (s : StmtTree) → IsCutInto line ws → statement (map symbol ws) ≡ Some s → token_line line ≡ Ok s
+pub words_read : (line : List ℕ) (ws : List Word) (s : StmtTree) → IsCutInto line ws
+    → statement (map symbol ws) ≡ Some s → token_line line ≡ Ok s
 words_read line ws s c reads =
     ap (λ r. and_then r (λ tokens. read (map (symbol_of line) tokens))) (c.cut 0)
     ∙ ap read (are_symbols line (c.tokens 0) ws (c.words []))

@@ -1,5 +1,6 @@
 -- The fields of a disassembled instruction take the numbers that they were decoded with.
-use Rattle.std.proofs.Common.{◌≡◌, ℕ, ◌+◌, ◌/◌, ◌%◌, ◌<◌, ◌≤◌, nat_lt, nat_le, Bool, true, false, not, ◌&&◌, ◌||◌, cond, Some, None, refl, sym, ap, ◌∙◌, arith, eq-eqb}
+use Rattle.std.proofs.Common.{◌≡◌, ℕ, ◌+◌, ◌/◌, ◌%◌, ◌<◌, ◌≤◌, nat_lt, nat_le, Bool, true, false, not, ◌&&◌, ◌||◌, cond}
+use Rattle.std.proofs.Common.{Some, None, refl, sym, ap, ◌∙◌, arith, eq-eqb}
 use Rattle.std.proofs.Math.Bool.{and-false, or-true}
 use Rattle.std.proofs.lemmas.Option.{same_Some}
 use Rattle.std.proofs.lemmas.Bool.{ltb-true, ltb-false, le-leb, leb-true, and_parts}
@@ -29,17 +30,20 @@ near_low d h = ap (λ b. b || nat_le 65408 d) (le-leb d 127 h)
 near_high : (d : ℕ) → 65408 ≤ d → is_near d ≡ true
 near_high d h = ap (λ b. nat_le d 127 || b) (le-leb 65408 d h) ∙ or-true (nat_le d 127)
 
-taken_if : (d rel : ℕ) → is_near d ≡ true → d % 256 ≡ rel → cond (is_near d) (Some (Number (d % 256))) None ≡ Some (Number rel)
+taken_if : (d rel : ℕ) → is_near d ≡ true → d % 256 ≡ rel
+    → cond (is_near d) (Some (Number (d % 256))) None ≡ Some (Number rel)
 taken_if d rel h e = (λ i. cond (h i) (Some (Number (e i))) None)
 
 -- the byte to the address that a byte leads to
-rel_by : (next rel : ℕ) (b : Bool) → nat_lt rel 128 ≡ b → next < 65536 → rel < 256 → cond b (nat_lt (next + rel) 0x10000) (nat_le 256 (next + rel)) ≡ true
+rel_by : (next rel : ℕ) (b : Bool) → nat_lt rel 128 ≡ b → next < 65536 → rel < 256
+    → cond b (nat_lt (next + rel) 0x10000) (nat_le 256 (next + rel)) ≡ true
     → rel_of next (cond b ((next + rel) % 65536) ((next + 65280 + rel) % 65536)) ≡ Some (Number rel)
 rel_by next rel true test low small h =
     let less : rel < 128 = ltb-true rel 128 test in
     let ends : next + rel < 65536 = ltb-true (next + rel) 65536 h in
     let d : distance next ((next + rel) % 65536) ≡ rel = omega (arith, low, less, ends) in
-    ap (λ n. cond (is_near n) (Some (Number (n % 256))) None) d ∙ taken_if rel rel (near_low rel (omega (arith, less))) (omega (arith, small))
+    ap (λ n. cond (is_near n) (Some (Number (n % 256))) None) d
+    ∙ taken_if rel rel (near_low rel (omega (arith, less))) (omega (arith, small))
 rel_by next rel false test low small h =
     let more : 128 ≤ rel = ltb-false rel 128 test in
     let ends : 256 ≤ next + rel = leb-true 256 (next + rel) h in
@@ -47,11 +51,13 @@ rel_by next rel false test low small h =
     ap (λ n. cond (is_near n) (Some (Number (n % 256))) None) d
     ∙ taken_if (65280 + rel) rel (near_high (65280 + rel) (omega (arith, more))) (omega (arith, small))
 
-rel_back : (next rel : ℕ) → next < 65536 → rel < 256 → ends_inside next rel ≡ true → rel_of next (relative next rel) ≡ Some (Number rel)
+rel_back : (next rel : ℕ) → next < 65536 → rel < 256 → ends_inside next rel ≡ true
+    → rel_of next (relative next rel) ≡ Some (Number rel)
 rel_back next rel low small h = rel_by next rel (nat_lt rel 128) refl low small h
 
 -- the place in the block of the address that it leads to
-block_back : (next address : ℕ) → next < 65536 → address < 2048 → addr11_of next (near next address % 65536) ≡ Some (Number address)
+block_back : (next address : ℕ) → next < 65536 → address < 2048
+    → addr11_of next (near next address % 65536) ≡ Some (Number address)
 block_back next address low small =
     let to = near next address % 65536 in
     let same : to / 2048 ≡ next / 2048 = omega (arith, low, small) in
@@ -83,14 +89,18 @@ module _ (names : Meanings) (segment at : ℕ) (s : StandsAt names segment at) w
   own_rel next address =
       let v : Value = code_value segment address in
       let linked : FieldValue = Linked (reference_of field.Rel v) in
-      (λ i. cond (not (s.absolute i) || true) (cond (current i) (rel_of next address) (cond (is_linked names v.base) (Some linked) (cond (stands_absolute names) (rel_of next address) None))) None)
+      (λ i. cond (not (s.absolute i) || true)
+      (cond (current i) (rel_of next address)
+      (cond (is_linked names v.base) (Some linked) (cond (stands_absolute names) (rel_of next address) None))) None)
 
-  own_block : (next address : ℕ) → field_of names field.Addr11 next (code_value segment address) ≡ addr11_of next address
+  own_block : (next address : ℕ) → field_of names field.Addr11 next (code_value segment address)
+      ≡ addr11_of next address
   unfolding field_of
   own_block next address =
       let v : Value = code_value segment address in
       let linked : FieldValue = Linked (reference_of field.Addr11 v) in
-      (λ i. cond (not (s.absolute i) || true) (cond (own_is_bare i) (Some linked) (cond (absolute i) (addr11_of next address) None)) None)
+      (λ i. cond (not (s.absolute i) || true)
+      (cond (own_is_bare i) (Some linked) (cond (absolute i) (addr11_of next address) None)) None)
 
   own_word : (next address : ℕ) → field_of names field.Addr16 next (code_value segment address) ≡ Some (Number address)
   unfolding field_of
@@ -104,7 +114,8 @@ module _ (names : Meanings) (segment at : ℕ) (s : StandsAt names segment at) w
   unfolding field_of
   bare_rel next address = ap (λ (b : Bool). cond b (rel_of next address) None) absolute
 
-  bare_block : (next address : ℕ) → field_of names field.Addr11 next (plain address kind.Number) ≡ addr11_of next address
+  bare_block : (next address : ℕ) → field_of names field.Addr11 next (plain address kind.Number)
+      ≡ addr11_of next address
   unfolding field_of
   bare_block next address = ap (λ (b : Bool). cond b (addr11_of next address) None) absolute
 
@@ -112,21 +123,26 @@ module _ (names : Meanings) (segment at : ℕ) (s : StandsAt names segment at) w
   unfolding field_of
   bare_word next address = refl
 
-  rel_given : (next address : ℕ) (v : Value) → IsAddressOf segment address v → field_of names field.Rel next v ≡ rel_of next address
+  rel_given : (next address : ℕ) (v : Value) → IsAddressOf segment address v
+      → field_of names field.Rel next v ≡ rel_of next address
   rel_given next address v (Own e) = ap (field_of names field.Rel next) e ∙ own_rel next address
   rel_given next address v (Bare e) = ap (field_of names field.Rel next) e ∙ bare_rel next address
 
-  block_given : (next address : ℕ) (v : Value) → IsAddressOf segment address v → field_of names field.Addr11 next v ≡ addr11_of next address
+  block_given : (next address : ℕ) (v : Value) → IsAddressOf segment address v
+      → field_of names field.Addr11 next v ≡ addr11_of next address
   block_given next address v (Own e) = ap (field_of names field.Addr11 next) e ∙ own_block next address
   block_given next address v (Bare e) = ap (field_of names field.Addr11 next) e ∙ bare_block next address
 
-  word_given : (next address : ℕ) (v : Value) → IsAddressOf segment address v → field_of names field.Addr16 next v ≡ Some (Number address)
+  word_given : (next address : ℕ) (v : Value) → IsAddressOf segment address v
+      → field_of names field.Addr16 next v ≡ Some (Number address)
   word_given next address v (Own e) = ap (field_of names field.Addr16 next) e ∙ own_word next address
   word_given next address v (Bare e) = ap (field_of names field.Addr16 next) e ∙ bare_word next address
 
   -- a field that leads to an address takes the number that it was decoded with
-  pub address_back : (at : Field) (next number address : ℕ) (v : Value) → kept at number ≡ number → leads_inside next at number ≡ true
-      → address_by next at number ≡ Some address → IsAddressOf segment address v → field_of names at (next % 65536) v ≡ Some (Number number)
+  pub address_back : (at : Field) (next number address : ℕ) (v : Value) → kept at number ≡ number
+      → leads_inside next at number ≡ true
+      → address_by next at number ≡ Some address → IsAddressOf segment address v
+      → field_of names at (next % 65536) v ≡ Some (Number number)
   unfolding leads_inside address_by
   address_back field.Rel next number address v holds inside leads is =
       let p = and_parts (nat_lt next 0x10000) (ends_inside next number) inside in
@@ -154,20 +170,24 @@ module _ (names : Meanings) (segment at : ℕ) (s : StandsAt names segment at) w
 byte_taken : (n : ℕ) → n < 256 → nat_le n 0xFF ≡ true
 byte_taken n h = le-leb n 255 (omega (arith, h))
 
-pub data_back : (names : Meanings) (next n : ℕ) → n < 256 → field_of names field.Data next (plain n kind.Number) ≡ Some (Number n)
+pub data_back : (names : Meanings) (next n : ℕ) → n < 256
+    → field_of names field.Data next (plain n kind.Number) ≡ Some (Number n)
 unfolding field_of
 data_back names next n h =
     let same : n % 256 ≡ n = omega (arith, h) in
     (λ i. cond (byte_taken n h i || nat_le 0xFF00 n) (Some (Number (same i))) None)
 
-pub data16_back : (names : Meanings) (next n : ℕ) → field_of names field.Data16 next (plain n kind.Number) ≡ Some (Number n)
+pub data16_back : (names : Meanings) (next n : ℕ) → field_of names field.Data16 next (plain n kind.Number)
+    ≡ Some (Number n)
 unfolding field_of
 data16_back names next n = refl
 
-pub direct_back : (names : Meanings) (next n : ℕ) → n < 256 → field_of names field.Direct next (plain n kind.Number) ≡ Some (Number n)
+pub direct_back : (names : Meanings) (next n : ℕ) → n < 256 → field_of names field.Direct next (plain n kind.Number)
+    ≡ Some (Number n)
 unfolding field_of
 direct_back names next n h = ap (λ (b : Bool). cond b (Some (Number n)) None) (byte_taken n h)
 
-pub bit_back : (names : Meanings) (next n : ℕ) → n < 256 → field_of names field.Bit next (plain n kind.Number) ≡ Some (Number n)
+pub bit_back : (names : Meanings) (next n : ℕ) → n < 256
+    → field_of names field.Bit next (plain n kind.Number) ≡ Some (Number n)
 unfolding field_of
 bit_back names next n h = ap (λ (b : Bool). cond b (Some (Number n)) None) (byte_taken n h)

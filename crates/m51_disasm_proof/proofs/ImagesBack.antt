@@ -9,7 +9,7 @@ use Rattle.m51_asm.specs.Answer.{AnswerTree, IsAnswerOf, IsAnswer}
 use Rattle.m51_asm.specs.Assignment.{Assignment}
 use Rattle.m51_asm.proofs.AnAssignment.{fitting, fits}
 use Rattle.m51_asm.proofs.Members.{In, in_first, in_later}
-use Rattle.m51_disasm.specs.declared.part.Part.{Part}
+use Rattle.m51_disasm.specs.declared.part.CodeRange.{CodeRange}
 use Rattle.m51_disasm.specs.Answer.{disassembled}
 use Rattle.m51_disasm.specs.Lines.{lines_of}
 use Rattle.m51_disasm.specs.Parts.{parts_of}
@@ -22,7 +22,7 @@ use Rattle.m51_disasm_proof.proofs.Reassembled.{module_given}
 use Rattle.m51_disasm_proof.proofs.RoomForParts.{IsSmall}
 
 -- each part is not too large
-each_small : (parts : List Part) → ((p : Part) → In p parts → IsSmall p) → AllByRecursion IsSmall parts
+each_small : (parts : List CodeRange) → ((p : CodeRange) → In p parts → IsSmall p) → AllByRecursion IsSmall parts
 each_small [] h = tt
 each_small (p ∷ parts) h = (h p (in_first p parts), each_small parts (λ q i. h q (in_later q p parts i)))
 
@@ -31,14 +31,17 @@ pub all_small : (l : LayoutParts) → IsSoundLayout l → HaveSizes l → AllByR
 all_small l sound sizes = each_small (parts_of l) (parts_small l sound sizes)
 
 -- the answer is the module of the parts
-pub image_back : (l : LayoutParts) (image text : List ℕ) (source : SourceFile) (answer : AnswerTree) → IsSoundLayout l → HaveSizes l → AreBytes image → disassembled l image ≡ Ok text
+pub image_back : (l : LayoutParts) (image text : List ℕ) (source : SourceFile) (answer : AnswerTree) → IsSoundLayout l
+    → HaveSizes l → AreBytes image → disassembled l image ≡ Ok text
     → source.bytes ≡ text → IsAnswer source [] answer → GivesModule (module_of source.name image (parts_of l)) answer
 image_back l image text source answer sound sizes bytes is source_is answers =
-    let parts : List Part = parts_of l in
+    let parts : List CodeRange = parts_of l in
     let lines : List LineTree = read_from 1 (lines_of image parts) in
     let read = disassembly_read l image text source sound bytes is source_is in
-    let of_lines : IsAnswerOf source.name (Lines lines) answer = subst (λ t. IsAnswerOf source.name t answer) read answers in
+    let of_lines : IsAnswerOf source.name (Lines lines) answer =
+    subst (λ t. IsAnswerOf source.name t answer) read answers in
     let a : Assignment = fitting lines in
     let f = fits lines in
     subst (GivesModule (module_of source.name image parts))
-    (sym (of_lines a f ∙ module_given image bytes parts (parts_inside l sound) (parts_in_order l sound) a f source.name (all_small l sound sizes) (given l image text is).parts)) refl
+    (sym (of_lines a f ∙ module_given image bytes parts (parts_inside l sound) (parts_in_order l sound) a f source.name
+    (all_small l sound sizes) (given l image text is).parts)) refl

@@ -1,5 +1,6 @@
 -- A disassembled instruction is cut into the words of the instruction that is meant.
-use Rattle.std.proofs.Common.{◌≡◌, ℕ, Bool, true, false, not, ◌&&◌, ◌||◌, map, List, [], ◌∷◌, ◌++◌, append-nil, append_assoc, Some, refl, sym, ap, ◌∙◌, subst}
+use Rattle.std.proofs.Common.{◌≡◌, ℕ, Bool, true, false, not, ◌&&◌, ◌||◌, map, List, [], ◌∷◌, ◌++◌, append-nil}
+use Rattle.std.proofs.Common.{append_assoc, Some, refl, sym, ap, ◌∙◌, subst}
 use Rattle.std.specs.Prelude.{codes, option_and_then}
 use Rattle.std.specs.List.{cons_option}
 use Rattle.m51_cells.specs.Name.{name_of}
@@ -51,19 +52,22 @@ by_count : (P : Slot → Slot → Slot → Type 0) → P Nothing Nothing Nothing
     → ((a : Slot) → is_there a ≡ true → P a Nothing Nothing)
     → ((a b : Slot) → is_there a ≡ true → is_there b ≡ true → P a b Nothing)
     → ((a b c : Slot) → is_there a ≡ true → is_there b ≡ true → is_there c ≡ true → P a b c)
-    → (a b c : Slot) → (x y z : Bool) → is_there a ≡ x → is_there b ≡ y → is_there c ≡ z → ((x || not y) && (y || not z)) ≡ true → P a b c
+    → (a b c : Slot) → (x y z : Bool) → is_there a ≡ x → is_there b ≡ y → is_there c ≡ z
+    → ((x || not y) && (y || not z)) ≡ true → P a b c
 by_count P none one two three a b c true true true p q r h = three a b c p q r
 by_count P none one two three a b c true true false p q r h = subst (P a b) (sym (nothing c r)) (two a b p q)
 by_count P none one two three a b c true false false p q r h =
     subst (P a b) (sym (nothing c r)) (subst (λ b. P a b Nothing) (sym (nothing b q)) (one a p))
 by_count P none one two three a b c false false false p q r h =
-    subst (P a b) (sym (nothing c r)) (subst (λ b. P a b Nothing) (sym (nothing b q)) (subst (λ a. P a Nothing Nothing) (sym (nothing a p)) none))
+    subst (P a b) (sym (nothing c r))
+    (subst (λ b. P a b Nothing) (sym (nothing b q)) (subst (λ a. P a Nothing Nothing) (sym (nothing a p)) none))
 by_count P none one two three a b c true false true p q r h = absurd (cc h)
 by_count P none one two three a b c false true z p q r h = absurd (cc h)
 by_count P none one two three a b c false false true p q r h = absurd (cc h)
 
 -- the symbols of an operand before words with these symbols
-part_symbols : (o : OperandTree) (xs ys : List Word) → map symbol xs ≡ map symbol ys → map symbol (operand_words o xs) ≡ map symbol (operand_words o ys)
+part_symbols : (o : OperandTree) (xs ys : List Word) → map symbol xs ≡ map symbol ys
+    → map symbol (operand_words o xs) ≡ map symbol (operand_words o ys)
 part_symbols o xs ys e =
     let part = operand_part o in
     part.before xs ∙ ap (λ l. map symbol (operand_words o []) ++ l) e ∙ sym (part.before ys)
@@ -79,7 +83,8 @@ pub record IsReadCode (t : Target) (mnemonic : List ℕ) (a b c : Slot) : Type 0
   pub operands : List OperandTree
   pub is : operands_of t (text mnemonic a b c) ≡ operands
   pub form : has_form mnemonic operands ≡ has_row mnemonic (look_of a) (look_of b) (look_of c)
-  pub row : (form : Jump) → option_and_then line_row (line_of mnemonic operands form) ≡ row_for mnemonic form (look_of a) (look_of b) (look_of c)
+  pub row : (form : Jump) → option_and_then line_row (line_of mnemonic operands form)
+      ≡ row_for mnemonic form (look_of a) (look_of b) (look_of c)
   pub each : Each IsOperand operands
   pub words : List Word
   pub symbols : map symbol words ≡ map symbol (body_words (Code mnemonic operands))
@@ -99,12 +104,14 @@ module _ (t : Target) (m : List ℕ) (written : name_of m ≡ Some m) where
     each = tt;
     words = name_word m ∷ [];
     symbols = refl;
-    cut = joined m [] [] [] (name_word m ∷ []) (after_word (name_word m) [] [] (name_stands m [] written refl) no_words);
+    cut = joined m [] [] [] (name_word m ∷ [])
+        (after_word (name_word m) [] [] (name_stands m [] written refl) no_words);
   }
 
   -- the mnemonic and a blank before the operands
   begun : (rest : List ℕ) (ws : List Word) → IsCutInto rest ws → IsCutInto (m ++ 32 ∷ rest) (name_word m ∷ ws)
-  begun rest ws c = after_word (name_word m) (32 ∷ rest) ws (name_stands m (32 ∷ rest) written refl) (after_blank rest ws c)
+  begun rest ws c = after_word (name_word m) (32 ∷ rest) ws (name_stands m (32 ∷ rest) written refl)
+      (after_blank rest ws c)
 
   with_one : (a : Slot) → is_there a ≡ true → IsReadOperand t a → IsReadCode t m a Nothing Nothing
   unfolding after spelled
@@ -117,13 +124,15 @@ module _ (t : Target) (m : List ℕ) (written : name_of m ≡ Some m) where
     words = name_word m ∷ x.words [];
     symbols = ap (λ l. symbol (name_word m) ∷ l) (x.symbols []);
     cut = joined m (after (codes " ") t a) [] [] (name_word m ∷ x.words [])
-        (subst (λ l. IsCutInto (m ++ (l ++ [])) (name_word m ∷ x.words [])) (sym (after_there (codes " ") t a p)) (begun _ _ (x.cut [] [] refl no_words)));
+        (subst (λ l. IsCutInto (m ++ (l ++ [])) (name_word m ∷ x.words [])) (sym (after_there (codes " ") t a p))
+        (begun _ _ (x.cut [] [] refl no_words)));
   }
 
   comma : (rest : List ℕ) (ws : List Word) → IsCutInto rest ws → IsCutInto (44 ∷ rest) (comma_word ∷ ws)
   comma rest ws c = after_word comma_word rest ws (comma_stands rest) c
 
-  with_two : (a b : Slot) → is_there a ≡ true → is_there b ≡ true → IsReadOperand t a → IsReadOperand t b → IsReadCode t m a b Nothing
+  with_two : (a b : Slot) → is_there a ≡ true → is_there b ≡ true → IsReadOperand t a → IsReadOperand t b
+      → IsReadCode t m a b Nothing
   unfolding after spelled
   with_two a b p q x y =
       let ws : List Word = name_word m ∷ x.words (comma_word ∷ y.words []) in
@@ -134,7 +143,10 @@ module _ (t : Target) (m : List ℕ) (written : name_of m ≡ Some m) where
         row = λ form. (λ i. row_for m form (x.look i) (y.look i) (look_of Nothing));
         each = (x.good, (y.good, tt));
         words = ws;
-        symbols = ap (λ l. symbol (name_word m) ∷ l) (x.symbols (comma_word ∷ y.words []) ∙ part_symbols x.operand (comma_word ∷ y.words []) (comma_word ∷ operand_words y.operand []) (ap (λ l. symbol comma_word ∷ l) (y.symbols [])));
+        symbols = ap (λ l. symbol (name_word m) ∷ l)
+            (x.symbols (comma_word ∷ y.words [])
+            ∙ part_symbols x.operand (comma_word ∷ y.words []) (comma_word ∷ operand_words y.operand [])
+            (ap (λ l. symbol comma_word ∷ l) (y.symbols [])));
         cut =
             joined m (after (codes " ") t a) (after (codes ",") t b) [] ws
             (subst (λ l. IsCutInto (m ++ (l ++ (after (codes ",") t b ++ []))) ws) (sym (after_there (codes " ") t a p))
@@ -142,12 +154,14 @@ module _ (t : Target) (m : List ℕ) (written : name_of m ≡ Some m) where
             (begun _ _ (x.cut _ _ refl (comma _ _ (y.cut [] [] refl no_words))))));
       }
 
-  with_three : (a b c : Slot) → is_there a ≡ true → is_there b ≡ true → is_there c ≡ true → IsReadOperand t a → IsReadOperand t b → IsReadOperand t c → IsReadCode t m a b c
+  with_three : (a b c : Slot) → is_there a ≡ true → is_there b ≡ true → is_there c ≡ true → IsReadOperand t a
+      → IsReadOperand t b → IsReadOperand t c → IsReadCode t m a b c
   unfolding after spelled
   with_three a b c p q r x y z =
       let last : List Word = comma_word ∷ z.words [] in
       let ws : List Word = name_word m ∷ x.words (comma_word ∷ y.words last) in
-      let later = y.symbols last ∙ part_symbols y.operand last (comma_word ∷ operand_words z.operand []) (ap (λ l. symbol comma_word ∷ l) (z.symbols [])) in
+      let later = y.symbols last ∙ part_symbols y.operand last (comma_word ∷ operand_words z.operand [])
+      (ap (λ l. symbol comma_word ∷ l) (z.symbols [])) in
       record {
         operands = x.operand ∷ y.operand ∷ z.operand ∷ [];
         is = (λ i. cons_option (x.is i) (cons_option (y.is i) (cons_option (z.is i) [])));
@@ -155,13 +169,21 @@ module _ (t : Target) (m : List ℕ) (written : name_of m ≡ Some m) where
         row = λ form. (λ i. row_for m form (x.look i) (y.look i) (z.look i));
         each = (x.good, (y.good, (z.good, tt)));
         words = ws;
-        symbols = ap (λ l. symbol (name_word m) ∷ l) (x.symbols (comma_word ∷ y.words last) ∙ part_symbols x.operand (comma_word ∷ y.words last) (comma_word ∷ operand_words y.operand (comma_word ∷ operand_words z.operand [])) (ap (λ l. symbol comma_word ∷ l) later));
+        symbols = ap (λ l. symbol (name_word m) ∷ l)
+            (x.symbols (comma_word ∷ y.words last)
+            ∙ part_symbols x.operand (comma_word ∷ y.words last)
+            (comma_word ∷ operand_words y.operand (comma_word ∷ operand_words z.operand []))
+            (ap (λ l. symbol comma_word ∷ l) later));
         cut =
             joined m (after (codes " ") t a) (after (codes ",") t b) (after (codes ",") t c) ws
-            (subst (λ l. IsCutInto (m ++ (l ++ (after (codes ",") t b ++ after (codes ",") t c))) ws) (sym (after_there (codes " ") t a p))
-            (subst (λ l. IsCutInto (m ++ 32 ∷ (operand_text t a ++ (l ++ after (codes ",") t c))) ws) (sym (after_there (codes ",") t b q))
-            (subst (λ l. IsCutInto (m ++ 32 ∷ (operand_text t a ++ 44 ∷ (operand_text t b ++ l))) ws) (sym (after_there (codes ",") t c r))
-            (subst (λ l. IsCutInto (m ++ 32 ∷ (operand_text t a ++ 44 ∷ (operand_text t b ++ 44 ∷ l))) ws) (append-nil (operand_text t c))
+            (subst (λ l. IsCutInto (m ++ (l ++ (after (codes ",") t b ++ after (codes ",") t c))) ws)
+            (sym (after_there (codes " ") t a p))
+            (subst (λ l. IsCutInto (m ++ 32 ∷ (operand_text t a ++ (l ++ after (codes ",") t c))) ws)
+            (sym (after_there (codes ",") t b q))
+            (subst (λ l. IsCutInto (m ++ 32 ∷ (operand_text t a ++ 44 ∷ (operand_text t b ++ l))) ws)
+            (sym (after_there (codes ",") t c r))
+            (subst (λ l. IsCutInto (m ++ 32 ∷ (operand_text t a ++ 44 ∷ (operand_text t b ++ 44 ∷ l))) ws)
+            (append-nil (operand_text t c))
             (begun _ _ (x.cut _ _ refl (comma _ _ (y.cut _ _ refl (comma _ _ (z.cut [] [] refl no_words))))))))));
       }
 
@@ -186,15 +208,22 @@ mnemonic_word Nop = refl
 mnemonic_word i = refl
 
 -- each row is one that the assembler finds
-row_is_found : (i : Instr) → has_row (text_of i).mnemonic (look_of (text_of i).first) (look_of (text_of i).second) (look_of (text_of i).third) ≡ true
+row_is_found : (i : Instr)
+    → has_row (text_of i).mnemonic (look_of (text_of i).first) (look_of (text_of i).second) (look_of (text_of i).third)
+    ≡ true
 unfolding has_row arithmetic logic moves branches jumps
 row_is_found Nop = refl
 row_is_found i = refl
 
 -- an instruction of a row is read, and it is one of the grammar
-pub instruction_read : (t : Target) (i : Instr) → AreSlots t (text_of i) → IsReadCode t (text_of i).mnemonic (text_of i).first (text_of i).second (text_of i).third
+pub instruction_read : (t : Target) (i : Instr) → AreSlots t (text_of i)
+    → IsReadCode t (text_of i).mnemonic (text_of i).first (text_of i).second (text_of i).third
 instruction_read t i h =
-    read_code t (text_of i).mnemonic (mnemonic_written i) (text_of i).first (text_of i).second (text_of i).third (rows_in_order i) h.first h.second h.third
+    read_code t (text_of i).mnemonic (mnemonic_written i) (text_of i).first (text_of i).second (text_of i).third
+    (rows_in_order i) h.first h.second h.third
 
-pub instruction_is_code : (t : Target) (i : Instr) → (r : IsReadCode t (text_of i).mnemonic (text_of i).first (text_of i).second (text_of i).third) → IsCode (text_of i).mnemonic r.operands
-instruction_is_code t i r = record { written = mnemonic_written i; word = mnemonic_word i; form = r.form ∙ row_is_found i; each = r.each }
+pub instruction_is_code : (t : Target) (i : Instr)
+    → (r : IsReadCode t (text_of i).mnemonic (text_of i).first (text_of i).second (text_of i).third)
+    → IsCode (text_of i).mnemonic r.operands
+instruction_is_code t i r =
+    record { written = mnemonic_written i; word = mnemonic_word i; form = r.form ∙ row_is_found i; each = r.each }

@@ -1,5 +1,6 @@
 -- Labels of two addresses are two names.
-use Rattle.std.proofs.Common.{◌≡◌, ◌≢◌, ℕ, ◌+◌, ◌-◌, ◌*◌, ◌/◌, ◌%◌, ◌<◌, ◌≤◌, nat_lt, Bool, true, false, cond, List, get_or, refl, sym, ap, ◌∙◌, arith}
+use Rattle.std.proofs.Common.{◌≡◌, ◌≢◌, ℕ, ◌+◌, ◌-◌, ◌*◌, ◌/◌, ◌%◌, ◌<◌, ◌≤◌, nat_lt, Bool, true, false, cond, List}
+use Rattle.std.proofs.Common.{get_or, refl, sym, ap, ◌∙◌, arith}
 use Rattle.std.specs.Fmt.{digit_glyph}
 use Rattle.std.specs.Str.{bytes_eq}
 use Rattle.std.proofs.lemmas.Bool.{ltb-true, ltb-false, lt-ltb, le-ltb}
@@ -35,7 +36,8 @@ address_back address low =
     let b = digit_back (address / 256 % 16) (omega arith) in
     let c = digit_back (address % 256 / 16) (omega arith) in
     let d = digit_back (address % 256 % 16) (omega arith) in
-    let whole : (address / 256 / 16 * 16 + address / 256 % 16) * 256 + (address % 256 / 16 * 16 + address % 256 % 16) ≡ address =
+    let whole : (address / 256 / 16 * 16 + address / 256 % 16) * 256 + (address % 256 / 16 * 16 + address % 256 % 16)
+    ≡ address =
     omega arith in
     (λ i. (a i * 16 + b i) * 256 + (c i * 16 + d i)) ∙ whole
 
@@ -45,9 +47,11 @@ label_is s t low small e = sym (address_back s low) ∙ ap address_in e ∙ addr
 pub same_label : (s : ℕ) → bytes_eq (label_text s) (label_text s) ≡ true
 same_label s = (bytes_eq-Decides (label_text s) (label_text s)).1 refl
 
-other_by : (s t : ℕ) (b : Bool) → bytes_eq (label_text s) (label_text t) ≡ b → s < 65536 → t < 65536 → s ≢ t → bytes_eq (label_text s) (label_text t) ≡ false
+other_by : (s t : ℕ) (b : Bool) → bytes_eq (label_text s) (label_text t) ≡ b → s < 65536 → t < 65536 → s ≢ t
+    → bytes_eq (label_text s) (label_text t) ≡ false
 other_by s t false e low small ne = e
-other_by s t true e low small ne = absurd (ne (label_is s t low small ((bytes_eq-Decides (label_text s) (label_text t)).0 e)))
+other_by s t true e low small ne =
+    absurd (ne (label_is s t low small ((bytes_eq-Decides (label_text s) (label_text t)).0 e)))
 
 pub other_label : (s t : ℕ) → s < 65536 → t < 65536 → s ≢ t → bytes_eq (label_text s) (label_text t) ≡ false
 other_label s t low small ne = other_by s t (bytes_eq (label_text s) (label_text t)) refl low small ne

@@ -1,5 +1,6 @@
 -- The labels of a disassembly are names that a statement may define.
-use Rattle.std.proofs.Common.{◌≡◌, ◌≢◌, ℕ, ◌/◌, ◌%◌, ◌<◌, ◌&&◌, nat_eq, cond, Bool, true, false, List, [], ◌∷◌, length, Some, None, refl, ap, ◌∙◌, arith}
+use Rattle.std.proofs.Common.{◌≡◌, ◌≢◌, ℕ, ◌/◌, ◌%◌, ◌<◌, ◌&&◌, nat_eq, cond, Bool, true, false, List, [], ◌∷◌, length}
+use Rattle.std.proofs.Common.{Some, None, refl, ap, ◌∙◌, arith}
 use Rattle.std.specs.Prelude.{codes}
 use Rattle.std.specs.Char.{to_ascii_uppercase}
 use Rattle.std.specs.Fmt.{digit_glyph}
@@ -9,7 +10,8 @@ use Rattle.std.proofs.lemmas.Slice.Eq.{bytes_eq-Decides}
 use Rattle.m51_cells.specs.Name as cells
 use Rattle.m51_cells.specs.Name.{name_of}
 use Rattle.m51_expr.specs.declared.symbol.Symbol.TheVariants as symbols
-use Rattle.m51_expr.specs.Symbol.{operator_of, prefix_word, relation_word, arithmetic_word, word_symbol, operator_or_word}
+use Rattle.m51_expr.specs.Symbol.{operator_of, prefix_word, relation_word, arithmetic_word, word_symbol}
+use Rattle.m51_expr.specs.Symbol.{operator_or_word}
 use Rattle.m51_expr.specs.Words.{is_language_word, is_reserved}
 use Rattle.m51_stmt.proofs.PrintedTrees.{IsLeafName}
 use Rattle.m51_stmt.proofs.PrintedExterns.{IsFree}
@@ -22,7 +24,11 @@ record IsGlyph (c : ℕ) : Type 0 where
   letter : nat_eq 0x4C c ≡ false
 
 glyph : (d : ℕ) → d < 16 → IsGlyph (digit_glyph true d)
-glyph d h = record { name = grind (arith, common_steps, h); upper = grind (arith, common_steps, h); letter = grind (arith, common_steps, h) }
+glyph d h = record {
+  name = grind (arith, common_steps, h);
+  upper = grind (arith, common_steps, h);
+  letter = grind (arith, common_steps, h);
+}
 
 decided : (b : Bool) → ((b ≡ true) → ⊥) → b ≡ false
 decided true h = absurd (h refl)

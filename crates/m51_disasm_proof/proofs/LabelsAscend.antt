@@ -1,10 +1,11 @@
 -- The labels of a disassembly ascend.
-use Rattle.std.proofs.Common.{ℕ, ◌+◌, ◌<◌, ◌≤◌, Bool, true, false, cond, List, [], ◌∷◌, ◌++◌, map, flat_map, append_assoc, Some, None, sym, subst, arith}
+use Rattle.std.proofs.Common.{ℕ, ◌+◌, ◌<◌, ◌≤◌, Bool, true, false, cond, List, [], ◌∷◌, ◌++◌, map, flat_map}
+use Rattle.std.proofs.Common.{append_assoc, Some, None, sym, subst, arith}
 use Rattle.std.specs.List.{AllByRecursion}
 use Rattle.m51_isa.proofs.Codes.{rows_are_short}
-use Rattle.m51_disasm.specs.declared.line.Line.{Line}
-use Rattle.m51_disasm.specs.declared.line.Line.TheVariants as line
-use Rattle.m51_disasm.specs.declared.part.Part.{Part}
+use Rattle.m51_disasm.specs.declared.line.SourceLine.{SourceLine}
+use Rattle.m51_disasm.specs.declared.line.SourceLine.TheVariants as line
+use Rattle.m51_disasm.specs.declared.part.CodeRange.{CodeRange}
 use Rattle.m51_disasm.specs.declared.statement.Content.{Content}
 use Rattle.m51_disasm.specs.declared.statement.Content.TheVariants as content
 use Rattle.m51_disasm.specs.declared.statement.Statement.{Statement}
@@ -21,10 +22,11 @@ some_bytes (content.Byte byte) = omega arith
 some_bytes (content.Code i) = (rows_are_short i).one
 
 -- the rest of the lines ascends from each address up to this one
-abbrev AscendsTo : ℕ → List Line → Type 0
+abbrev AscendsTo : ℕ → List SourceLine → Type 0
 AscendsTo to rest = (low : ℕ) → low ≤ to → Ascends low rest
 
-label_first : (b : Bool) (low at to : ℕ) (rest : List Line) → low ≤ at → at < 65536 → at + 1 ≤ to → AscendsTo to rest
+label_first : (b : Bool) (low at to : ℕ) (rest : List SourceLine) → low ≤ at → at < 65536 → at + 1 ≤ to
+    → AscendsTo to rest
     → LiesFrom low (cond b (Some at) None) × Ascends (after_label low (cond b (Some at) None)) rest
 label_first true low at to rest from small next h = ((from, small), h (at + 1) next)
 label_first false low at to rest from small next h = (tt, h low (omega (arith, from, next)))
@@ -36,7 +38,8 @@ follows_to from to (s ∷ statements) h =
     let more = follows_to (from + length_in s.content) to statements h.1 in
     omega (arith, some, more)
 
-statements_ascend : (begin led : List ℕ) (statements : List Statement) (from to : ℕ) (rest : List Line) → Follow from statements to → to ≤ 65536 → AscendsTo to rest
+statements_ascend : (begin led : List ℕ) (statements : List Statement) (from to : ℕ) (rest : List SourceLine)
+    → Follow from statements to → to ≤ 65536 → AscendsTo to rest
     → AscendsTo from (map (line_of begin led) statements ++ rest)
 statements_ascend begin led [] from to rest f small h low below = h low (let e = f in omega (arith, e, below))
 statements_ascend begin led (s ∷ statements) from to rest f small h low below =
@@ -47,20 +50,24 @@ statements_ascend begin led (s ∷ statements) from to rest f small h low below 
     (omega (arith, at, below)) (omega (arith, at, some, next, small)) (omega (arith, at, some))
     (statements_ascend begin led statements (from + length_in s.content) to rest f.1 small h)
 
-parts_ascend : (image : List ℕ) (parts : List Part) (low : ℕ) → AllByRecursion IsInside parts → AreInOrder low parts
+parts_ascend : (image : List ℕ) (parts : List CodeRange) (low : ℕ) → AllByRecursion IsInside parts
+    → AreInOrder low parts
     → AscendsTo low (flat_map (part_lines image) parts ++ line.End ∷ [])
 unfolding part_lines
 parts_ascend image [] low inside order from below = (tt, tt)
 parts_ascend image (part ∷ parts) low inside order from below =
     let statements : List Statement = statements_of image part in
-    let rest : List Line = flat_map (part_lines image) parts ++ line.End ∷ [] in
+    let rest : List SourceLine = flat_map (part_lines image) parts ++ line.End ∷ [] in
     let first = order.0 in
-    subst (Ascends from) (sym (append_assoc (part_lines image part) (flat_map (part_lines image) parts) (line.End ∷ []))) (
+    subst (Ascends from) (sym
+    (append_assoc (part_lines image part) (flat_map (part_lines image) parts) (line.End ∷ []))) (
       tt,
-      statements_ascend (beginnings statements) (targets statements) statements part.base (part.base + part.size) rest (part_follows image part) inside.0.ends
+      statements_ascend (beginnings statements) (targets statements) statements part.base (part.base + part.size) rest
+          (part_follows image part) inside.0.ends
           (parts_ascend image parts (part.base + part.size) inside.1 order.1) from (omega (arith, first, below)),
     )
 
-pub lines_ascend : (image : List ℕ) (parts : List Part) → AllByRecursion IsInside parts → AreInOrder 0 parts → Ascends 0 (lines_of image parts)
+pub lines_ascend : (image : List ℕ) (parts : List CodeRange) → AllByRecursion IsInside parts → AreInOrder 0 parts
+    → Ascends 0 (lines_of image parts)
 unfolding lines_of
 lines_ascend image parts inside order = (tt, parts_ascend image parts 0 inside order 0 (omega arith))

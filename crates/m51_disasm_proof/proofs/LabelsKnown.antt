@@ -1,5 +1,6 @@
 -- A label of a disassembly has the value of its address.
-use Rattle.std.proofs.Common.{◌≡◌, ℕ, zero, suc, ◌+◌, ◌%◌, ◌<◌, true, cond, List, [], ◌∷◌, ◌++◌, length, map, flat_map, Some, None, sym, ap, ◌∙◌, subst, arith}
+use Rattle.std.proofs.Common.{◌≡◌, ℕ, zero, suc, ◌+◌, ◌%◌, ◌<◌, true, cond, List, [], ◌∷◌, ◌++◌, length, map, flat_map}
+use Rattle.std.proofs.Common.{Some, None, sym, ap, ◌∙◌, subst, arith}
 use Rattle.std.specs.Prelude.{slice_get}
 use Rattle.std.specs.List.{AllByRecursion}
 use Rattle.m51_cells.specs.declared.kind.Base.TheVariants as base
@@ -8,9 +9,9 @@ use Rattle.m51_expr.specs.declared.value.Part.TheVariants.{Whole}
 use Rattle.m51_asm.specs.Assignment.{Assignment, absolute, here_at}
 use Rattle.m51_asm.specs.Definitions.{definition_of}
 use Rattle.m51_asm.specs.Fitting.{named_value, Fits}
-use Rattle.m51_disasm.specs.declared.line.Line.{Line}
-use Rattle.m51_disasm.specs.declared.line.Line.TheVariants as line
-use Rattle.m51_disasm.specs.declared.part.Part.{Part}
+use Rattle.m51_disasm.specs.declared.line.SourceLine.{SourceLine}
+use Rattle.m51_disasm.specs.declared.line.SourceLine.TheVariants as line
+use Rattle.m51_disasm.specs.declared.part.CodeRange.{CodeRange}
 use Rattle.m51_disasm.specs.declared.statement.Statement.{Statement}
 use Rattle.m51_disasm.specs.Lines.{is_among, beginnings, targets, line_of, part_lines, lines_of}
 use Rattle.m51_disasm.specs.Parts.{IsInside}
@@ -30,24 +31,26 @@ use Rattle.m51_disasm_proof.proofs.StatementsStand.{around, statement_spot}
 -- ---- the line of a statement
 
 -- a line after others
-later_line : (front back : List Line) (i : ℕ) → slice_get (front ++ back) (length front + i) ≡ slice_get back i
+later_line : (front back : List SourceLine) (i : ℕ) → slice_get (front ++ back) (length front + i) ≡ slice_get back i
 later_line [] back i = let same : 0 + i ≡ i = omega arith in ap (slice_get back) same
 later_line (l ∷ front) back i =
     let next : suc (length front) + i ≡ suc (length front + i) = omega arith in
     ap (slice_get (l ∷ (front ++ back))) next ∙ later_line front back i
 
-got_mapped : (f : Statement → Line) (statements : List Statement) (rest : List Line) (j : ℕ) (s : Statement) → slice_get statements j ≡ Some s → slice_get (map f statements ++ rest) j ≡ Some (f s)
+got_mapped : (f : Statement → SourceLine) (statements : List Statement) (rest : List SourceLine) (j : ℕ) (s : Statement)
+    → slice_get statements j ≡ Some s → slice_get (map f statements ++ rest) j ≡ Some (f s)
 got_mapped f [] rest j s e = absurd (cc e)
 got_mapped f (x ∷ statements) rest zero s e = let same : x ≡ s = cc e in ap (λ y. Some (f y)) same
 got_mapped f (x ∷ statements) rest (suc j) s e = got_mapped f statements rest j s e
 
-pub statement_line_at : (image : List ℕ) (before : List Part) (part : Part) (after : List Part) (j : ℕ) (s : Statement) → slice_get (statements_of image part) j ≡ Some s
+pub statement_line_at : (image : List ℕ) (before : List CodeRange) (part : CodeRange) (after : List CodeRange) (j : ℕ)
+    (s : Statement) → slice_get (statements_of image part) j ≡ Some s
     → slice_get (lines_of image (before ++ part ∷ after)) (lines_before image before + suc j)
     ≡ Some (line_of (beginnings (statements_of image part)) (targets (statements_of image part)) s)
 unfolding part_lines
 statement_line_at image before part after j s e =
     let statements : List Statement = statements_of image part in
-    let rest : List Line = flat_map (part_lines image) after ++ line.End ∷ [] in
+    let rest : List SourceLine = flat_map (part_lines image) after ++ line.End ∷ [] in
     ap (λ l. slice_get l (lines_before image before + suc j)) (around image before part after)
     ∙ later_line (line.Nomod51 ∷ flat_map (part_lines image) before) (part_lines image part ++ rest) (suc j)
     ∙ got_mapped (line_of (beginnings statements) (targets statements)) statements rest j s e
@@ -55,17 +58,25 @@ statement_line_at image before part after j s e =
 -- ---- values
 
 -- a place, as a value
-pub place_value : (a : Assignment) (k segment address at : ℕ) → address < 65536 → IsSpot a k (record { segment = absolute segment kind.Code at; place = address })
+pub place_value : (a : Assignment) (k segment address at : ℕ) → address < 65536
+    → IsSpot a k (record { segment = absolute segment kind.Code at; place = address })
     → here_at a k ≡ code_value segment address
 place_value a k segment address at small spot =
     let same : address % 65536 ≡ address = omega (arith, small) in
     let first : here_at a k ≡ code_value segment (address % 65536) =
-    (λ i. record { number = spot.place i % 65536; class = (spot.segment i).kind; base = base.Segment (spot.segment i).id; part = Whole }) in
+    (λ i. record {
+      number = spot.place i % 65536;
+      class = (spot.segment i).kind;
+      base = base.Segment (spot.segment i).id;
+      part = Whole;
+    }) in
     first ∙ ap (code_value segment) same
 
-module _ (image : List ℕ) (bytes : AreBytes image) (before : List Part) (part : Part) (after : List Part) (inside : AllByRecursion IsInside (before ++ part ∷ after))
-    (order : AreInOrder 0 (before ++ part ∷ after)) (a : Assignment) (f : Fits (read_from 1 (lines_of image (before ++ part ∷ after))) a) where
-  abbrev ls : List Line
+module _ (image : List ℕ) (bytes : AreBytes image) (before : List CodeRange) (part : CodeRange) (after : List CodeRange)
+    (inside : AllByRecursion IsInside (before ++ part ∷ after))
+    (order : AreInOrder 0 (before ++ part ∷ after)) (a : Assignment)
+    (f : Fits (read_from 1 (lines_of image (before ++ part ∷ after))) a) where
+  abbrev ls : List SourceLine
   ls = lines_of image (before ++ part ∷ after)
 
   abbrev statements : List Statement
@@ -73,14 +84,18 @@ module _ (image : List ℕ) (bytes : AreBytes image) (before : List Part) (part 
 
   -- the spot of a statement
   pub stands_there : (j : ℕ) (s : Statement) → slice_get statements j ≡ Some s
-      → IsSpot a (lines_before image before + suc j) (record { segment = absolute (lines_before image before + 2) kind.Code part.base; place = s.at })
-  stands_there j s e = lines_stand ls (lines_sound image bytes (before ++ part ∷ after) inside) a f (lines_before image before + suc j) _ (statement_spot image before part after j s e)
+      → IsSpot a (lines_before image before + suc j)
+      (record { segment = absolute (lines_before image before + 2) kind.Code part.base; place = s.at })
+  stands_there j s e = lines_stand ls (lines_sound image bytes (before ++ part ∷ after) inside) a f
+      (lines_before image before + suc j) _ (statement_spot image before part after j s e)
 
-  label_there : (j : ℕ) (s : Statement) → is_among (targets statements) s.at ≡ true → label_of (line_of (beginnings statements) (targets statements) s) ≡ Some s.at
+  label_there : (j : ℕ) (s : Statement) → is_among (targets statements) s.at ≡ true
+      → label_of (line_of (beginnings statements) (targets statements) s) ≡ Some s.at
   label_there j s led = ap (λ b. cond b (Some s.at) None) led
 
   -- the label of a statement that others lead to
-  pub label_known : (j : ℕ) (s : Statement) → slice_get statements j ≡ Some s → is_among (targets statements) s.at ≡ true → (k : ℕ)
+  pub label_known : (j : ℕ) (s : Statement) → slice_get statements j ≡ Some s
+      → is_among (targets statements) s.at ≡ true → (k : ℕ)
       → a.value k (label_text s.at) ≡ Some (code_value (lines_before image before + 2) s.at)
   unfolding definition_of
   label_known j s e led k =
@@ -91,13 +106,17 @@ module _ (image : List ℕ) (bytes : AreBytes image) (before : List Part) (part 
       let small : s.at < 65536 = label_small ls 0 n l s.at ascends there (label_there j s led) in
       let same : 0 + n ≡ n = omega arith in
       f.values k (label_text s.at)
-      ∙ ap (named_value (read_from 1 ls) a k (label_text s.at)) (defined_from ls 0 1 0 n s.at l ascends small there (label_there j s led) ∙ ap label_in same)
+      ∙ ap (named_value (read_from 1 ls) a k (label_text s.at))
+      (defined_from ls 0 1 0 n s.at l ascends small there (label_there j s led) ∙ ap label_in same)
       ∙ ap (λ v. Some v) (place_value a n (lines_before image before + 2) s.at part.base small (stands_there j s e))
 
 -- the same of a part of these
-pub label_of_part : (image : List ℕ) (bytes : AreBytes image) (parts : List Part) (inside : AllByRecursion IsInside parts) (order : AreInOrder 0 parts) (a : Assignment)
-    → Fits (read_from 1 (lines_of image parts)) a → (before : List Part) (part : Part) (after : List Part) → parts ≡ before ++ part ∷ after
-    → (j : ℕ) (s : Statement) → slice_get (statements_of image part) j ≡ Some s → is_among (targets (statements_of image part)) s.at ≡ true → (k : ℕ)
+pub label_of_part : (image : List ℕ) (bytes : AreBytes image) (parts : List CodeRange)
+    (inside : AllByRecursion IsInside parts) (order : AreInOrder 0 parts) (a : Assignment)
+    → Fits (read_from 1 (lines_of image parts)) a
+    → (before : List CodeRange) (part : CodeRange) (after : List CodeRange) → parts ≡ before ++ part ∷ after
+    → (j : ℕ) (s : Statement) → slice_get (statements_of image part) j ≡ Some s
+    → is_among (targets (statements_of image part)) s.at ≡ true → (k : ℕ)
     → a.value k (label_text s.at) ≡ Some (code_value (lines_before image before + 2) s.at)
 label_of_part image bytes parts inside order a f before part after is j s e led k =
     subst (λ ps. AllByRecursion IsInside ps → AreInOrder 0 ps → Fits (read_from 1 (lines_of image ps)) a

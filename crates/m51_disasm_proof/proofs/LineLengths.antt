@@ -8,13 +8,14 @@ use Rattle.m51_isa.specs.declared.slot.Field.TheVariants as field
 use Rattle.m51_isa.specs.declared.slot.Slot.{Slot}
 use Rattle.m51_isa.specs.declared.slot.Slot.TheVariants.{Nothing, Imm, Plain}
 use Rattle.m51_isa.specs.Spelling.{text_of}
-use Rattle.m51_disasm.specs.declared.line.Line.{Line}
-use Rattle.m51_disasm.specs.declared.line.Line.TheVariants as line
+use Rattle.m51_disasm.specs.declared.line.SourceLine.{SourceLine}
+use Rattle.m51_disasm.specs.declared.line.SourceLine.TheVariants as line
 use Rattle.m51_disasm.specs.declared.line.Target.{Target}
 use Rattle.m51_disasm.specs.declared.line.Target.TheVariants as target
 use Rattle.m51_disasm.specs.declared.statement.Content.{Content}
 use Rattle.m51_disasm.specs.declared.statement.Content.TheVariants as content
-use Rattle.m51_disasm.specs.Texts.{target_text, data_text, plain_text, operand_text, after, spelled, content_text, label_front, statement_text, line_text}
+use Rattle.m51_disasm.specs.Texts.{target_text, data_text, plain_text, operand_text, after, spelled, content_text}
+use Rattle.m51_disasm.specs.Texts.{label_front, statement_text, line_text}
 
 target_few : (t : Target) → length (target_text t) ≤ 6
 unfolding target_text
@@ -42,13 +43,15 @@ operand_few t s = omega arith
 after_few : (sign : List ℕ) (t : Target) (s : Slot) → length sign ≤ 1 → length (after sign t s) ≤ 8
 unfolding after
 after_few sign t Nothing h = omega arith
-after_few sign t s h = let few = operand_few t s in let e = length-append sign (operand_text t s) in omega (arith, few, e, h)
+after_few sign t s h = let few = operand_few t s in let e = length-append sign (operand_text t s) in
+    omega (arith, few, e, h)
 
 mnemonic_few : (i : Instr) → length (text_of i).mnemonic ≤ 5
 mnemonic_few Nop = omega arith
 mnemonic_few i = omega arith
 
-joined_few : (m a b c : List ℕ) → length m ≤ 5 → length a ≤ 8 → length b ≤ 8 → length c ≤ 8 → length (((m ++ a) ++ b) ++ c) ≤ 29
+joined_few : (m a b c : List ℕ) → length m ≤ 5 → length a ≤ 8 → length b ≤ 8 → length c ≤ 8
+    → length (((m ++ a) ++ b) ++ c) ≤ 29
 joined_few m a b c h k l n =
     let one = length-append ((m ++ a) ++ b) c in
     let two = length-append (m ++ a) b in
@@ -59,8 +62,10 @@ content_few : (t : Target) (c : Content) → length (content_text t c) ≤ 29
 unfolding content_text spelled
 content_few t (content.Byte byte) = omega arith
 content_few t (content.Code i) =
-    joined_few (text_of i).mnemonic (after (codes " ") t (text_of i).first) (after (codes ",") t (text_of i).second) (after (codes ",") t (text_of i).third)
-    (mnemonic_few i) (after_few (codes " ") t (text_of i).first (omega arith)) (after_few (codes ",") t (text_of i).second (omega arith))
+    joined_few (text_of i).mnemonic (after (codes " ") t (text_of i).first) (after (codes ",") t (text_of i).second)
+    (after (codes ",") t (text_of i).third)
+    (mnemonic_few i) (after_few (codes " ") t (text_of i).first (omega arith))
+    (after_few (codes ",") t (text_of i).second (omega arith))
     (after_few (codes ",") t (text_of i).third (omega arith))
 
 label_few : (label : Option ℕ) → length (label_front label) ≤ 7
@@ -69,7 +74,7 @@ label_few None = omega arith
 label_few (Some address) = omega arith
 
 -- so no line has more bytes than one may have
-pub line_few : (l : Line) → length (line_text l) ≤ 255
+pub line_few : (l : SourceLine) → length (line_text l) ≤ 255
 unfolding line_text statement_text
 line_few line.Nomod51 = omega arith
 line_few (line.Segment base) = omega arith

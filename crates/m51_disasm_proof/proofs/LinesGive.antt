@@ -1,11 +1,12 @@
 -- Each line of a disassembly gives the bytes of the image at its place.
-use Rattle.std.proofs.Common.{◌≡◌, ℕ, zero, suc, ◌+◌, ◌<◌, Bool, true, false, cond, List, [], ◌∷◌, ◌++◌, length, map, Option, Some, None, option_map, refl, sym, ap, ◌∙◌, subst, arith}
+use Rattle.std.proofs.Common.{◌≡◌, ℕ, zero, suc, ◌+◌, ◌<◌, Bool, true, false, cond, List, [], ◌∷◌, ◌++◌, length, map}
+use Rattle.std.proofs.Common.{Option, Some, None, option_map, refl, sym, ap, ◌∙◌, subst, arith}
 use Rattle.std.specs.Prelude.{slice_get}
 use Rattle.std.specs.List.{AllByRecursion}
 use Rattle.m51_text.specs.Answer.{LineTree}
 use Rattle.m51_module.specs.Validity.{numbered}
-use Rattle.m51_encode.specs.declared.outcome.Outcome.{Outcome}
-use Rattle.m51_encode.specs.declared.outcome.Outcome.TheVariants.{Stands}
+use Rattle.m51_encode.specs.declared.outcome.OperandOutcome.{OperandOutcome}
+use Rattle.m51_encode.specs.declared.outcome.OperandOutcome.TheVariants.{Stands}
 use Rattle.m51_emit.specs.Content.{content_by, outcomes_by}
 use Rattle.m51_asm.specs.Assignment.{Assignment, body_of as text_body, body_at}
 use Rattle.m51_asm.specs.ContentFaults.{line_outcomes_by, line_outcomes}
@@ -13,10 +14,10 @@ use Rattle.m51_asm.specs.Fitting.{Fits}
 use Rattle.m51_asm.specs.ObjectMeanings.{is_fixed, object_value, final}
 use Rattle.m51_asm.specs.ObjectSegments.{object_segments, segment_number}
 use Rattle.m51_asm.specs.Pieces.{content_at}
-use Rattle.m51_disasm.specs.declared.line.Line.{Line}
+use Rattle.m51_disasm.specs.declared.line.SourceLine.{SourceLine}
 use Rattle.m51_disasm.specs.declared.line.Target.{Target}
 use Rattle.m51_disasm.specs.declared.line.Target.TheVariants as target
-use Rattle.m51_disasm.specs.declared.part.Part.{Part}
+use Rattle.m51_disasm.specs.declared.part.CodeRange.{CodeRange}
 use Rattle.m51_disasm.specs.declared.statement.Content.{Content}
 use Rattle.m51_disasm.specs.declared.statement.Content.TheVariants as content
 use Rattle.m51_disasm.specs.declared.statement.Statement.{Statement}
@@ -39,36 +40,45 @@ use Rattle.m51_disasm_proof.proofs.TargetsKnown.{begins_there, led_there, one_of
 
 -- ---- all segments are absolute
 
-parts_fixed : (image : List ℕ) (parts : List Part) (k n : ℕ) → is_fixed (numbered (map (λ s. s.segment) (kept_parts image k parts)) n) ≡ true
+parts_fixed : (image : List ℕ) (parts : List CodeRange) (k n : ℕ)
+    → is_fixed (numbered (map (λ s. s.segment) (kept_parts image k parts)) n) ≡ true
 parts_fixed image parts k zero = refl
 parts_fixed image [] k (suc n) = refl
 parts_fixed image (part ∷ parts) k (suc zero) = refl
-parts_fixed image (part ∷ parts) k (suc (suc n)) = parts_fixed image parts (suc k + length (statements_of image part)) (suc n)
+parts_fixed image (part ∷ parts) k (suc (suc n)) =
+    parts_fixed image parts (suc k + length (statements_of image part)) (suc n)
 
-abbrev AreFixed : List Line → Assignment → Type 0
+abbrev AreFixed : List SourceLine → Assignment → Type 0
 AreFixed ls a = (n : ℕ) → is_fixed (numbered (object_segments (read_from 1 ls) a) n) ≡ true
 
-whole_fixed : (image : List ℕ) (parts : List Part) → AllByRecursion IsInside parts → (a : Assignment) → Fits (read_from 1 (whole image parts)) a → AllByRecursion IsSound (whole image parts)
+whole_fixed : (image : List ℕ) (parts : List CodeRange) → AllByRecursion IsInside parts → (a : Assignment)
+    → Fits (read_from 1 (whole image parts)) a → AllByRecursion IsSound (whole image parts)
     → AreFixed (whole image parts) a
 whole_fixed image parts inside a f sound n =
-    ap (λ ks. is_fixed (numbered (map (λ s. s.segment) ks) n)) (kept_are image parts a f inside sound) ∙ parts_fixed image parts 1 n
+    ap (λ ks. is_fixed (numbered (map (λ s. s.segment) ks) n)) (kept_are image parts a f inside sound)
+    ∙ parts_fixed image parts 1 n
 
-all_fixed : (image : List ℕ) (bytes : AreBytes image) (parts : List Part) → AllByRecursion IsInside parts → (a : Assignment) → Fits (read_from 1 (lines_of image parts)) a
+all_fixed : (image : List ℕ) (bytes : AreBytes image) (parts : List CodeRange) → AllByRecursion IsInside parts
+    → (a : Assignment) → Fits (read_from 1 (lines_of image parts)) a
     → AreFixed (lines_of image parts) a
 all_fixed image bytes parts inside a f =
-    subst (λ ls. Fits (read_from 1 ls) a → AllByRecursion IsSound ls → AreFixed ls a) (sym (whole_is image parts)) (whole_fixed image parts inside a) f (lines_sound image bytes parts inside)
+    subst (λ ls. Fits (read_from 1 ls) a → AllByRecursion IsSound ls → AreFixed ls a) (sym (whole_is image parts))
+    (whole_fixed image parts inside a) f (lines_sound image bytes parts inside)
 
 -- ---- a statement
 
-outcomes_of : (lines : List LineTree) (a : Assignment) (k : ℕ) (t : Target) (c : Content) → line_outcomes_by lines a k (body_of t c) ≡ outcomes_by (final lines a k) (a.form k) (body_of t c)
+outcomes_of : (lines : List LineTree) (a : Assignment) (k : ℕ) (t : Target) (c : Content)
+    → line_outcomes_by lines a k (body_of t c) ≡ outcomes_by (final lines a k) (a.form k) (body_of t c)
 outcomes_of lines a k t (content.Byte byte) = refl
 outcomes_of lines a k t (content.Code i) = refl
 
-abbrev StandAll : List Outcome → Type 0
+abbrev StandAll : List OperandOutcome → Type 0
 StandAll = AllByRecursion (λ outcome. outcome ≡ Stands)
 
-module _ (image : List ℕ) (bytes : AreBytes image) (before : List Part) (part : Part) (after : List Part) (inside : AllByRecursion IsInside (before ++ part ∷ after))
-    (order : AreInOrder 0 (before ++ part ∷ after)) (a : Assignment) (f : Fits (read_from 1 (lines_of image (before ++ part ∷ after))) a) where
+module _ (image : List ℕ) (bytes : AreBytes image) (before : List CodeRange) (part : CodeRange) (after : List CodeRange)
+    (inside : AllByRecursion IsInside (before ++ part ∷ after))
+    (order : AreInOrder 0 (before ++ part ∷ after)) (a : Assignment)
+    (f : Fits (read_from 1 (lines_of image (before ++ part ∷ after))) a) where
   abbrev lines : List LineTree
   lines = read_from 1 (lines_of image (before ++ part ∷ after))
 
@@ -82,7 +92,7 @@ module _ (image : List ℕ) (bytes : AreBytes image) (before : List Part) (part 
   abbrev number : ℕ
   number = segment_number lines a (lines_before image before + 2)
 
-  part_inside : (xs ys : List Part) → AllByRecursion IsInside (xs ++ part ∷ ys) → IsInside part
+  part_inside : (xs ys : List CodeRange) → AllByRecursion IsInside (xs ++ part ∷ ys) → IsInside part
   part_inside [] ys h = h.0
   part_inside (x ∷ xs) ys h = part_inside xs ys h.1
 
@@ -95,33 +105,41 @@ module _ (image : List ℕ) (bytes : AreBytes image) (before : List Part) (part 
   unfolding statement_at
   all_there =
       let ends = (part_inside before after inside).ends in
-      each_statement image bytes IsAtAddress end 0 part.base part.size (λ at from below. record { is = refl; small = omega (arith, below, ends) })
+      each_statement image bytes IsAtAddress end 0 part.base part.size
+      (λ at from below. record { is = refl; small = omega (arith, below, ends) })
 
-  stands_in : (j : ℕ) (s : Statement) → slice_get statements j ≡ Some s → s.at < 65536 → StandsAt (final lines a (lines_before image before + suc j)) number s.at
+  stands_in : (j : ℕ) (s : Statement) → slice_get statements j ≡ Some s → s.at < 65536
+      → StandsAt (final lines a (lines_before image before + suc j)) number s.at
   unfolding final
   stands_in j s e small = record {
     here = ap (object_value (segment_number lines a))
-        (place_value a (lines_before image before + suc j) (lines_before image before + 2) s.at part.base small (stands_there image bytes before part after inside order a f j s e));
+        (place_value a (lines_before image before + suc j) (lines_before image before + 2) s.at part.base small
+        (stands_there image bytes before part after inside order a f j s e));
     absolute = all_fixed image bytes (before ++ part ∷ after) inside a f number;
   }
 
-  label_in : (k address : ℕ) → is_among (beginnings statements) address ≡ true → is_among (targets statements) address ≡ true
+  label_in : (k address : ℕ) → is_among (beginnings statements) address ≡ true
+      → is_among (targets statements) address ≡ true
       → (final lines a k).value (label_text address) ≡ Some (code_value number address)
   unfolding final
   label_in k address begin led =
       let b = begins_there statements address begin in
-      let known = label_known image bytes before part after inside order a f b.index b.statement b.got (ap (is_among (targets statements)) b.at ∙ led) k in
+      let known = label_known image bytes before part after inside order a f b.index b.statement b.got
+      (ap (is_among (targets statements)) b.at ∙ led) k in
       ap (option_map (object_value (segment_number lines a)))
       (subst (λ n. a.value k (label_text n) ≡ Some (code_value (lines_before image before + 2) n)) b.at known)
 
-  named_by : (k address : ℕ) (b : Bool) → is_among (beginnings statements) address ≡ b → is_among (targets statements) address ≡ true
+  named_by : (k address : ℕ) (b : Bool) → is_among (beginnings statements) address ≡ b
+      → is_among (targets statements) address ≡ true
       → IsNamed (final lines a k) number (cond b (target.Label address) (target.Number address))
   named_by k address true begin led = label_in k address begin led
   named_by k address false begin led = tt
 
-  named : (k j : ℕ) (s : Statement) (o : Option ℕ) → slice_get statements j ≡ Some s → target_of s ≡ o → IsNamed (final lines a k) number (written_target (beginnings statements) o)
+  named : (k j : ℕ) (s : Statement) (o : Option ℕ) → slice_get statements j ≡ Some s → target_of s ≡ o
+      → IsNamed (final lines a k) number (written_target (beginnings statements) o)
   named k j s None e to = tt
-  named k j s (Some address) e to = named_by k address (is_among (beginnings statements) address) refl (led_there statements j s address e to)
+  named k j s (Some address) e to =
+      named_by k address (is_among (beginnings statements) address) refl (led_there statements j s address e to)
 
   -- a statement of the part gives its bytes
   pub statement_line_gives : (j : ℕ) (s : Statement) → slice_get statements j ≡ Some s
@@ -129,17 +147,23 @@ module _ (image : List ℕ) (bytes : AreBytes image) (before : List Part) (part 
   unfolding content_at line_outcomes
   statement_line_gives j s e =
       let k = lines_before image before + suc j in
-      let l : Line = line_of (beginnings statements) (targets statements) s in
+      let l : SourceLine = line_of (beginnings statements) (targets statements) s in
       let names = final lines a k in
       let t : Target = written_target (beginnings statements) (target_of s) in
       let there = one_of IsAtAddress statements j s all_there e in
       let is : body_at lines k ≡ body_of t s.content =
-      ap text_body (line_read_at 1 (lines_of image (before ++ part ∷ after)) k l (statement_line_at image before part after j s e)) in
+      ap text_body (line_read_at 1 (lines_of image (before ++ part ∷ after)) k l
+      (statement_line_at image before part after j s e)) in
       let gives : GivesBytes names (a.form k) (body_of t s.content) (bytes_at image s.at (length_in s.content)) =
-      subst (λ (x : Statement). GivesBytes names (a.form k) (body_of (written_target (beginnings statements) (target_of x)) x.content) (bytes_at image s.at (length_in x.content))) (sym there.is)
-      (statement_gives image bytes (beginnings statements) end s.at names number (stands_in j s e there.small) (a.form k)
-      (subst (λ (x : Statement). IsNamed names number (written_target (beginnings statements) (target_of x))) there.is (named k j s (target_of s) e refl))) in
+      subst (λ (x : Statement). GivesBytes names (a.form k)
+      (body_of (written_target (beginnings statements) (target_of x)) x.content)
+      (bytes_at image s.at (length_in x.content))) (sym there.is)
+      (statement_gives image bytes (beginnings statements) end s.at names number (stands_in j s e there.small)
+      (a.form k)
+      (subst (λ (x : Statement). IsNamed names number (written_target (beginnings statements) (target_of x))) there.is
+      (named k j s (target_of s) e refl))) in
       record {
         content = ap (content_by names (a.form k)) is ∙ gives.content;
-        stand = subst StandAll (sym (ap (line_outcomes_by lines a k) is ∙ outcomes_of lines a k t s.content)) gives.stand;
+        stand = subst StandAll (sym (ap (line_outcomes_by lines a k) is ∙ outcomes_of lines a k t s.content))
+            gives.stand;
       }

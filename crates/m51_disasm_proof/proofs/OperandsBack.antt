@@ -1,5 +1,6 @@
 -- The operands of a disassembled instruction give the numbers that it was decoded with.
-use Rattle.std.proofs.Common.{◌≡◌, ℕ, ◌%◌, Bool, true, false, not, ◌&&◌, Option, Some, None, Ok, refl, ap, ◌∙◌, subst, arith}
+use Rattle.std.proofs.Common.{◌≡◌, ℕ, ◌%◌, Bool, true, false, not, ◌&&◌, Option, Some, None, Ok, refl, ap, ◌∙◌, subst}
+use Rattle.std.proofs.Common.{arith}
 use Rattle.m51_cells.specs.declared.kind.Kind.TheVariants as kind
 use Rattle.m51_isa.specs.declared.instr.Instr.{Instr}
 use Rattle.m51_isa.specs.declared.instr.Instr.TheVariants.{Nop}
@@ -60,7 +61,8 @@ leads s = false
 abbrev pub are_usual : Text → Bool
 are_usual t =
     (is_usual t.first && (is_usual t.second && is_usual t.third))
-    && (not (leads t.first && leads t.second) && (not (leads t.first && leads t.third) && not (leads t.second && leads t.third)))
+    && (not (leads t.first && leads t.second)
+    && (not (leads t.first && leads t.third) && not (leads t.second && leads t.third)))
 
 pub rows_usual : (i : Instr) → are_usual (text_of i) ≡ true
 rows_usual Nop = refl
@@ -82,11 +84,13 @@ abbrev pub held_in : Slot → Held
 held_in s = number_held (byte_in s) (number_in s)
 
 -- what is found in a field goes into it
-value_given : (names : Meanings) (next : ℕ) (at : Field) (byte number : ℕ) (v : Value) → field_of names at next v ≡ Some (Number number)
+value_given : (names : Meanings) (next : ℕ) (at : Field) (byte number : ℕ) (v : Value)
+    → field_of names at next v ≡ Some (Number number)
     → valued names next at byte (Ok v) ≡ Ok (number_held byte number)
 value_given names next at byte number v e = ap (λ o. and_then (or_out_of_range o) (λ held. Ok (held_at byte held))) e
 
-number_given : (names : Meanings) (next : ℕ) (at : Field) (byte m number : ℕ) → field_of names at next (plain m kind.Number) ≡ Some (Number number)
+number_given : (names : Meanings) (next : ℕ) (at : Field) (byte m number : ℕ)
+    → field_of names at next (plain m kind.Number) ≡ Some (Number number)
     → valued names next at byte (value_of names (tree.Number m)) ≡ Ok (number_held byte number)
 unfolding value_of
 number_given names next at byte m number e = value_given names next at byte number (plain m kind.Number) e
@@ -97,23 +101,29 @@ pub data LeadsTo (address : ℕ) (t : Target) : Type 0 where
   ByNumber : t ≡ target.Number address → LeadsTo address t
 
 module _ (names : Meanings) (segment at : ℕ) (s : StandsAt names segment at) where
-  label_given : (next : ℕ) (f : FieldSlot) (address : ℕ) → field_of names f.field next (code_value segment address) ≡ Some (Number f.number)
-      → IsNamed names segment (target.Label address) → filled names next (Some f) (target_operand (target.Label address)) ≡ Ok (held_in (Plain f))
+  label_given : (next : ℕ) (f : FieldSlot) (address : ℕ) → field_of names f.field next (code_value segment address)
+      ≡ Some (Number f.number)
+      → IsNamed names segment (target.Label address)
+      → filled names next (Some f) (target_operand (target.Label address)) ≡ Ok (held_in (Plain f))
   unfolding value_of
   label_given next f address e named =
       ap (λ o. valued names next f.field f.byte (or_unknown o)) named
       ∙ value_given names next f.field f.byte f.number (code_value segment address) e
 
-  target_given : (next : ℕ) (f : FieldSlot) (address : ℕ) (t : Target) → kept f.field f.number ≡ f.number → leads_inside next f.field f.number ≡ true
+  target_given : (next : ℕ) (f : FieldSlot) (address : ℕ) (t : Target) → kept f.field f.number ≡ f.number
+      → leads_inside next f.field f.number ≡ true
       → address_by next f.field f.number ≡ Some address → LeadsTo address t → IsNamed names segment t
       → filled names (next % 65536) (Some f) (target_operand t) ≡ Ok (held_in (Plain f))
   target_given next f address t same inside to (ByLabel e) named =
       ap (λ x. filled names (next % 65536) (Some f) (target_operand x)) e
-      ∙ label_given (next % 65536) f address (address_back names segment at s f.field next f.number address (code_value segment address) same inside to (Own refl)) (subst (IsNamed names segment) e named)
+      ∙ label_given (next % 65536) f address
+      (address_back names segment at s f.field next f.number address (code_value segment address) same inside to
+      (Own refl)) (subst (IsNamed names segment) e named)
   target_given next f address t same inside to (ByNumber e) named =
       ap (λ x. filled names (next % 65536) (Some f) (target_operand x)) e
       ∙ number_given names (next % 65536) f.field f.byte address f.number
-      (address_back names segment at s f.field next f.number address (plain address kind.Number) same inside to (Bare refl))
+      (address_back names segment at s f.field next f.number address (plain address kind.Number) same inside to
+      (Bare refl))
 
   -- an operand that leads somewhere leads to this target
   abbrev pub IsLed : ℕ → Target → Option FieldSlot → Type 0
@@ -121,16 +131,20 @@ module _ (names : Meanings) (segment at : ℕ) (s : StandsAt names segment at) w
   IsLed next t (Some f) = (address : ℕ) → address_by next f.field f.number ≡ Some address → LeadsTo address t
 
   data_given : (t : Target) (next : ℕ) (at : Field) (byte number : ℕ) → is_data at ≡ true → kept at number ≡ number
-      → filled names next (Some (record { field = at; byte = byte; number = number })) (operand_of t (Imm (record { field = at; byte = byte; number = number }))) ≡ Ok (number_held byte number)
+      → filled names next (Some (record { field = at; byte = byte; number = number }))
+      (operand_of t (Imm (record { field = at; byte = byte; number = number }))) ≡ Ok (number_held byte number)
   data_given t next field.Data byte number usual same =
       number_given names next field.Data byte (number % 256) number
       (data_back names next (number % 256) (omega arith) ∙ ap (λ n. Some (Number n)) same)
-  data_given t next field.Data16 byte number usual same = number_given names next field.Data16 byte number number (data16_back names next number)
+  data_given t next field.Data16 byte number usual same =
+      number_given names next field.Data16 byte number number (data16_back names next number)
   data_given t next at byte number usual same = absurd (cc usual)
 
-  address_given : (t : Target) (next : ℕ) (at : Field) (byte number : ℕ) → not (is_data at) ≡ true → kept at number ≡ number → leads_inside next at number ≡ true
+  address_given : (t : Target) (next : ℕ) (at : Field) (byte number : ℕ) → not (is_data at) ≡ true
+      → kept at number ≡ number → leads_inside next at number ≡ true
       → ((address : ℕ) → address_by next at number ≡ Some address → LeadsTo address t) → IsNamed names segment t
-      → filled names (next % 65536) (Some (record { field = at; byte = byte; number = number })) (operand_of t (Plain (record { field = at; byte = byte; number = number }))) ≡ Ok (number_held byte number)
+      → filled names (next % 65536) (Some (record { field = at; byte = byte; number = number }))
+      (operand_of t (Plain (record { field = at; byte = byte; number = number }))) ≡ Ok (number_held byte number)
   unfolding address_by
   address_given t next field.Direct byte number usual same inside led named =
       number_given names (next % 65536) field.Direct byte (number % 256) number
@@ -141,23 +155,32 @@ module _ (names : Meanings) (segment at : ℕ) (s : StandsAt names segment at) w
   address_given t next field.Data byte number usual same inside led named = absurd (cc usual)
   address_given t next field.Data16 byte number usual same inside led named = absurd (cc usual)
   address_given t next field.Rel byte number usual same inside led named =
-      target_given next (record { field = field.Rel; byte = byte; number = number }) _ t same inside refl (led _ refl) named
+      target_given next (record { field = field.Rel; byte = byte; number = number }) _ t same inside refl (led _ refl)
+      named
   address_given t next field.Addr11 byte number usual same inside led named =
-      target_given next (record { field = field.Addr11; byte = byte; number = number }) _ t same inside refl (led _ refl) named
+      target_given next (record { field = field.Addr11; byte = byte; number = number }) _ t same inside refl
+      (led _ refl) named
   address_given t next field.Addr16 byte number usual same inside led named =
-      target_given next (record { field = field.Addr16; byte = byte; number = number }) _ t same inside refl (led _ refl) named
+      target_given next (record { field = field.Addr16; byte = byte; number = number }) _ t same inside refl
+      (led _ refl) named
 
   bit_given : (t : Target) (next : ℕ) (at : Field) (byte number : ℕ) → is_bit at ≡ true → kept at number ≡ number
-      → filled names next (Some (record { field = at; byte = byte; number = number })) (operand_of t (NotBit (record { field = at; byte = byte; number = number }))) ≡ Ok (number_held byte number)
+      → filled names next (Some (record { field = at; byte = byte; number = number }))
+      (operand_of t (NotBit (record { field = at; byte = byte; number = number }))) ≡ Ok (number_held byte number)
   bit_given t next field.Bit byte number usual same =
       number_given names next field.Bit byte (number % 256) number
       (bit_back names next (number % 256) (omega arith) ∙ ap (λ n. Some (Number n)) same)
   bit_given t next at byte number usual same = absurd (cc usual)
 
   -- an operand gives the number that it was decoded with
-  pub slot_given : (t : Target) (next : ℕ) (o : Slot) → is_usual o ≡ true → HasRoom o → stays_inside next (field_in o) ≡ true
-      → IsLed next t (field_in o) → IsNamed names segment t → filled names (next % 65536) (field_in o) (operand_of t o) ≡ Ok (held_in o)
-  slot_given t next (Imm f) usual room inside led named = data_given t (next % 65536) f.field f.byte f.number usual (ap number_in room)
-  slot_given t next (Plain f) usual room inside led named = address_given t next f.field f.byte f.number usual (ap number_in room) inside led named
-  slot_given t next (NotBit f) usual room inside led named = bit_given t (next % 65536) f.field f.byte f.number usual (ap number_in room)
+  pub slot_given : (t : Target) (next : ℕ) (o : Slot) → is_usual o ≡ true → HasRoom o
+      → stays_inside next (field_in o) ≡ true
+      → IsLed next t (field_in o) → IsNamed names segment t → filled names (next % 65536) (field_in o) (operand_of t o)
+      ≡ Ok (held_in o)
+  slot_given t next (Imm f) usual room inside led named =
+      data_given t (next % 65536) f.field f.byte f.number usual (ap number_in room)
+  slot_given t next (Plain f) usual room inside led named =
+      address_given t next f.field f.byte f.number usual (ap number_in room) inside led named
+  slot_given t next (NotBit f) usual room inside led named =
+      bit_given t (next % 65536) f.field f.byte f.number usual (ap number_in room)
   slot_given t next o usual room inside led named = refl

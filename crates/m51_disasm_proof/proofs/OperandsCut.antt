@@ -1,10 +1,12 @@
 -- The operands of a disassembled instruction are cut into the words of the operands that are meant.
-use Rattle.std.proofs.Common.{◌≡◌, ℕ, zero, suc, ◌%◌, ◌<◌, true, false, Bool, map, List, ◌∷◌, ◌++◌, Some, refl, sym, ◌∙◌, arith, subst}
+use Rattle.std.proofs.Common.{◌≡◌, ℕ, zero, suc, ◌%◌, ◌<◌, true, false, Bool, map, List, ◌∷◌, ◌++◌, Some, refl, sym}
+use Rattle.std.proofs.Common.{◌∙◌, arith, subst}
 use Rattle.std.specs.Prelude.{codes}
 use Rattle.m51_isa.specs.declared.slot.Field.{Field}
 use Rattle.m51_isa.specs.declared.slot.Field.TheVariants as field
 use Rattle.m51_isa.specs.declared.slot.Slot.{Slot}
-use Rattle.m51_isa.specs.declared.slot.Slot.TheVariants.{Nothing, A, Ab, C, Dptr, APc, ADptr, AtDptr, R, AtR, Imm, Plain, NotBit}
+use Rattle.m51_isa.specs.declared.slot.Slot.TheVariants.{Nothing, A, Ab, C, Dptr, APc, ADptr, AtDptr, R, AtR, Imm}
+use Rattle.m51_isa.specs.declared.slot.Slot.TheVariants.{Plain, NotBit}
 use Rattle.m51_isa.specs.Spelling as isa
 use Rattle.m51_isa.proofs.Distinct.{of_register}
 use Rattle.m51_cells.specs.Name.{name_of}
@@ -18,11 +20,13 @@ use Rattle.m51_stmt.proofs.WordCuts.{name_word, number_word, sign_word}
 use Rattle.m51_stmt.proofs.PrintedOperands.{IsOperand, operand_words, register_written}
 use Rattle.m51_disasm.specs.declared.line.Target.{Target}
 use Rattle.m51_disasm.specs.declared.line.Target.TheVariants as target
-use Rattle.m51_disasm.specs.Texts.{label_text, byte_text, word_text, digit_text, target_text, data_text, plain_text, operand_text}
+use Rattle.m51_disasm.specs.Texts.{label_text, byte_text, word_text, digit_text, target_text, data_text, plain_text}
+use Rattle.m51_disasm.specs.Texts.{operand_text}
 use Rattle.m51_disasm_proof.specs.Meaning.{target_operand, address_operand, operand_of}
 use Rattle.m51_disasm_proof.specs.Sound.{IsTarget, IsAddress, IsSlot}
 use Rattle.m51_disasm_proof.proofs.CutLines.{IsCutInto, after_word}
-use Rattle.m51_disasm_proof.proofs.StandingWords.{Ends, name_stands, at_stands, plus_stands, hash_stands, slash_stands, byte_word, byte_stands, word_stands}
+use Rattle.m51_disasm_proof.proofs.StandingWords.{Ends, name_stands, at_stands, plus_stands, hash_stands, slash_stands}
+use Rattle.m51_disasm_proof.proofs.StandingWords.{byte_word, byte_stands, word_stands}
 use Rattle.m51_disasm_proof.proofs.Labels.{label_written, label_is_leaf}
 
 -- an operand of a row as one of a line, and the words that its text is cut into
@@ -33,29 +37,35 @@ pub record IsReadOperand (t : Target) (s : Slot) : Type 0 where
   pub look : looks.look_of operand ≡ isa.look_of s
   pub words : List Word → List Word
   pub symbols : (rest : List Word) → map symbol (words rest) ≡ map symbol (operand_words operand rest)
-  pub cut : (rest : List ℕ) (ws : List Word) → Ends rest → IsCutInto rest ws → IsCutInto (operand_text t s ++ rest) (words ws)
+  pub cut : (rest : List ℕ) (ws : List Word) → Ends rest → IsCutInto rest ws
+      → IsCutInto (operand_text t s ++ rest) (words ws)
 
 -- one word before a line
-one : (text rest : List ℕ) (ws : List Word) → name_of text ≡ Some text → Ends rest → IsCutInto rest ws → IsCutInto (text ++ rest) (name_word text ∷ ws)
+one : (text rest : List ℕ) (ws : List Word) → name_of text ≡ Some text → Ends rest → IsCutInto rest ws
+    → IsCutInto (text ++ rest) (name_word text ∷ ws)
 one text rest ws is ends c = after_word (name_word text) rest ws (name_stands text rest is ends) c
 
 sum : (word rest : List ℕ) (ws : List Word) → name_of word ≡ Some word → Ends rest → IsCutInto rest ws
-    → IsCutInto (0x40 ∷ 0x41 ∷ 0x2B ∷ (word ++ rest)) (sign_word 0x40 ∷ name_word (codes "A") ∷ sign_word 0x2B ∷ name_word word ∷ ws)
+    → IsCutInto (0x40 ∷ 0x41 ∷ 0x2B ∷ (word ++ rest))
+    (sign_word 0x40 ∷ name_word (codes "A") ∷ sign_word 0x2B ∷ name_word word ∷ ws)
 sum word rest ws is ends c =
     after_word (sign_word 0x40) (0x41 ∷ 0x2B ∷ (word ++ rest)) _ (at_stands _)
     (one (codes "A") (0x2B ∷ (word ++ rest)) _ refl refl
     (after_word (sign_word 0x2B) (word ++ rest) _ (plus_stands _) (one word rest ws is ends c)))
 
 register_text : (n : ℕ) → n < 8 → codes "R" ++ digit_text n ≡ register_word n
-register_text n h = of_register (λ n. codes "R" ++ digit_text n ≡ register_word n) refl refl refl refl refl refl refl refl n h
+register_text n h = of_register (λ n. codes "R" ++ digit_text n ≡ register_word n) refl refl refl refl refl refl refl
+    refl n h
 
-register_cut : (n : ℕ) (rest : List ℕ) (ws : List Word) → n < 8 → Ends rest → IsCutInto rest ws → IsCutInto ((codes "R" ++ digit_text n) ++ rest) (name_word (register_word n) ∷ ws)
+register_cut : (n : ℕ) (rest : List ℕ) (ws : List Word) → n < 8 → Ends rest → IsCutInto rest ws
+    → IsCutInto ((codes "R" ++ digit_text n) ++ rest) (name_word (register_word n) ∷ ws)
 register_cut n rest ws h ends c =
     subst (λ t. IsCutInto (t ++ rest) (name_word (register_word n) ∷ ws)) (sym (register_text n h))
     (one (register_word n) rest ws (register_written n h) ends c)
 
 register_looks : (n : ℕ) → n < 8 → looks.look_of (meant.R n) ≡ isa.look_of (R n)
-register_looks n h = of_register (λ n. looks.look_of (meant.R n) ≡ isa.look_of (R n)) refl refl refl refl refl refl refl refl n h
+register_looks n h = of_register (λ n. looks.look_of (meant.R n) ≡ isa.look_of (R n)) refl refl refl refl refl refl refl
+    refl n h
 
 pointer_looks : (n : ℕ) → n < 2 → looks.look_of (meant.AtR n) ≡ isa.look_of (AtR n)
 pointer_looks zero h = refl
@@ -63,7 +73,8 @@ pointer_looks (suc zero) h = refl
 pointer_looks (suc (suc n)) h = absurd (omega (arith, h))
 
 -- data after their sign
-data_read : (t : Target) (f : Field) (byte n : ℕ) → n < 65536 → IsReadOperand t (Imm (record { field = f; byte = byte; number = n }))
+data_read : (t : Target) (f : Field) (byte n : ℕ) → n < 65536
+    → IsReadOperand t (Imm (record { field = f; byte = byte; number = n }))
 unfolding operand_text data_text
 data_read t field.Data16 byte n h = record {
   operand = meant.Imm (tree.Number n);
@@ -72,7 +83,8 @@ data_read t field.Data16 byte n h = record {
   look = refl;
   words = λ rest. sign_word 0x23 ∷ number_word n ∷ rest;
   symbols = λ rest. refl;
-  cut = λ rest ws ends c. after_word (sign_word 0x23) (word_text n ++ rest) _ (hash_stands _) (after_word (number_word n) rest ws (word_stands n rest h ends) c);
+  cut = λ rest ws ends c. after_word (sign_word 0x23) (word_text n ++ rest) _ (hash_stands _)
+      (after_word (number_word n) rest ws (word_stands n rest h ends) c);
 }
 data_read t f byte n h =
     let low : n % 256 < 256 = omega arith in
@@ -84,7 +96,8 @@ data_read t f byte n h =
       look = refl;
       words = λ rest. sign_word 0x23 ∷ byte_word (n % 256) ∷ rest;
       symbols = λ rest. refl;
-      cut = λ rest ws ends c. after_word (sign_word 0x23) (byte_text (n % 256) ++ rest) _ (hash_stands _) (after_word (byte_word (n % 256)) rest ws (byte_stands (n % 256) rest low ends) c);
+      cut = λ rest ws ends c. after_word (sign_word 0x23) (byte_text (n % 256) ++ rest) _ (hash_stands _)
+          (after_word (byte_word (n % 256)) rest ws (byte_stands (n % 256) rest low ends) c);
     }
 
 -- a target
@@ -117,7 +130,8 @@ target_read (target.Number address) h = record {
 }
 
 -- a byte's address
-byte_read : (t : Target) (f : Field) (byte n : ℕ) → address_operand t f n ≡ Some (meant.Plain (tree.Number (n % 256))) → plain_text t f n ≡ byte_text (n % 256)
+byte_read : (t : Target) (f : Field) (byte n : ℕ) → address_operand t f n ≡ Some (meant.Plain (tree.Number (n % 256)))
+    → plain_text t f n ≡ byte_text (n % 256)
     → IsReadOperand t (Plain (record { field = f; byte = byte; number = n }))
 unfolding operand_text
 byte_read t f byte n is text =
@@ -130,10 +144,12 @@ byte_read t f byte n is text =
       look = refl;
       words = λ rest. byte_word (n % 256) ∷ rest;
       symbols = λ rest. refl;
-      cut = λ rest ws ends c. subst (λ l. IsCutInto (l ++ rest) (byte_word (n % 256) ∷ ws)) (sym text) (after_word (byte_word (n % 256)) rest ws (byte_stands (n % 256) rest low ends) c);
+      cut = λ rest ws ends c. subst (λ l. IsCutInto (l ++ rest) (byte_word (n % 256) ∷ ws)) (sym text)
+          (after_word (byte_word (n % 256)) rest ws (byte_stands (n % 256) rest low ends) c);
     }
 
-led_read : (t : Target) (f : Field) (byte n : ℕ) → IsTargetRead t → address_operand t f n ≡ target_operand t → plain_text t f n ≡ target_text t
+led_read : (t : Target) (f : Field) (byte n : ℕ) → IsTargetRead t → address_operand t f n ≡ target_operand t
+    → plain_text t f n ≡ target_text t
     → IsReadOperand t (Plain (record { field = f; byte = byte; number = n }))
 unfolding operand_text
 led_read t f byte n r is text = record {
@@ -146,7 +162,8 @@ led_read t f byte n r is text = record {
   cut = λ rest ws ends c. subst (λ l. IsCutInto (l ++ rest) (r.words ws)) (sym text) (r.cut rest ws ends c);
 }
 
-address_read : (t : Target) (f : Field) (byte n : ℕ) → IsAddress t f → IsReadOperand t (Plain (record { field = f; byte = byte; number = n }))
+address_read : (t : Target) (f : Field) (byte n : ℕ) → IsAddress t f
+    → IsReadOperand t (Plain (record { field = f; byte = byte; number = n }))
 unfolding plain_text
 address_read t field.Direct byte n h = byte_read t field.Direct byte n refl refl
 address_read t field.Bit byte n h = byte_read t field.Bit byte n refl refl
@@ -158,9 +175,20 @@ is_there Nothing = false
 is_there s = true
 
 -- the words of an operand that are always the same
-fixed : (t : Target) (s : Slot) (o : OperandTree) → operand_of t s ≡ Some o → IsOperand o → looks.look_of o ≡ isa.look_of s
-    → ((rest : List ℕ) (ws : List Word) → Ends rest → IsCutInto rest ws → IsCutInto (operand_text t s ++ rest) (operand_words o ws)) → IsReadOperand t s
-fixed t s o is good look cut = record { operand = o; is = is; good = good; look = look; words = λ rest. operand_words o rest; symbols = λ rest. refl; cut = cut }
+fixed : (t : Target) (s : Slot) (o : OperandTree) → operand_of t s ≡ Some o → IsOperand o
+    → looks.look_of o ≡ isa.look_of s
+    → ((rest : List ℕ) (ws : List Word) → Ends rest → IsCutInto rest ws
+    → IsCutInto (operand_text t s ++ rest) (operand_words o ws)) → IsReadOperand t s
+fixed t s o is good look cut =
+    record {
+      operand = o;
+      is = is;
+      good = good;
+      look = look;
+      words = λ rest. operand_words o rest;
+      symbols = λ rest. refl;
+      cut = cut;
+    }
 
 pub slot_read : (t : Target) (s : Slot) → is_there s ≡ true → IsSlot t s → IsReadOperand t s
 unfolding operand_text
@@ -168,16 +196,21 @@ slot_read t Nothing there h = absurd (cc there)
 slot_read t A there h = fixed t A meant.A refl tt refl (λ rest ws ends c. one (codes "A") rest ws refl ends c)
 slot_read t Ab there h = fixed t Ab meant.Ab refl tt refl (λ rest ws ends c. one (codes "AB") rest ws refl ends c)
 slot_read t C there h = fixed t C meant.C refl tt refl (λ rest ws ends c. one (codes "C") rest ws refl ends c)
-slot_read t Dptr there h = fixed t Dptr meant.Dptr refl tt refl (λ rest ws ends c. one (codes "DPTR") rest ws refl ends c)
+slot_read t Dptr there h =
+    fixed t Dptr meant.Dptr refl tt refl (λ rest ws ends c. one (codes "DPTR") rest ws refl ends c)
 slot_read t APc there h = fixed t APc meant.APc refl tt refl (λ rest ws ends c. sum (codes "PC") rest ws refl ends c)
-slot_read t ADptr there h = fixed t ADptr meant.ADptr refl tt refl (λ rest ws ends c. sum (codes "DPTR") rest ws refl ends c)
+slot_read t ADptr there h =
+    fixed t ADptr meant.ADptr refl tt refl (λ rest ws ends c. sum (codes "DPTR") rest ws refl ends c)
 slot_read t AtDptr there h =
     fixed t AtDptr meant.AtDptr refl tt refl
-    (λ rest ws ends c. after_word (sign_word 0x40) (codes "DPTR" ++ rest) _ (at_stands _) (one (codes "DPTR") rest ws refl ends c))
-slot_read t (R n) there h = fixed t (R n) (meant.R n) refl h (register_looks n h) (λ rest ws ends c. register_cut n rest ws h ends c)
+    (λ rest ws ends c. after_word (sign_word 0x40) (codes "DPTR" ++ rest) _ (at_stands _)
+    (one (codes "DPTR") rest ws refl ends c))
+slot_read t (R n) there h =
+    fixed t (R n) (meant.R n) refl h (register_looks n h) (λ rest ws ends c. register_cut n rest ws h ends c)
 slot_read t (AtR n) there h =
     fixed t (AtR n) (meant.AtR n) refl h (pointer_looks n h)
-    (λ rest ws ends c. after_word (sign_word 0x40) ((codes "R" ++ digit_text n) ++ rest) _ (at_stands _) (register_cut n rest ws (omega (arith, h)) ends c))
+    (λ rest ws ends c. after_word (sign_word 0x40) ((codes "R" ++ digit_text n) ++ rest) _ (at_stands _)
+    (register_cut n rest ws (omega (arith, h)) ends c))
 slot_read t (Imm f) there h = data_read t f.field f.byte f.number h
 slot_read t (Plain f) there h = address_read t f.field f.byte f.number h
 slot_read t (NotBit f) there h =
@@ -190,5 +223,6 @@ slot_read t (NotBit f) there h =
       look = refl;
       words = λ rest. sign_word 0x2F ∷ byte_word (f.number % 256) ∷ rest;
       symbols = λ rest. refl;
-      cut = λ rest ws ends c. after_word (sign_word 0x2F) (byte_text (f.number % 256) ++ rest) _ (slash_stands _) (after_word (byte_word (f.number % 256)) rest ws (byte_stands (f.number % 256) rest low ends) c);
+      cut = λ rest ws ends c. after_word (sign_word 0x2F) (byte_text (f.number % 256) ++ rest) _ (slash_stands _)
+          (after_word (byte_word (f.number % 256)) rest ws (byte_stands (f.number % 256) rest low ends) c);
     }

@@ -1,12 +1,13 @@
 -- The lines of a disassembly, part by part.
-use Rattle.std.proofs.Common.{◌≡◌, ℕ, suc, ◌+◌, ◌-◌, List, [], ◌∷◌, ◌++◌, length, map, flat_map, append_assoc, refl, ap, ◌∙◌, subst, arith}
+use Rattle.std.proofs.Common.{◌≡◌, ℕ, suc, ◌+◌, ◌-◌, List, [], ◌∷◌, ◌++◌, length, map, flat_map, append_assoc, refl, ap}
+use Rattle.std.proofs.Common.{◌∙◌, subst, arith}
 use Rattle.std.specs.List.{AllByRecursion}
 use Rattle.m51_text.specs.Answer.{LineTree}
 use Rattle.m51_asm.specs.Assignment.{TextSegment, Assignment}
 use Rattle.m51_asm.specs.Fitting.{Fits}
-use Rattle.m51_disasm.specs.declared.line.Line.{Line}
-use Rattle.m51_disasm.specs.declared.line.Line.TheVariants as line
-use Rattle.m51_disasm.specs.declared.part.Part.{Part}
+use Rattle.m51_disasm.specs.declared.line.SourceLine.{SourceLine}
+use Rattle.m51_disasm.specs.declared.line.SourceLine.TheVariants as line
+use Rattle.m51_disasm.specs.declared.part.CodeRange.{CodeRange}
 use Rattle.m51_disasm.specs.declared.statement.Statement.{Statement}
 use Rattle.m51_disasm.specs.Lines.{line_of, statement_lines, part_lines, lines_of}
 use Rattle.m51_disasm.specs.Statements.{length_in, statements_of}
@@ -17,33 +18,40 @@ use Rattle.m51_disasm_proof.proofs.LineSteps.{step}
 use Rattle.m51_disasm_proof.proofs.StatementsStand.{Follow}
 
 -- the lines of parts, and END
-abbrev pub rest_of : List ℕ → List Part → List Line
+abbrev pub rest_of : List ℕ → List CodeRange → List SourceLine
 rest_of image [] = line.End ∷ []
-rest_of image (part ∷ parts) = line.Segment part.base ∷ (statement_lines (statements_of image part) ++ rest_of image parts)
+rest_of image (part ∷ parts) =
+    line.Segment part.base ∷ (statement_lines (statements_of image part) ++ rest_of image parts)
 
 -- all lines
-abbrev pub whole : (image : List ℕ) → List Part → List Line
+abbrev pub whole : (image : List ℕ) → List CodeRange → List SourceLine
 whole image parts = line.Nomod51 ∷ rest_of image parts
 
-rest_is : (image : List ℕ) (parts : List Part) → flat_map (part_lines image) parts ++ line.End ∷ [] ≡ rest_of image parts
+rest_is : (image : List ℕ) (parts : List CodeRange)
+    → flat_map (part_lines image) parts ++ line.End ∷ [] ≡ rest_of image parts
 unfolding part_lines
 rest_is image [] = refl
 rest_is image (part ∷ parts) =
-    ap (λ l. line.Segment part.base ∷ l) (append_assoc (statement_lines (statements_of image part)) (flat_map (part_lines image) parts) (line.End ∷ []))
+    ap (λ l. line.Segment part.base ∷ l)
+    (append_assoc (statement_lines (statements_of image part)) (flat_map (part_lines image) parts) (line.End ∷ []))
     ∙ ap (λ l. line.Segment part.base ∷ (statement_lines (statements_of image part) ++ l)) (rest_is image parts)
 
-pub whole_is : (image : List ℕ) (parts : List Part) → lines_of image parts ≡ whole image parts
+pub whole_is : (image : List ℕ) (parts : List CodeRange) → lines_of image parts ≡ whole image parts
 unfolding lines_of
 whole_is image parts = ap (λ l. line.Nomod51 ∷ l) (rest_is image parts)
 
 -- the segment and the place of the lines after statements
-pub record IsThrough (lines : List LineTree) (a : Assignment) (f : Fits lines a) (k : ℕ) (s : TextSegment) (given : ℕ) (rest : List Line) : Type 0 where
+pub record IsThrough (lines : List LineTree) (a : Assignment) (f : Fits lines a) (k : ℕ) (s : TextSegment) (given : ℕ)
+    (rest : List SourceLine) : Type 0 where
   pub stands : LineStands lines a f k s given
   pub says : Says lines k rest
   pub sound : AllByRecursion IsSound rest
 
-pub through : (lines : List LineTree) (a : Assignment) (f : Fits lines a) (begin led : List ℕ) (statements : List Statement) (rest : List Line) (k : ℕ) (s : TextSegment) (given from to : ℕ)
-    → Follow from statements to → LineStands lines a f k s given → AllByRecursion IsSound (map (line_of begin led) statements ++ rest) → Says lines k (map (line_of begin led) statements ++ rest)
+pub through : (lines : List LineTree) (a : Assignment) (f : Fits lines a) (begin led : List ℕ)
+    (statements : List Statement) (rest : List SourceLine) (k : ℕ) (s : TextSegment) (given from to : ℕ)
+    → Follow from statements to → LineStands lines a f k s given
+    → AllByRecursion IsSound (map (line_of begin led) statements ++ rest)
+    → Says lines k (map (line_of begin led) statements ++ rest)
     → IsThrough lines a f (k + length statements) s (given + (to - from)) rest
 through lines a f begin led [] rest k s given from to follow h sound is =
     let here : k ≡ k + 0 = omega arith in

@@ -1,5 +1,6 @@
 -- The parts of a sound layout are in order, and none of them reaches into the next.
-use Rattle.std.proofs.Common.{◌≡◌, ◌≢◌, ◌⊎◌, inl, inr, ℕ, zero, suc, ◌+◌, ◌<◌, ◌≤◌, ◌==◌, Bool, true, false, cond, List, [], ◌∷◌, map, Some, refl, sym, ap, ◌∙◌, subst, arith, ⊎_elim}
+use Rattle.std.proofs.Common.{◌≡◌, ◌≢◌, ◌⊎◌, inl, inr, ℕ, zero, suc, ◌+◌, ◌<◌, ◌≤◌, ◌==◌, Bool, true, false, cond, List}
+use Rattle.std.proofs.Common.{[], ◌∷◌, map, Some, refl, sym, ap, ◌∙◌, subst, arith, ⊎_elim}
 use Rattle.std.specs.Prelude.{slice_get}
 use Rattle.std.specs.List.{filter}
 use Rattle.std.proofs.str.Laws.{order}
@@ -13,13 +14,14 @@ use Rattle.m51_module.specs.Plan.{IsCodeSegment, IsPlaced, IsOverlaid}
 use Rattle.m51_module.specs.Sound.{IsSound}
 use Rattle.m51_module.specs.declared.parts.LayoutParts.{LayoutParts}
 use Rattle.m51_module.specs.declared.placed.Placed.{Placed}
-use Rattle.m51_disasm.specs.declared.part.Part.{Part}
+use Rattle.m51_disasm.specs.declared.part.CodeRange.{CodeRange}
 use Rattle.m51_disasm.specs.Parts.{part_of, has_bytes, units_of, parts_below, parts_of}
-use Rattle.m51_asm.proofs.Members.{In, Every, Pairs, no_element, in_first, in_later, in_cons, in_append, in_map, at_in, pairs_append, pairs_map, pairs_weaker}
+use Rattle.m51_asm.proofs.Members.{In, Every, Pairs, no_element, in_first, in_later, in_cons, in_append, in_map, at_in}
+use Rattle.m51_asm.proofs.Members.{pairs_append, pairs_map, pairs_weaker}
 use Rattle.m51_disasm_proof.specs.Sound.{HaveSizes}
 
 -- these parts are in order from an address on, and none overlaps another
-abbrev pub AreInOrder : ℕ → List Part → Type 0
+abbrev pub AreInOrder : ℕ → List CodeRange → Type 0
 AreInOrder low [] = Unit {0}
 AreInOrder low (p ∷ ps) = (low ≤ p.base) × AreInOrder (p.base + p.size) ps
 
@@ -46,7 +48,8 @@ in_filter p (x ∷ xs) y h = elim (kept_by (p x) x y (filter p xs) h) [
   | inr i ↦ let r = in_filter p xs y i in (r.0, in_later y x xs r.1)
 ]
 
-pairs_kept : {A : Type 0} (R : A → A → Type 0) (b : Bool) (x : A) (xs : List A) → Every (R x) xs → Pairs R xs → Pairs R (cond b (x ∷ xs) xs)
+pairs_kept : {A : Type 0} (R : A → A → Type 0) (b : Bool) (x : A) (xs : List A) → Every (R x) xs → Pairs R xs
+    → Pairs R (cond b (x ∷ xs) xs)
 unfolding Pairs
 pairs_kept R true x xs first more = (first, more)
 pairs_kept R false x xs first more = more
@@ -58,7 +61,8 @@ pairs_filter R p (x ∷ xs) h =
     pairs_kept R (p x) x (filter p xs) (λ y i. h.0 y (in_filter p xs y i).1) (pairs_filter R p xs h.1)
 
 -- of two different elements
-pairs_both : {A : Type 0} (R : A → A → Type 0) (xs : List A) → ((x y : A) → R x y → R y x) → Pairs R xs → (x y : A) → x ≢ y → In x xs → In y xs → R x y
+pairs_both : {A : Type 0} (R : A → A → Type 0) (xs : List A) → ((x y : A) → R x y → R y x) → Pairs R xs → (x y : A)
+    → x ≢ y → In x xs → In y xs → R x y
 unfolding Pairs Every
 pairs_both R [] back h x y ne i j = absurd (no_element x i)
 pairs_both R (z ∷ xs) back h x y ne i j = elim (in_cons x z xs i) [
@@ -75,21 +79,30 @@ pairs_both R (z ∷ xs) back h x y ne i j = elim (in_cons x z xs i) [
 -- ---- two units share no byte
 
 -- one of them ends before the other begins, where both have bytes
-abbrev Apart : Part → Part → Type 0
+abbrev Apart : CodeRange → CodeRange → Type 0
 Apart p q = 0 < p.size → 0 < q.size → (p.base + p.size ≤ q.base) ⊎ (q.base + q.size ≤ p.base)
 
-apart_back : (p q : Part) → Apart p q → Apart q p
+apart_back : (p q : CodeRange) → Apart p q → Apart q p
 apart_back p q h some more = elim (h more some) [ inl e ↦ inr e | inr e ↦ inl e ]
 
 -- two extents without a common cell
-no_meeting : (a b m n : ℕ) → (Meet (extent_of kind.Code a m) (extent_of kind.Code b n) → ⊥) → 0 < m → 0 < n → (a + m ≤ b) ⊎ (b + n ≤ a)
+no_meeting : (a b m n : ℕ) → (Meet (extent_of kind.Code a m) (extent_of kind.Code b n) → ⊥) → 0 < m → 0 < n
+    → (a + m ≤ b) ⊎ (b + n ≤ a)
 no_meeting a b m n none some more =
     ⊎_elim
     (λ (below : b < a + m).
     ⊎_elim
     (λ (under : a < b + n). absurd (⊎_elim
-    (λ (first : a < b). none (code_cell b, record { space = refl; from = omega (arith, first); below = below }, record { space = refl; from = omega arith; below = omega (arith, more) }))
-    (λ (first : b ≤ a). none (code_cell a, record { space = refl; from = omega arith; below = omega (arith, some) }, record { space = refl; from = first; below = under }))
+    (λ (first : a < b). none (
+      code_cell b,
+      record { space = refl; from = omega (arith, first); below = below },
+      record { space = refl; from = omega arith; below = omega (arith, more) },
+    ))
+    (λ (first : b ≤ a). none (
+      code_cell a,
+      record { space = refl; from = omega arith; below = omega (arith, some) },
+      record { space = refl; from = first; below = under },
+    ))
     (order a b)))
     (λ over. inr over)
     (order a (b + n)))
@@ -97,7 +110,7 @@ no_meeting a b m n none some more =
     (order b (a + m))
 
 module _ (l : LayoutParts) (sound : IsSound l) where
-  abbrev unit_part : ℕ → Part
+  abbrev unit_part : ℕ → CodeRange
   unit_part index = part_of (slice_get l.placed index)
 
   plain : (s : ℕ) (p : Placed) → IsPlaced l s p → IsCodeSegment p → IsOverlaid l s → ⊥
@@ -108,55 +121,59 @@ module _ (l : LayoutParts) (sound : IsSound l) where
   code_extent : (p : Placed) → p.kind ≡ kind.Code → extent_at p ≡ extent_of kind.Code p.base p.size
   code_extent p e = ap (λ k. extent_of k p.base p.size) e
 
-  placed_apart : (s t : ℕ) (p q : Placed) → s ≢ t → IsPlaced l s p → IsPlaced l t q → IsCodeSegment p → IsCodeSegment q → Apart (part_of (Some p)) (part_of (Some q))
+  placed_apart : (s t : ℕ) (p q : Placed) → s ≢ t → IsPlaced l s p → IsPlaced l t q → IsCodeSegment p → IsCodeSegment q
+      → Apart (part_of (Some p)) (part_of (Some q))
   placed_apart s t p q ne one two code other =
       no_meeting p.base q.base p.size q.size
       (λ meet. sound.apart s t p q one two ne (FirstPlain (plain s p one code))
-      (subst (λ (e : Extent). Meet e (extent_at q)) (sym (code_extent p code.kind)) (subst (Meet (extent_of kind.Code p.base p.size)) (sym (code_extent q other.kind)) meet)))
+      (subst (λ (e : Extent). Meet e (extent_at q)) (sym (code_extent p code.kind))
+      (subst (Meet (extent_of kind.Code p.base p.size)) (sym (code_extent q other.kind)) meet)))
 
   units_apart : Pairs Apart (map unit_part l.units)
-  units_apart = pairs_map unit_part Apart l.units (pairs_by (λ s t. Apart (unit_part s) (unit_part t)) l.units (λ u v s t less one two.
+  units_apart = pairs_map unit_part Apart l.units
+      (pairs_by (λ s t. Apart (unit_part s) (unit_part t)) l.units (λ u v s t less one two.
       let p = sound.is_code u s one in
       let q = sound.is_code v t two in
       let ne : s ≢ t = λ e. let same = sound.once u v t (one ∙ ap (λ x. Some x) e) two in omega (arith, less, same) in
-      subst (λ o. Apart (part_of o) (unit_part t)) (sym p.1) (subst (λ o. Apart (part_of (Some p.0)) (part_of o)) (sym q.1)
+      subst (λ o. Apart (part_of o) (unit_part t)) (sym p.1)
+      (subst (λ o. Apart (part_of (Some p.0)) (part_of o)) (sym q.1)
       (placed_apart s t p.0 q.0 ne p.1 q.1 p.2 q.2))))
 
   -- ---- in the order of their bases
 
-  abbrev all : List Part
+  abbrev all : List CodeRange
   all = units_of l
 
   all_apart : Pairs Apart all
   all_apart = pairs_filter Apart has_bytes (map unit_part l.units) units_apart
 
-  has_some : (p : Part) → In p all → 0 < p.size
+  has_some : (p : CodeRange) → In p all → 0 < p.size
   has_some p i = ltb-true 0 p.size (in_filter has_bytes (map unit_part l.units) p i).0
 
   -- one of them ends before the other begins
-  abbrev Before : Part → Part → Type 0
+  abbrev Before : CodeRange → CodeRange → Type 0
   Before p q = p.base + p.size ≤ q.base
 
-  below_from : (n : ℕ) (p : Part) → In p (parts_below all n) → In p all × (p.base < n)
+  below_from : (n : ℕ) (p : CodeRange) → In p (parts_below all n) → In p all × (p.base < n)
   unfolding parts_below
   below_from zero p i = absurd (no_element p i)
   below_from (suc n) p i = elim (in_append p (parts_below all n) (filter (λ unit. unit.base == n) all) i) [
     | inl j ↦ let r = below_from n p j in let less = r.1 in (r.0, omega (arith, less))
     | inr j ↦
-        let r = in_filter (λ (unit : Part). unit.base == n) all p j in
+        let r = in_filter (λ (unit : CodeRange). unit.base == n) all p j in
         let same = eqb-true p.base n r.0 in (r.1, omega (arith, same))
   ]
 
-  at_base : (n : ℕ) (p : Part) → In p (filter (λ unit. unit.base == n) all) → In p all × (p.base ≡ n)
-  at_base n p i = let r = in_filter (λ (unit : Part). unit.base == n) all p i in (r.1, eqb-true p.base n r.0)
+  at_base : (n : ℕ) (p : CodeRange) → In p (filter (λ unit. unit.base == n) all) → In p all × (p.base ≡ n)
+  at_base n p i = let r = in_filter (λ (unit : CodeRange). unit.base == n) all p i in (r.1, eqb-true p.base n r.0)
 
-  not_here : (n : ℕ) (p q : Part) → p.base ≡ n → q.base ≡ n → 0 < p.size → 0 < q.size → Apart p q → Before p q
+  not_here : (n : ℕ) (p q : CodeRange) → p.base ≡ n → q.base ≡ n → 0 < p.size → 0 < q.size → Apart p q → Before p q
   not_here n p q one two some more apart = elim (apart some more) [
     | inl e ↦ absurd (omega (arith, e, one, two, some))
     | inr e ↦ absurd (omega (arith, e, one, two, more))
   ]
 
-  earlier : (n : ℕ) (p q : Part) → p.base < n → q.base ≡ n → 0 < p.size → 0 < q.size → Apart p q → Before p q
+  earlier : (n : ℕ) (p q : CodeRange) → p.base < n → q.base ≡ n → 0 < p.size → 0 < q.size → Apart p q → Before p q
   earlier n p q one two some more apart = elim (apart some more) [
     | inl e ↦ e
     | inr e ↦ absurd (omega (arith, e, one, two, more))
@@ -166,20 +183,24 @@ module _ (l : LayoutParts) (sound : IsSound l) where
   unfolding parts_below Pairs
   below_ordered zero = tt
   below_ordered (suc n) =
-      let here : List Part = filter (λ unit. unit.base == n) all in
+      let here : List CodeRange = filter (λ unit. unit.base == n) all in
       pairs_append Before (parts_below all n) here (below_ordered n)
       (pairs_weaker Apart Before here
-      (λ p q i j apart. let a = at_base n p i in let b = at_base n q j in not_here n p q a.1 b.1 (has_some p a.0) (has_some q b.0) apart)
-      (pairs_filter Apart (λ (unit : Part). unit.base == n) all all_apart))
+      (λ p q i j apart. let a = at_base n p i in let b = at_base n q j in
+      not_here n p q a.1 b.1 (has_some p a.0) (has_some q b.0) apart)
+      (pairs_filter Apart (λ (unit : CodeRange). unit.base == n) all all_apart))
       (λ p q i j.
       let a = below_from n p i in
       let b = at_base n q j in
       let less = a.1 in
       let same = b.1 in
-      let ne : p ≢ q = λ e. let f : p.base ≡ q.base = ap (λ (x : Part). x.base) e in omega (arith, f, less, same) in
-      earlier n p q less same (has_some p a.0) (has_some q b.0) (pairs_both Apart all apart_back all_apart p q ne a.0 b.0))
+      let ne : p ≢ q = λ e. let f : p.base ≡ q.base = ap (λ (x : CodeRange). x.base) e in
+      omega (arith, f, less, same) in
+      earlier n p q less same (has_some p a.0) (has_some q b.0)
+      (pairs_both Apart all apart_back all_apart p q ne a.0 b.0))
 
-  in_order : (low : ℕ) (ps : List Part) → ((p : Part) → In p ps → low ≤ p.base) → Pairs Before ps → AreInOrder low ps
+  in_order : (low : ℕ) (ps : List CodeRange) → ((p : CodeRange) → In p ps → low ≤ p.base) → Pairs Before ps
+      → AreInOrder low ps
   unfolding Pairs Every
   in_order low [] first h = tt
   in_order low (p ∷ ps) first h = (first p (in_first p ps), in_order (p.base + p.size) ps (λ q i. h.0 q i) h.1)
@@ -189,10 +210,10 @@ module _ (l : LayoutParts) (sound : IsSound l) where
   parts_in_order = in_order 0 (parts_below all 0x10000) (λ p i. omega arith) (below_ordered 0x10000)
 
   -- sizes of two bytes
-  pub parts_small : HaveSizes l → (p : Part) → In p (parts_of l) → p.size < 65536
+  pub parts_small : HaveSizes l → (p : CodeRange) → In p (parts_of l) → p.size < 65536
   unfolding parts_of
   parts_small sizes p i =
       let c = in_map unit_part l.units p (in_filter has_bytes (map unit_part l.units) p (below_from 0x10000 p i).0).1 in
       let at = at_in l.units c.from c.there in
       let code = sound.is_code at.index c.from at.got in
-      subst (λ (q : Part). q.size < 65536) (ap part_of (sym code.1) ∙ c.is) (sizes c.from code.0 code.1)
+      subst (λ (q : CodeRange). q.size < 65536) (ap part_of (sym code.1) ∙ c.is) (sizes c.from code.0 code.1)

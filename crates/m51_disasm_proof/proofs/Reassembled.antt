@@ -15,9 +15,9 @@ use Rattle.m51_asm.specs.Parts.{parts as module_parts, version_of}
 use Rattle.m51_asm.specs.PlacedFaults.{segments_before, placed_fault}
 use Rattle.m51_asm.proofs.FirstFaults.{content_answer}
 use Rattle.m51_asm.specs.Repeats.{is_repeated}
-use Rattle.m51_disasm.specs.declared.line.Line.{Line}
-use Rattle.m51_disasm.specs.declared.line.Line.TheVariants as line
-use Rattle.m51_disasm.specs.declared.part.Part.{Part}
+use Rattle.m51_disasm.specs.declared.line.SourceLine.{SourceLine}
+use Rattle.m51_disasm.specs.declared.line.SourceLine.TheVariants as line
+use Rattle.m51_disasm.specs.declared.part.CodeRange.{CodeRange}
 use Rattle.m51_disasm.specs.Lines.{lines_of}
 use Rattle.m51_disasm.specs.Parts.{IsInside}
 use Rattle.m51_disasm_proof.specs.Meaning.{read_from}
@@ -38,9 +38,10 @@ use Rattle.m51_disasm_proof.proofs.PartsInOrder.{AreInOrder}
 use Rattle.m51_disasm_proof.proofs.RoomForParts.{IsSmall, lines_room}
 use Rattle.m51_disasm_proof.proofs.SoundLines.{lines_sound}
 
-module _ (image : List ℕ) (bytes : AreBytes image) (parts : List Part) (inside : AllByRecursion IsInside parts) (order : AreInOrder 0 parts)
+module _ (image : List ℕ) (bytes : AreBytes image) (parts : List CodeRange) (inside : AllByRecursion IsInside parts)
+    (order : AreInOrder 0 parts)
     (a : Assignment) (f : Fits (read_from 1 (whole image parts)) a) where
-  abbrev ls : List Line
+  abbrev ls : List SourceLine
   ls = whole image parts
 
   abbrev lines : List LineTree
@@ -64,20 +65,25 @@ module _ (image : List ℕ) (bytes : AreBytes image) (parts : List Part) (inside
       let count = length_read 1 ls in
       let here : 0 + j ≡ j = omega arith in
       ap (placed_fault lines a) (sym here)
-      ∙ none_placed lines a f (none_external 1 ls) ls 0 opening 0 0 sound (record { kind_is = refl; fixed = refl }) (at_start lines a f) (says_all ls)
+      ∙ none_placed lines a f (none_external 1 ls) ls 0 opening 0 0 sound (record { kind_is = refl; fixed = refl })
+      (at_start lines a f) (says_all ls)
       (omega arith) (lines_room image parts inside sizes few)
       (λ i below.
       let same : 0 + i ≡ i = omega arith in
-      let l : Line = get_or ls i line.End in
-      ap (is_repeated lines) same ∙ none_repeated ls ascends i l (slice_get_read ls (length ls) i l refl below (get_or_default ls i line.End l below)))
+      let l : SourceLine = get_or ls i line.End in
+      ap (is_repeated lines) same
+      ∙ none_repeated ls ascends i l
+      (slice_get_read ls (length ls) i l refl below (get_or_default ls i line.End l below)))
       j (omega (arith, less, count))
 
   -- nor has one a fault in its content
   whole_faultless : AllByRecursion IsSmall parts → length parts ≤ 254 → AreFaultless lines a
-  whole_faultless sizes few = record { placed = free sizes few; content = nothing.no_content_faults lines a image 1 0 0 ls gives }
+  whole_faultless sizes few =
+      record { placed = free sizes few; content = nothing.no_content_faults lines a image 1 0 0 ls gives }
 
   segments : object_segments lines a ≡ map segment_of parts
-  segments = ap (map (λ (s : Kept). s.segment)) (kept_are image parts a f inside sound) ∙ nothing.segments_are image 1 parts
+  segments = ap (map (λ (s : Kept). s.segment)) (kept_are image parts a f inside sound)
+      ∙ nothing.segments_are image 1 parts
 
   module_is : (file : List ℕ) → module_parts file lines a ≡ module_of file image parts
   unfolding module_parts
@@ -92,7 +98,8 @@ module _ (image : List ℕ) (bytes : AreBytes image) (parts : List Part) (inside
     banks = nothing.no_banks a 1 ls i;
   })
 
-  whole_answer : (file : List ℕ) → AllByRecursion IsSmall parts → length parts ≤ 254 → answer_of_lines file lines a ≡ Gives (module_of file image parts) (rows lines a)
+  whole_answer : (file : List ℕ) → AllByRecursion IsSmall parts → length parts ≤ 254
+      → answer_of_lines file lines a ≡ Gives (module_of file image parts) (rows lines a)
   whole_answer file sizes few =
       let none = whole_faultless sizes few in
       content_answer file lines a none.placed
@@ -100,16 +107,22 @@ module _ (image : List ℕ) (bytes : AreBytes image) (parts : List Part) (inside
       ∙ ap (λ p. Gives p (rows lines a)) (module_is file)
 
 -- no line of a disassembly has a fault
-pub faultless : (image : List ℕ) (bytes : AreBytes image) (parts : List Part) (inside : AllByRecursion IsInside parts) (order : AreInOrder 0 parts) (a : Assignment)
-    → Fits (read_from 1 (lines_of image parts)) a → AllByRecursion IsSmall parts → length parts ≤ 254 → AreFaultless (read_from 1 (lines_of image parts)) a
+pub faultless : (image : List ℕ) (bytes : AreBytes image) (parts : List CodeRange)
+    (inside : AllByRecursion IsInside parts) (order : AreInOrder 0 parts) (a : Assignment)
+    → Fits (read_from 1 (lines_of image parts)) a → AllByRecursion IsSmall parts → length parts ≤ 254
+    → AreFaultless (read_from 1 (lines_of image parts)) a
 faultless image bytes parts inside order a f sizes few =
     subst (λ xs. Fits (read_from 1 xs) a → AreFaultless (read_from 1 xs) a) (sym (whole_is image parts))
     (λ g. whole_faultless image bytes parts inside order a g sizes few) f
 
 -- the lines of a disassembly give the module of its parts
-pub module_given : (image : List ℕ) (bytes : AreBytes image) (parts : List Part) (inside : AllByRecursion IsInside parts) (order : AreInOrder 0 parts) (a : Assignment)
+pub module_given : (image : List ℕ) (bytes : AreBytes image) (parts : List CodeRange)
+    (inside : AllByRecursion IsInside parts) (order : AreInOrder 0 parts) (a : Assignment)
     → Fits (read_from 1 (lines_of image parts)) a → (file : List ℕ) → AllByRecursion IsSmall parts → length parts ≤ 254
-    → answer_of_lines file (read_from 1 (lines_of image parts)) a ≡ Gives (module_of file image parts) (rows (read_from 1 (lines_of image parts)) a)
+    → answer_of_lines file (read_from 1 (lines_of image parts)) a
+    ≡ Gives (module_of file image parts) (rows (read_from 1 (lines_of image parts)) a)
 module_given image bytes parts inside order a f file sizes few =
-    subst (λ xs. Fits (read_from 1 xs) a → answer_of_lines file (read_from 1 xs) a ≡ Gives (module_of file image parts) (rows (read_from 1 xs) a)) (sym (whole_is image parts))
+    subst (λ xs. Fits (read_from 1 xs) a
+    → answer_of_lines file (read_from 1 xs) a ≡ Gives (module_of file image parts) (rows (read_from 1 xs) a))
+    (sym (whole_is image parts))
     (λ g. whole_answer image bytes parts inside order a g file sizes few) f

@@ -1,8 +1,8 @@
 -- There is room for what the lines of a disassembly give.
 use Rattle.std.proofs.Common.{◌≡◌, ℕ, zero, suc, ◌+◌, ◌-◌, ◌<◌, ◌≤◌, List, [], ◌∷◌, ◌++◌, length, map, ap, subst, arith}
 use Rattle.std.specs.List.{AllByRecursion}
-use Rattle.m51_disasm.specs.declared.line.Line.{Line}
-use Rattle.m51_disasm.specs.declared.part.Part.{Part}
+use Rattle.m51_disasm.specs.declared.line.SourceLine.{SourceLine}
+use Rattle.m51_disasm.specs.declared.part.CodeRange.{CodeRange}
 use Rattle.m51_disasm.specs.declared.statement.Statement.{Statement}
 use Rattle.m51_disasm.specs.Lines.{beginnings, targets, line_of}
 use Rattle.m51_disasm.specs.Parts.{IsInside}
@@ -17,11 +17,13 @@ some_few zero = omega arith
 some_few (suc given) = omega arith
 
 -- a part is not too large for a segment
-abbrev pub IsSmall : Part → Type 0
+abbrev pub IsSmall : CodeRange → Type 0
 IsSmall part = part.size < 65536
 
-statements_room : (begin led : List ℕ) (statements : List Statement) (rest : List Line) (base given count from to : ℕ) → Follow from statements to → base + given ≡ from
-    → to ≤ 65536 → given + (to - from) ≤ 65535 → count ≤ 253 → HaveRoom base (given + (to - from)) count rest → HaveRoom base given count (map (line_of begin led) statements ++ rest)
+statements_room : (begin led : List ℕ) (statements : List Statement) (rest : List SourceLine)
+    (base given count from to : ℕ) → Follow from statements to → base + given ≡ from
+    → to ≤ 65536 → given + (to - from) ≤ 65535 → count ≤ 253 → HaveRoom base (given + (to - from)) count rest
+    → HaveRoom base given count (map (line_of begin led) statements ++ rest)
 statements_room begin led [] rest base given count from to follow at ends small few room =
     let same = follow in
     let none : given + (to - from) ≡ given = omega (arith, same) in
@@ -31,12 +33,18 @@ statements_room begin led (x ∷ statements) rest base given count from to follo
     let below = follows_to (from + n) to statements follow.1 in
     let most = some_few (given + n) in
     let more : given + (to - from) ≡ given + n + (to - (from + n)) = omega (arith, below) in (
-      record { place = omega (arith, at, below, ends); size = omega (arith, small, more); few = omega (arith, few, most) },
-      statements_room begin led statements rest base (given + n) count (from + n) to follow.1 (omega (arith, at)) ends (omega (arith, small, more)) few
+      record {
+        place = omega (arith, at, below, ends);
+        size = omega (arith, small, more);
+        few = omega (arith, few, most);
+      },
+      statements_room begin led statements rest base (given + n) count (from + n) to follow.1 (omega (arith, at)) ends
+          (omega (arith, small, more)) few
           (subst (λ g. HaveRoom base g count rest) more room),
     )
 
-parts_room : (image : List ℕ) (parts : List Part) (base given count : ℕ) → AllByRecursion IsInside parts → AllByRecursion IsSmall parts → base + given ≤ 65536 → given ≤ 65535
+parts_room : (image : List ℕ) (parts : List CodeRange) (base given count : ℕ) → AllByRecursion IsInside parts
+    → AllByRecursion IsSmall parts → base + given ≤ 65536 → given ≤ 65535
     → count + some given + length parts ≤ 254 → HaveRoom base given count (rest_of image parts)
 parts_room image [] base given count inside sizes place small few =
     let same : given + 0 ≡ given = omega arith in
@@ -49,12 +57,17 @@ parts_room image (part ∷ parts) base given count inside sizes place small few 
     let most = some_few (0 + (part.base + part.size - part.base)) in
     let begins : part.base + 0 ≡ part.base = omega arith in (
       record { place = omega (arith, ends); size = omega arith; few = omega (arith, few) },
-      statements_room (beginnings statements) (targets statements) statements (rest_of image parts) part.base 0 (count + some given) part.base (part.base + part.size)
+      statements_room (beginnings statements) (targets statements) statements (rest_of image parts) part.base 0
+          (count + some given) part.base (part.base + part.size)
           (part_follows image part) begins ends (omega (arith, size)) (omega (arith, few))
-          (parts_room image parts part.base (0 + (part.base + part.size - part.base)) (count + some given) inside.1 sizes.1 (omega (arith, ends)) (omega (arith, size)) (omega (arith, few, most))),
+          (parts_room image parts part.base (0 + (part.base + part.size - part.base)) (count + some given) inside.1
+          sizes.1 (omega (arith, ends)) (omega (arith, size)) (omega (arith, few, most))),
     )
 
 -- the lines of few and small parts have room
-pub lines_room : (image : List ℕ) (parts : List Part) → AllByRecursion IsInside parts → AllByRecursion IsSmall parts → length parts ≤ 254 → HaveRoom 0 0 0 (whole image parts)
-lines_room image parts inside sizes few =
-    (record { place = omega arith; size = omega arith; few = omega arith }, parts_room image parts 0 0 0 inside sizes (omega arith) (omega arith) (omega (arith, few)))
+pub lines_room : (image : List ℕ) (parts : List CodeRange) → AllByRecursion IsInside parts
+    → AllByRecursion IsSmall parts → length parts ≤ 254 → HaveRoom 0 0 0 (whole image parts)
+lines_room image parts inside sizes few = (
+  record { place = omega arith; size = omega arith; few = omega arith },
+  parts_room image parts 0 0 0 inside sizes (omega arith) (omega arith) (omega (arith, few)),
+)

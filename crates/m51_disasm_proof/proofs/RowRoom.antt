@@ -42,9 +42,12 @@ row_room (row.LjmpAddr16 address) s t h = record { first = omega (arith, s, h.be
 row_room (row.LcallAddr16 address) s t h = record { first = omega (arith, s, h.begins.1.0); second = tt; third = tt }
 row_room (row.MovxAAtRi pointer) s t h = record { first = tt; second = h.fits; third = tt }
 row_room (row.MovxAtRiA pointer) s t h = record { first = h.fits; second = tt; third = tt }
-row_room (row.OrlDirectData direct value) s t h = record { first = tt; second = omega (arith, t, h.begins.1.1.0); third = tt }
-row_room (row.AnlDirectData direct value) s t h = record { first = tt; second = omega (arith, t, h.begins.1.1.0); third = tt }
-row_room (row.XrlDirectData direct value) s t h = record { first = tt; second = omega (arith, t, h.begins.1.1.0); third = tt }
+row_room (row.OrlDirectData direct value) s t h =
+    record { first = tt; second = omega (arith, t, h.begins.1.1.0); third = tt }
+row_room (row.AnlDirectData direct value) s t h =
+    record { first = tt; second = omega (arith, t, h.begins.1.1.0); third = tt }
+row_room (row.XrlDirectData direct value) s t h =
+    record { first = tt; second = omega (arith, t, h.begins.1.1.0); third = tt }
 row_room (row.AddAData value) s t h = record { first = tt; second = omega (arith, s, h.begins.1.0); third = tt }
 row_room (row.AddcAData value) s t h = record { first = tt; second = omega (arith, s, h.begins.1.0); third = tt }
 row_room (row.OrlAData value) s t h = record { first = tt; second = omega (arith, s, h.begins.1.0); third = tt }
@@ -53,7 +56,8 @@ row_room (row.XrlAData value) s t h = record { first = tt; second = omega (arith
 row_room (row.MovAData value) s t h = record { first = tt; second = omega (arith, s, h.begins.1.0); third = tt }
 row_room (row.SubbAData value) s t h = record { first = tt; second = omega (arith, s, h.begins.1.0); third = tt }
 row_room (row.CjneADataRel value rel) s t h = record { first = tt; second = omega (arith, s, h.begins.1.0); third = tt }
-row_room (row.MovDirectData direct value) s t h = record { first = tt; second = omega (arith, t, h.begins.1.1.0); third = tt }
+row_room (row.MovDirectData direct value) s t h =
+    record { first = tt; second = omega (arith, t, h.begins.1.1.0); third = tt }
 row_room (row.IncAtRi pointer) s t h = record { first = h.fits; second = tt; third = tt }
 row_room (row.DecAtRi pointer) s t h = record { first = h.fits; second = tt; third = tt }
 row_room (row.AddAAtRi pointer) s t h = record { first = tt; second = h.fits; third = tt }
@@ -61,11 +65,13 @@ row_room (row.AddcAAtRi pointer) s t h = record { first = tt; second = h.fits; t
 row_room (row.OrlAAtRi pointer) s t h = record { first = tt; second = h.fits; third = tt }
 row_room (row.AnlAAtRi pointer) s t h = record { first = tt; second = h.fits; third = tt }
 row_room (row.XrlAAtRi pointer) s t h = record { first = tt; second = h.fits; third = tt }
-row_room (row.MovAtRiData pointer value) s t h = record { first = h.fits; second = omega (arith, s, h.begins.1.0); third = tt }
+row_room (row.MovAtRiData pointer value) s t h =
+    record { first = h.fits; second = omega (arith, s, h.begins.1.0); third = tt }
 row_room (row.MovDirectAtRi pointer direct) s t h = record { first = tt; second = h.fits; third = tt }
 row_room (row.SubbAAtRi pointer) s t h = record { first = tt; second = h.fits; third = tt }
 row_room (row.MovAtRiDirect pointer direct) s t h = record { first = h.fits; second = tt; third = tt }
-row_room (row.CjneAtRiDataRel pointer value rel) s t h = record { first = h.fits; second = omega (arith, s, h.begins.1.0); third = tt }
+row_room (row.CjneAtRiDataRel pointer value rel) s t h =
+    record { first = h.fits; second = omega (arith, s, h.begins.1.0); third = tt }
 row_room (row.XchAAtRi pointer) s t h = record { first = tt; second = h.fits; third = tt }
 row_room (row.XchdAAtRi pointer) s t h = record { first = tt; second = h.fits; third = tt }
 row_room (row.MovAAtRi pointer) s t h = record { first = tt; second = h.fits; third = tt }
@@ -77,11 +83,13 @@ row_room (row.AddcARn register) s t h = record { first = tt; second = h.fits; th
 row_room (row.OrlARn register) s t h = record { first = tt; second = h.fits; third = tt }
 row_room (row.AnlARn register) s t h = record { first = tt; second = h.fits; third = tt }
 row_room (row.XrlARn register) s t h = record { first = tt; second = h.fits; third = tt }
-row_room (row.MovRnData register value) s t h = record { first = h.fits; second = omega (arith, s, h.begins.1.0); third = tt }
+row_room (row.MovRnData register value) s t h =
+    record { first = h.fits; second = omega (arith, s, h.begins.1.0); third = tt }
 row_room (row.MovDirectRn register direct) s t h = record { first = tt; second = h.fits; third = tt }
 row_room (row.SubbARn register) s t h = record { first = tt; second = h.fits; third = tt }
 row_room (row.MovRnDirect register direct) s t h = record { first = h.fits; second = tt; third = tt }
-row_room (row.CjneRnDataRel register value rel) s t h = record { first = h.fits; second = omega (arith, s, h.begins.1.0); third = tt }
+row_room (row.CjneRnDataRel register value rel) s t h =
+    record { first = h.fits; second = omega (arith, s, h.begins.1.0); third = tt }
 row_room (row.XchARn register) s t h = record { first = tt; second = h.fits; third = tt }
 row_room (row.DjnzRnRel register rel) s t h = record { first = h.fits; second = tt; third = tt }
 row_room (row.MovARn register) s t h = record { first = tt; second = h.fits; third = tt }

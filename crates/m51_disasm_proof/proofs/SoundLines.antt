@@ -1,5 +1,7 @@
 -- Each line of a disassembly can be written.
-use Rattle.std.proofs.Common.{◌≡◌, ℕ, zero, suc, ◌+◌, ◌-◌, ◌%◌, ◌<◌, ◌≤◌, Bool, true, false, cond, nat_lt, List, [], ◌∷◌, ◌++◌, map, flat_map, append_assoc, Option, Some, None, slice_index, refl, sym, subst, arith}
+use Rattle.std.proofs.Common.{◌≡◌, ℕ, zero, suc, ◌+◌, ◌-◌, ◌%◌, ◌<◌, ◌≤◌, Bool, true, false, cond, nat_lt, List, []}
+use Rattle.std.proofs.Common.{◌∷◌, ◌++◌, map, flat_map, append_assoc, Option, Some, None, slice_index, refl, sym, subst}
+use Rattle.std.proofs.Common.{arith}
 use Rattle.std.specs.Prelude.{IfSome}
 use Rattle.std.specs.List.{AllByRecursion}
 use Rattle.std.specs.Option.{option_or}
@@ -11,15 +13,16 @@ use Rattle.m51_isa.specs.declared.slot.Slot.TheVariants.{R, AtR, Imm, Plain, Not
 use Rattle.m51_isa.specs.Spelling.{Text, text_of, field_in}
 use Rattle.m51_isa.specs.Table.{IsRowAt, decoded_at, length_of}
 use Rattle.m51_isa.specs.Targets.{near}
-use Rattle.m51_disasm.specs.declared.line.Line.{Line}
-use Rattle.m51_disasm.specs.declared.line.Line.TheVariants as line
+use Rattle.m51_disasm.specs.declared.line.SourceLine.{SourceLine}
+use Rattle.m51_disasm.specs.declared.line.SourceLine.TheVariants as line
 use Rattle.m51_disasm.specs.declared.line.Target.{Target}
 use Rattle.m51_disasm.specs.declared.line.Target.TheVariants as target
-use Rattle.m51_disasm.specs.declared.part.Part.{Part}
+use Rattle.m51_disasm.specs.declared.part.CodeRange.{CodeRange}
 use Rattle.m51_disasm.specs.declared.statement.Content.TheVariants as content
 use Rattle.m51_disasm.specs.declared.statement.Statement.{Statement}
 use Rattle.m51_disasm.specs.Parts.{IsInside}
-use Rattle.m51_disasm.specs.Statements.{instr_at, can_stand, content_of, statement_at, length_in, statements_from, statements_of, address_by, address_in, address_of, target_by, target_of}
+use Rattle.m51_disasm.specs.Statements.{instr_at, can_stand, content_of, statement_at, length_in, statements_from}
+use Rattle.m51_disasm.specs.Statements.{statements_of, address_by, address_in, address_of, target_by, target_of}
 use Rattle.m51_disasm.specs.Lines.{is_among, beginnings, targets, written_target, line_of, part_lines, lines_of}
 use Rattle.m51_disasm_proof.specs.Sound.{AreBytes, IsTarget, IsAddress, IsSlot, AreSlots, IsContent, IsLabel, IsSound}
 use Rattle.m51_disasm_proof.proofs.RowRoom.{HasAddress, HasPlain, HasRoom, AllRoom, row_room}
@@ -80,7 +83,8 @@ target_there begin None h = absurd h
 target_there begin (Some address) h = by_label (is_among begin address) address h
 
 -- a field is one of a byte, or the instruction leads somewhere
-field_there : (t : Target) (next : ℕ) (at : Field) (number : ℕ) → (IsLed (address_by next at number) → IsTarget t) → HasPlain at number → IsAddress t at
+field_there : (t : Target) (next : ℕ) (at : Field) (number : ℕ) → (IsLed (address_by next at number) → IsTarget t)
+    → HasPlain at number → IsAddress t at
 unfolding address_by
 field_there t next field.Direct number led h = tt
 field_there t next field.Bit number led h = tt
@@ -90,7 +94,8 @@ field_there t next field.Addr16 number led h = led h
 field_there t next field.Data number led h = absurd h
 field_there t next field.Data16 number led h = absurd h
 
-slot_there : (t : Target) (next : ℕ) (s : Slot) → (IsLed (address_in next (field_in s)) → IsTarget t) → HasRoom s → IsSlot t s
+slot_there : (t : Target) (next : ℕ) (s : Slot) → (IsLed (address_in next (field_in s)) → IsTarget t) → HasRoom s
+    → IsSlot t s
 slot_there t next (R n) led h = h
 slot_there t next (AtR n) led h = h
 slot_there t next (Imm f) led h = h
@@ -98,7 +103,8 @@ slot_there t next (Plain f) led h = field_there t next f.field f.number led h
 slot_there t next s led h = tt
 
 -- the operands of an instruction that leads where its fields say
-pub slots_there : (begin : List ℕ) (next : ℕ) (t : Text) → AllRoom t → AreSlots (written_target begin (address_of next t)) t
+pub slots_there : (begin : List ℕ) (next : ℕ) (t : Text) → AllRoom t
+    → AreSlots (written_target begin (address_of next t)) t
 slots_there begin next t room =
     let a : Option ℕ = address_in next (field_in t.first) in
     let b : Option ℕ = address_in next (field_in t.second) in
@@ -106,35 +112,46 @@ slots_there begin next t room =
     let there = target_there begin (address_of next t) in
     record {
       first = slot_there _ next t.first (λ led. there (first_led a (option_or b c) led)) room.first;
-      second = slot_there _ next t.second (λ led. there (later_led a (option_or b c) (slot_leads next t.first room.first) (first_led b c led))) room.second;
-      third = slot_there _ next t.third (λ led. there (later_led a (option_or b c) (slot_leads next t.first room.first) (later_led b c (slot_leads next t.second room.second) led))) room.third;
+      second = slot_there _ next t.second
+          (λ led. there (later_led a (option_or b c) (slot_leads next t.first room.first) (first_led b c led)))
+          room.second;
+      third = slot_there _ next t.third
+          (λ led. there (later_led a (option_or b c) (slot_leads next t.first room.first)
+          (later_led b c (slot_leads next t.second room.second) led))) room.third;
     }
 
-mapped : {A B : Type 0} (f : A → B) (P : B → Type 0) (xs : List A) → AllByRecursion (λ x. P (f x)) xs → AllByRecursion P (map f xs)
+mapped : {A B : Type 0} (f : A → B) (P : B → Type 0) (xs : List A) → AllByRecursion (λ x. P (f x)) xs
+    → AllByRecursion P (map f xs)
 mapped f P [] h = tt
 mapped f P (x ∷ xs) h = (h.0, mapped f P xs h.1)
 
-both_sound : (xs ys : List Line) → AllByRecursion IsSound xs → AllByRecursion IsSound ys → AllByRecursion IsSound (xs ++ ys)
+both_sound : (xs ys : List SourceLine) → AllByRecursion IsSound xs → AllByRecursion IsSound ys
+    → AllByRecursion IsSound (xs ++ ys)
 both_sound [] ys h k = k
 both_sound (x ∷ xs) ys h k = (h.0, both_sound xs ys h.1 k)
 
 module _ (image : List ℕ) (bytes : AreBytes image) where
-  row_there : (a b c : ℕ) → a < 256 → b < 256 → c < 256 → (o : Option Instr) → decoded_at a b c ≡ o → IfSome o (λ i. AllRoom (text_of i))
-  row_there a b c f s t (Some i) e = row_room i s t (subst (λ o. IfSome o (λ i. IsRowAt (a ∷ b ∷ c ∷ []) i)) e (decoded_rows a b c f s t))
+  row_there : (a b c : ℕ) → a < 256 → b < 256 → c < 256 → (o : Option Instr) → decoded_at a b c ≡ o
+      → IfSome o (λ i. AllRoom (text_of i))
+  row_there a b c f s t (Some i) e =
+      row_room i s t (subst (λ o. IfSome o (λ i. IsRowAt (a ∷ b ∷ c ∷ []) i)) e (decoded_rows a b c f s t))
   row_there a b c f s t None e = tt
 
   instr_room : (at : ℕ) → IfSome (instr_at image at) (λ i. AllRoom (text_of i))
   unfolding instr_at
   instr_room at =
-      row_there (slice_index image at) (slice_index image (at + 1)) (slice_index image (at + 2)) (bytes at) (bytes (at + 1)) (bytes (at + 2))
+      row_there (slice_index image at) (slice_index image (at + 1)) (slice_index image (at + 2)) (bytes at)
+      (bytes (at + 1)) (bytes (at + 2))
       (decoded_at (slice_index image at) (slice_index image (at + 1)) (slice_index image (at + 2))) refl
 
   code_sound : (begin : List ℕ) (at byte : ℕ) (i : Instr) (b : Bool) → byte < 256 → AllRoom (text_of i)
-      → IsContent (written_target begin (target_by at (cond b (content.Code i) (content.Byte byte)))) (cond b (content.Code i) (content.Byte byte))
+      → IsContent (written_target begin (target_by at (cond b (content.Code i) (content.Byte byte))))
+      (cond b (content.Code i) (content.Byte byte))
   code_sound begin at byte i true h room = slots_there begin (at + length_of i) (text_of i) room
   code_sound begin at byte i false h room = h
 
-  content_sound : (begin : List ℕ) (end at byte : ℕ) (o : Option Instr) → byte < 256 → IfSome o (λ i. AllRoom (text_of i))
+  content_sound : (begin : List ℕ) (end at byte : ℕ) (o : Option Instr) → byte < 256
+      → IfSome o (λ i. AllRoom (text_of i))
       → IsContent (written_target begin (target_by at (content_of end at byte o))) (content_of end at byte o)
   content_sound begin end at byte None h room = h
   content_sound begin end at byte (Some i) h room = code_sound begin at byte i (can_stand end at i) h room
@@ -143,7 +160,8 @@ module _ (image : List ℕ) (bytes : AreBytes image) where
   label_sound true at h = h
   label_sound false at h = tt
 
-  statement_sound : (begin led : List ℕ) (end at : ℕ) → at < 65536 → IsSound (line_of begin led (statement_at image end at))
+  statement_sound : (begin led : List ℕ) (end at : ℕ) → at < 65536
+      → IsSound (line_of begin led (statement_at image end at))
   unfolding statement_at target_of
   statement_sound begin led end at h = record {
     label = label_sound (is_among led at) at h;
@@ -151,17 +169,20 @@ module _ (image : List ℕ) (bytes : AreBytes image) where
   }
 
   -- each of the statements of a row of bytes is that at one of their addresses
-  pub each_statement : (P : Statement → Type 0) (end passed at more : ℕ) → ((a : ℕ) → at ≤ a → a < at + more → P (statement_at image end a))
+  pub each_statement : (P : Statement → Type 0) (end passed at more : ℕ)
+      → ((a : ℕ) → at ≤ a → a < at + more → P (statement_at image end a))
       → AllByRecursion P (statements_from image end passed at more)
   unfolding statements_from
   each_statement P end passed at zero h = tt
-  each_statement P end (suc passed) at (suc more) h = each_statement P end passed (at + 1) more (λ a from below. h a (omega (arith, from)) (omega (arith, below)))
+  each_statement P end (suc passed) at (suc more) h =
+      each_statement P end passed (at + 1) more (λ a from below. h a (omega (arith, from)) (omega (arith, below)))
   each_statement P end zero at (suc more) h = (
     h at (omega arith) (omega arith),
-    each_statement P end (length_in (statement_at image end at).content - 1) (at + 1) more (λ a from below. h a (omega (arith, from)) (omega (arith, below))),
+    each_statement P end (length_in (statement_at image end at).content - 1) (at + 1) more
+        (λ a from below. h a (omega (arith, from)) (omega (arith, below))),
   )
 
-  part_sound : (part : Part) → IsInside part → AllByRecursion IsSound (part_lines image part)
+  part_sound : (part : CodeRange) → IsInside part → AllByRecursion IsSound (part_lines image part)
   unfolding part_lines
   part_sound part inside =
       let statements = statements_of image part in
@@ -169,16 +190,22 @@ module _ (image : List ℕ) (bytes : AreBytes image) where
       let led = targets statements in (
         omega (arith, inside.some, inside.ends),
         mapped (line_of begin led) IsSound statements
-            (each_statement (λ s. IsSound (line_of begin led s)) (part.base + part.size) 0 part.base part.size (λ a from below. statement_sound begin led (part.base + part.size) a (omega (arith, below, inside.ends)))),
+            (each_statement (λ s. IsSound (line_of begin led s)) (part.base + part.size) 0 part.base part.size
+            (λ a from below. statement_sound begin led (part.base + part.size) a
+            (omega (arith, below, inside.ends)))),
       )
 
-  parts_sound : (parts : List Part) → AllByRecursion IsInside parts → AllByRecursion IsSound (flat_map (part_lines image) parts ++ line.End ∷ [])
+  parts_sound : (parts : List CodeRange) → AllByRecursion IsInside parts
+      → AllByRecursion IsSound (flat_map (part_lines image) parts ++ line.End ∷ [])
   parts_sound [] inside = (tt, tt)
   parts_sound (part ∷ parts) inside =
-      subst (AllByRecursion IsSound) (sym (append_assoc (part_lines image part) (flat_map (part_lines image) parts) (line.End ∷ [])))
-      (both_sound (part_lines image part) (flat_map (part_lines image) parts ++ line.End ∷ []) (part_sound part inside.0) (parts_sound parts inside.1))
+      subst (AllByRecursion IsSound)
+      (sym (append_assoc (part_lines image part) (flat_map (part_lines image) parts) (line.End ∷ [])))
+      (both_sound (part_lines image part) (flat_map (part_lines image) parts ++ line.End ∷ [])
+      (part_sound part inside.0) (parts_sound parts inside.1))
 
   -- each line of a disassembly can be written
-  pub lines_sound : (parts : List Part) → AllByRecursion IsInside parts → AllByRecursion IsSound (lines_of image parts)
+  pub lines_sound : (parts : List CodeRange) → AllByRecursion IsInside parts
+      → AllByRecursion IsSound (lines_of image parts)
   unfolding lines_of
   lines_sound parts inside = (tt, parts_sound parts inside)

@@ -1,5 +1,6 @@
 -- Names, numbers and signs are cut as tokens of their own before bytes that do not continue them.
-use Rattle.std.proofs.Common.{◌≡◌, ℕ, ◌+◌, ◌-◌, ◌*◌, ◌/◌, ◌%◌, ◌<◌, ◌==◌, ◌||◌, nat_le, Bool, true, false, List, [], ◌∷◌, ◌++◌, length, take, Some, refl, ap, ◌∙◌, arith, slice_index}
+use Rattle.std.proofs.Common.{◌≡◌, ℕ, ◌+◌, ◌-◌, ◌*◌, ◌/◌, ◌%◌, ◌<◌, ◌==◌, ◌||◌, nat_le, Bool, true, false, List, []}
+use Rattle.std.proofs.Common.{◌∷◌, ◌++◌, length, take, Some, refl, ap, ◌∙◌, arith, slice_index}
 use Rattle.std.specs.Char.{is_ascii_alphanumeric}
 use Rattle.std.specs.Fmt.{digit_glyph}
 use Rattle.std.specs.List.{list_all, prefix_len}
@@ -17,7 +18,8 @@ use Rattle.m51_lex.specs.Number.{number_of, value_in, of_16_bits}
 use Rattle.m51_lex.specs.Lexeme.{lexeme_of, name_lexeme, number_or_fault}
 use Rattle.m51_lex.specs.Tokens.{Cut, put_front, after_lexeme}
 use Rattle.m51_stmt.proofs.LineCuts.{Word, token_at}
-use Rattle.m51_stmt.proofs.WordCuts.{name_word, number_word, sign_word, left, right, name_first, at_most_31, digit_step, in_16_bits, glyph_run}
+use Rattle.m51_stmt.proofs.WordCuts.{name_word, number_word, sign_word, left, right, name_first, at_most_31, digit_step}
+use Rattle.m51_stmt.proofs.WordCuts.{in_16_bits, glyph_run}
 use Rattle.m51_text.specs.Said.{is_character}
 use Rattle.m51_disasm.specs.Texts.{byte_text, word_text}
 use Rattle.m51_disasm_proof.proofs.CutLines.{Stands}
@@ -26,7 +28,8 @@ use Rattle.m51_disasm_proof.proofs.CutLines.{Stands}
 abbrev pub Ends : List ℕ → Type 0
 Ends rest = is_name_byte (slice_index rest 0) ≡ false
 
-run_ends : (p : ℕ → Bool) (word rest : List ℕ) → list_all p word ≡ true → p (slice_index rest 0) ≡ false → prefix_len p (word ++ rest) ≡ length word
+run_ends : (p : ℕ → Bool) (word rest : List ℕ) → list_all p word ≡ true → p (slice_index rest 0) ≡ false
+    → prefix_len p (word ++ rest) ≡ length word
 run_ends p [] [] all stop = refl
 run_ends p [] (c ∷ rest) all stop = grind (arith, common_steps, stop)
 run_ends p (w ∷ word) rest all stop =
@@ -43,10 +46,13 @@ name_character b h = grind (arith, common_steps, h)
 
 -- the word is cut as a token before this rest
 abbrev IsToken : Word → List ℕ → Type 0
-IsToken w rest = (at : ℕ) (go : ℕ → Cut) → after_lexeme at (lexeme_of (w.text ++ rest)) go ≡ put_front (token_at at w ∷ []) (go (length w.text - 1))
+IsToken w rest = (at : ℕ) (go : ℕ → Cut)
+    → after_lexeme at (lexeme_of (w.text ++ rest)) go ≡ put_front (token_at at w ∷ []) (go (length w.text - 1))
 
-name_ends : (text rest : List ℕ) (at : ℕ) (go : ℕ → Cut) → list_all is_name_byte text ≡ true → nat_le (length text) 31 ≡ true → Ends rest
-    → after_lexeme at (name_lexeme (text ++ rest)) go ≡ put_front (token_at at (name_word text) ∷ []) (go (length text - 1))
+name_ends : (text rest : List ℕ) (at : ℕ) (go : ℕ → Cut) → list_all is_name_byte text ≡ true
+    → nat_le (length text) 31 ≡ true → Ends rest
+    → after_lexeme at (name_lexeme (text ++ rest)) go
+    ≡ put_front (token_at at (name_word text) ∷ []) (go (length text - 1))
 name_ends text rest at go all most ends =
     let run = run_ends is_name_byte text rest all ends in
     let low = at_most_31 (length text) most in
@@ -56,9 +62,11 @@ name_front : (text rest : List ℕ) → is_name text ≡ true → Ends rest → 
 name_front [] rest h ends = absurd (cc h)
 name_front (c ∷ more) rest h ends =
     let parts = name_parts c more h in
-    let all : list_all is_name_byte (c ∷ more) ≡ true = weaker cells.is_name_byte is_name_byte of_name (c ∷ more) parts.bytes in
+    let all : list_all is_name_byte (c ∷ more) ≡ true =
+    weaker cells.is_name_byte is_name_byte of_name (c ∷ more) parts.bytes in
     λ at go.
-    ap (λ l. after_lexeme at l go) (name_first c (more ++ rest) parts.digit (left (is_name_byte c) (list_all is_name_byte more) all))
+    ap (λ l. after_lexeme at l go)
+    (name_first c (more ++ rest) parts.digit (left (is_name_byte c) (list_all is_name_byte more) all))
     ∙ name_ends (c ∷ more) rest at go all parts.most ends
 
 name_characters : (text : List ℕ) → is_name text ≡ true → list_all is_character text ≡ true
@@ -126,7 +134,8 @@ word_number : (n : ℕ) → n < 65536 → number_of (word_text n) ≡ Some n
 unfolding number_of
 word_number n h =
     let same : (0 * 256 + n / 256) * 256 + n % 256 ≡ n = omega arith in
-    ap of_16_bits (two_digits 0 (n / 256) (hex2 (n % 256)) (omega (arith, h)) ∙ two_digits (0 * 256 + n / 256) (n % 256) [] (omega arith) ∙ ap Some same)
+    ap of_16_bits (two_digits 0 (n / 256) (hex2 (n % 256)) (omega (arith, h))
+    ∙ two_digits (0 * 256 + n / 256) (n % 256) [] (omega arith) ∙ ap Some same)
     ∙ in_16_bits n h
 
 byte_run : (n : ℕ) → n < 256 → list_all is_ascii_alphanumeric (byte_text n) ≡ true
@@ -144,14 +153,16 @@ word_run n h =
     rw a (rw b (rw c (rw d refl)))
 
 -- a run that writes a number, before what ends it
-number_front : (more rest : List ℕ) (n : ℕ) → list_all is_ascii_alphanumeric (0x30 ∷ more) ≡ true → number_of (0x30 ∷ more) ≡ Some n → Ends rest
+number_front : (more rest : List ℕ) (n : ℕ) → list_all is_ascii_alphanumeric (0x30 ∷ more) ≡ true
+    → number_of (0x30 ∷ more) ≡ Some n → Ends rest
     → IsToken (record { what = what.Number n; text = 0x30 ∷ more }) rest
 unfolding lexeme_of
 number_front more rest n all is ends =
     let l = 0x30 ∷ more ++ rest in
     let text = 0x30 ∷ more in
     λ at go.
-    ap (λ k. after_lexeme at (number_or_fault k (number_of (take k l))) go) (run_ends is_ascii_alphanumeric text rest all (no_run (slice_index rest 0) ends))
+    ap (λ k. after_lexeme at (number_or_fault k (number_of (take k l))) go)
+    (run_ends is_ascii_alphanumeric text rest all (no_run (slice_index rest 0) ends))
     ∙ ap (λ t. after_lexeme at (number_or_fault (length text) (number_of t)) go) (take-append_seam text rest)
     ∙ ap (λ o. after_lexeme at (number_or_fault (length text) o) go) is
 

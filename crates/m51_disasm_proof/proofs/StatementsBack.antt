@@ -1,5 +1,6 @@
 -- Each statement of a disassembly gives the bytes of the image at its address.
-use Rattle.std.proofs.Common.{◌≡◌, ℕ, ◌+◌, ◌%◌, nat_le, Bool, true, false, not, ◌&&◌, cond, List, [], ◌∷◌, take, Option, Some, None, Ok, refl, sym, ap, ◌∙◌, subst, arith, slice_index}
+use Rattle.std.proofs.Common.{◌≡◌, ℕ, ◌+◌, ◌%◌, nat_le, Bool, true, false, not, ◌&&◌, cond, List, [], ◌∷◌, take, Option}
+use Rattle.std.proofs.Common.{Some, None, Ok, refl, sym, ap, ◌∙◌, subst, arith, slice_index}
 use Rattle.std.specs.Prelude.{IfSome}
 use Rattle.std.specs.List.{AllByRecursion}
 use Rattle.std.specs.Option.{option_or}
@@ -20,7 +21,7 @@ use Rattle.m51_expr.specs.Meanings.{Meanings}
 use Rattle.m51_expr.specs.Operand as item
 use Rattle.m51_expr.specs.Tree as tree
 use Rattle.m51_encode.specs.declared.item.Width.TheVariants.{Byte}
-use Rattle.m51_encode.specs.declared.outcome.Outcome.TheVariants.{Stands}
+use Rattle.m51_encode.specs.declared.outcome.OperandOutcome.TheVariants.{Stands}
 use Rattle.m51_encode.specs.declared.reference.FieldValue.TheVariants.{Number}
 use Rattle.m51_encode.specs.Filling.{and_then, or_out_of_range}
 use Rattle.m51_encode.specs.Items.{item_field}
@@ -30,7 +31,8 @@ use Rattle.m51_disasm.specs.declared.line.Target.TheVariants as target
 use Rattle.m51_disasm.specs.declared.statement.Content.{Content as Written}
 use Rattle.m51_disasm.specs.declared.statement.Content.TheVariants as content
 use Rattle.m51_disasm.specs.Lines.{is_among, written_target}
-use Rattle.m51_disasm.specs.Statements.{instr_at, all_inside, can_stand, content_of, statement_at, length_in, address_by, address_in, address_of, target_by, target_of}
+use Rattle.m51_disasm.specs.Statements.{instr_at, all_inside, can_stand, content_of, statement_at, length_in}
+use Rattle.m51_disasm.specs.Statements.{address_by, address_in, address_of, target_by, target_of}
 use Rattle.m51_disasm_proof.specs.Meaning.{body_of}
 use Rattle.m51_disasm_proof.specs.Sound.{AreBytes}
 use Rattle.m51_disasm_proof.specs.Standing.{StandsAt, IsNamed, bytes_at, only_bytes, GivesBytes}
@@ -39,18 +41,21 @@ use Rattle.m51_disasm_proof.proofs.RowRoom.{row_room}
 use Rattle.m51_disasm_proof.proofs.RowsDecoded.{decoded_rows}
 use Rattle.m51_disasm_proof.proofs.SoundLines.{slots_there}
 use Rattle.m51_disasm_proof.proofs.FieldsBack.{data_back}
-use Rattle.m51_disasm_proof.proofs.OperandsBack.{IsLed, is_usual, leads, are_usual, rows_usual, LeadsTo, ByLabel, ByNumber}
+use Rattle.m51_disasm_proof.proofs.OperandsBack.{IsLed, is_usual, leads, are_usual, rows_usual, LeadsTo, ByLabel}
+use Rattle.m51_disasm_proof.proofs.OperandsBack.{ByNumber}
 use Rattle.m51_disasm_proof.proofs.CodeBack.{AreLed, code_back}
 
 -- ---- an operand that leads somewhere is the target
 
-imm_leads : (next : ℕ) (at : Field) (number : ℕ) → is_usual (Imm (record { field = at; byte = 0; number = number })) ≡ true → address_by next at number ≡ None
+imm_leads : (next : ℕ) (at : Field) (number : ℕ) → is_usual (Imm (record { field = at; byte = 0; number = number }))
+    ≡ true → address_by next at number ≡ None
 unfolding address_by
 imm_leads next field.Data number usual = refl
 imm_leads next field.Data16 number usual = refl
 imm_leads next at number usual = absurd (cc usual)
 
-plain_leads : (next : ℕ) (at : Field) (number : ℕ) → is_usual (Plain (record { field = at; byte = 0; number = number })) ≡ true
+plain_leads : (next : ℕ) (at : Field) (number : ℕ) → is_usual (Plain (record { field = at; byte = 0; number = number }))
+    ≡ true
     → leads (Plain (record { field = at; byte = 0; number = number })) ≡ false → address_by next at number ≡ None
 unfolding address_by
 plain_leads next field.Direct number usual other = refl
@@ -59,7 +64,8 @@ plain_leads next field.Data number usual other = absurd (cc usual)
 plain_leads next field.Data16 number usual other = absurd (cc usual)
 plain_leads next at number usual other = absurd (cc other)
 
-bit_leads : (next : ℕ) (at : Field) (number : ℕ) → is_usual (NotBit (record { field = at; byte = 0; number = number })) ≡ true → address_by next at number ≡ None
+bit_leads : (next : ℕ) (at : Field) (number : ℕ) → is_usual (NotBit (record { field = at; byte = 0; number = number }))
+    ≡ true → address_by next at number ≡ None
 unfolding address_by
 bit_leads next field.Bit number usual = refl
 bit_leads next at number usual = absurd (cc usual)
@@ -70,7 +76,8 @@ leads_nowhere next (Plain f) usual other = plain_leads next f.field f.number usu
 leads_nowhere next (NotBit f) usual other = bit_leads next f.field f.number usual
 leads_nowhere next s usual other = refl
 
-leads_there : (next address : ℕ) (s : Slot) (b : Bool) → leads s ≡ b → is_usual s ≡ true → address_in next (field_in s) ≡ Some address → leads s ≡ true
+leads_there : (next address : ℕ) (s : Slot) (b : Bool) → leads s ≡ b → is_usual s ≡ true
+    → address_in next (field_in s) ≡ Some address → leads s ≡ true
 leads_there next address s true e usual to = e
 leads_there next address s false e usual to = absurd (cc (to, leads_nowhere next s usual e))
 
@@ -84,7 +91,8 @@ written_as address true = ByLabel refl
 written_as address false = ByNumber refl
 
 leads_to : (begin : List ℕ) (o : Option ℕ) (address : ℕ) → o ≡ Some address → LeadsTo address (written_target begin o)
-leads_to begin o address e = subst (λ x. LeadsTo address (written_target begin x)) (sym e) (written_as address (is_among begin address))
+leads_to begin o address e =
+    subst (λ x. LeadsTo address (written_target begin x)) (sym e) (written_as address (is_among begin address))
 
 module _ (begin : List ℕ) (next : ℕ) (x : Text) (usual : are_usual x ≡ true) where
   abbrev a : Option ℕ
@@ -106,10 +114,13 @@ module _ (begin : List ℕ) (next : ℕ) (x : Text) (usual : are_usual x ≡ tru
 
   parts : Parts
   parts =
-      let p = and_parts (is_usual x.first && (is_usual x.second && is_usual x.third)) (not (leads x.first && leads x.second) && (not (leads x.first && leads x.third) && not (leads x.second && leads x.third))) usual in
+      let p = and_parts (is_usual x.first && (is_usual x.second && is_usual x.third))
+      (not (leads x.first && leads x.second)
+      && (not (leads x.first && leads x.third) && not (leads x.second && leads x.third))) usual in
       let q = and_parts (is_usual x.first) (is_usual x.second && is_usual x.third) p.0 in
       let r = and_parts (is_usual x.second) (is_usual x.third) q.1 in
-      let s = and_parts (not (leads x.first && leads x.second)) (not (leads x.first && leads x.third) && not (leads x.second && leads x.third)) p.1 in
+      let s = and_parts (not (leads x.first && leads x.second))
+      (not (leads x.first && leads x.third) && not (leads x.second && leads x.third)) p.1 in
       let t = and_parts (not (leads x.first && leads x.third)) (not (leads x.second && leads x.third)) s.1 in
       record { first = q.0; second = r.0; third = r.1; one_two = s.0; one_three = t.0; two_three = t.1 }
 
@@ -119,19 +130,23 @@ module _ (begin : List ℕ) (next : ℕ) (x : Text) (usual : are_usual x ≡ tru
   second_leads : (address : ℕ) → b ≡ Some address → address_of next x ≡ Some address
   second_leads address e =
       let there = leads_there next address x.second (leads x.second) refl parts.second e in
-      let none = leads_nowhere next x.first parts.first (not_both (leads x.first) (leads x.second) there parts.one_two) in
+      let none = leads_nowhere next x.first parts.first
+      (not_both (leads x.first) (leads x.second) there parts.one_two) in
       (λ i. option_or (none i) (option_or (e i) c))
 
   third_leads : (address : ℕ) → c ≡ Some address → address_of next x ≡ Some address
   third_leads address e =
       let there = leads_there next address x.third (leads x.third) refl parts.third e in
-      let none = leads_nowhere next x.first parts.first (not_both (leads x.first) (leads x.third) there parts.one_three) in
-      let neither = leads_nowhere next x.second parts.second (not_both (leads x.second) (leads x.third) there parts.two_three) in
+      let none = leads_nowhere next x.first parts.first
+      (not_both (leads x.first) (leads x.third) there parts.one_three) in
+      let neither = leads_nowhere next x.second parts.second
+      (not_both (leads x.second) (leads x.third) there parts.two_three) in
       (λ i. option_or (none i) (option_or (neither i) (e i)))
 
 -- ---- what a statement gives
 
-module _ (image : List ℕ) (bytes : AreBytes image) (begin : List ℕ) (end at : ℕ) (names : Meanings) (segment : ℕ) (s : StandsAt names segment at) (form : Jump) where
+module _ (image : List ℕ) (bytes : AreBytes image) (begin : List ℕ) (end at : ℕ) (names : Meanings) (segment : ℕ)
+    (s : StandsAt names segment at) (form : Jump) where
   abbrev byte : ℕ
   byte = slice_index image at
 
@@ -145,7 +160,8 @@ module _ (image : List ℕ) (bytes : AreBytes image) (begin : List ℕ) (end at 
 
   bytes_are : (i : Instr) → IsRowHere i → take (length_of i) (padded (encoded i)) ≡ bytes_at image at (length_of i)
   bytes_are i row =
-      let f = fronts_agree i (slice_index image at ∷ slice_index image (at + 1) ∷ slice_index image (at + 2) ∷ []) row in
+      let f = fronts_agree i (slice_index image at ∷ slice_index image (at + 1) ∷ slice_index image (at + 2) ∷ [])
+      row in
       f.code ∙ sym f.front ∙ ap (take (length_of i)) three
       ∙ take-map-range_with_len (slice_index image) at 3 (length_of i) (rows_are_short i).three
 
@@ -153,14 +169,17 @@ module _ (image : List ℕ) (bytes : AreBytes image) (begin : List ℕ) (end at 
   target_to c = written_target begin (target_by at c)
 
   abbrev Gives : Written → Type 0
-  Gives c = IsNamed names segment (target_to c) → GivesBytes names form (body_of (target_to c) c) (bytes_at image at (length_in c))
+  Gives c = IsNamed names segment (target_to c)
+      → GivesBytes names form (body_of (target_to c) c) (bytes_at image at (length_in c))
 
-  led_in : (next : ℕ) (x : Text) (f : Option FieldSlot) → ((address : ℕ) → address_in next f ≡ Some address → address_of next x ≡ Some address)
+  led_in : (next : ℕ) (x : Text) (f : Option FieldSlot)
+      → ((address : ℕ) → address_in next f ≡ Some address → address_of next x ≡ Some address)
       → IsLed names segment at s next (written_target begin (address_of next x)) f
   led_in next x None h = tt
   led_in next x (Some f) h = λ address e. leads_to begin (address_of next x) address (h address e)
 
-  are_led : (next : ℕ) (x : Text) → are_usual x ≡ true → AreLed names segment at s next (written_target begin (address_of next x)) x
+  are_led : (next : ℕ) (x : Text) → are_usual x ≡ true
+      → AreLed names segment at s next (written_target begin (address_of next x)) x
   are_led next x usual = record {
     first = led_in next x (field_in x.first) (first_leads begin next x usual);
     second = led_in next x (field_in x.second) (second_leads begin next x usual);
@@ -176,7 +195,8 @@ module _ (image : List ℕ) (bytes : AreBytes image) (begin : List ℕ) (end at 
       let usual = rows_usual i in
       let inside = (and_parts (nat_le next end) (all_inside next x) stands).1 in
       let led : AreLed names segment at s next t x = are_led next x usual in
-      let h = code_back names segment at s t i form (slots_there begin next x (row_room i (bytes (at + 1)) (bytes (at + 2)) row))
+      let h = code_back names segment at s t i form
+      (slots_there begin next x (row_room i (bytes (at + 1)) (bytes (at + 2)) row))
       (row_numbers i (bytes (at + 1)) (bytes (at + 2)) row) inside led named in
       record {
         content = ap coded_content h.code ∙ ap only_bytes (bytes_are i row);
@@ -198,7 +218,8 @@ module _ (image : List ℕ) (bytes : AreBytes image) (begin : List ℕ) (end at 
         stand = (ap item_outcome byte_field, tt);
       }
 
-  by_test : (i : Instr) (b : Bool) → can_stand end at i ≡ b → IsRowHere i → Gives (cond b (content.Code i) (content.Byte byte))
+  by_test : (i : Instr) (b : Bool) → can_stand end at i ≡ b → IsRowHere i
+      → Gives (cond b (content.Code i) (content.Byte byte))
   by_test i true stands row = code_gives i row stands
   by_test i false stands row = byte_gives
 
@@ -208,11 +229,13 @@ module _ (image : List ℕ) (bytes : AreBytes image) (begin : List ℕ) (end at 
 
   decoded_here : IfSome (instr_at image at) IsRowHere
   unfolding instr_at
-  decoded_here = decoded_rows (slice_index image at) (slice_index image (at + 1)) (slice_index image (at + 2)) (bytes at) (bytes (at + 1)) (bytes (at + 2))
+  decoded_here = decoded_rows (slice_index image at) (slice_index image (at + 1)) (slice_index image (at + 2))
+      (bytes at) (bytes (at + 1)) (bytes (at + 2))
 
   -- a statement gives the bytes of the image at its address
   pub statement_gives : IsNamed names segment (written_target begin (target_of (statement_at image end at)))
-      → GivesBytes names form (body_of (written_target begin (target_of (statement_at image end at))) (statement_at image end at).content)
+      → GivesBytes names form
+      (body_of (written_target begin (target_of (statement_at image end at))) (statement_at image end at).content)
       (bytes_at image at (length_in (statement_at image end at).content))
   unfolding statement_at target_of
   statement_gives named = by_instr (instr_at image at) decoded_here named

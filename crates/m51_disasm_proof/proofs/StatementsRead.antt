@@ -1,5 +1,6 @@
 -- Each line of a disassembly is read as the statement that is meant.
-use Rattle.std.proofs.Common.{◌≡◌, ℕ, ◌<◌, true, false, map, List, [], ◌∷◌, ◌++◌, append_assoc, append-nil, Option, Some, None, option_map, Ok, refl, sym, ap, ◌∙◌, subst, arith}
+use Rattle.std.proofs.Common.{◌≡◌, ℕ, ◌<◌, true, false, map, List, [], ◌∷◌, ◌++◌, append_assoc, append-nil, Option}
+use Rattle.std.proofs.Common.{Some, None, option_map, Ok, refl, sym, ap, ◌∙◌, subst, arith}
 use Rattle.std.specs.Prelude.{codes}
 use Rattle.std.specs.List.{list_all}
 use Rattle.m51_cells.specs.Name.{name_of}
@@ -22,12 +23,13 @@ use Rattle.m51_stmt.proofs.PrintedBodies.{IsBody, body_words, body_said}
 use Rattle.m51_stmt.proofs.Derives.{statement_reads}
 use Rattle.m51_stmt.proofs.PrintedStatements.{name_line, labelled}
 use Rattle.m51_text.specs.Said.{is_character}
-use Rattle.m51_disasm.specs.declared.line.Line.{Line}
-use Rattle.m51_disasm.specs.declared.line.Line.TheVariants as line
+use Rattle.m51_disasm.specs.declared.line.SourceLine.{SourceLine}
+use Rattle.m51_disasm.specs.declared.line.SourceLine.TheVariants as line
 use Rattle.m51_disasm.specs.declared.line.Target.{Target}
 use Rattle.m51_disasm.specs.declared.statement.Content.{Content}
 use Rattle.m51_disasm.specs.declared.statement.Content.TheVariants as content
-use Rattle.m51_disasm.specs.Texts.{byte_text, word_text, label_text, after, spelled, content_text, label_front, statement_text, line_text}
+use Rattle.m51_disasm.specs.Texts.{byte_text, word_text, label_text, after, spelled, content_text, label_front}
+use Rattle.m51_disasm.specs.Texts.{statement_text, line_text}
 use Rattle.m51_disasm_proof.specs.Meaning.{body_of, without_label, meant}
 use Rattle.m51_disasm_proof.specs.Sound.{IsContent, IsLabel, IsSound}
 use Rattle.m51_disasm_proof.proofs.CutLines.{IsCutInto, no_words, after_blank, after_word, words_read}
@@ -43,7 +45,8 @@ pub record Begins (line : List ℕ) : Type 0 where
   pub written : name_of name ≡ Some name
 
 begun_line : (line : List ℕ) → Begins line → any_line line ≡ token_line line
-begun_line line b = subst (λ l. any_line l ≡ token_line l) (sym b.is) (name_line b.name b.rest (named_is_name b.name b.name b.written))
+begun_line line b = subst (λ l. any_line l ≡ token_line l) (sym b.is)
+    (name_line b.name b.rest (named_is_name b.name b.name b.written))
 
 -- what a line says after its label: its words are those of a body of the grammar
 pub record IsReadBody (text : List ℕ) (b : BodyTree) : Type 0 where
@@ -64,7 +67,8 @@ bare_read text b r = record {
   says =
       begun_line text r.begins
       ∙ words_read text r.words (without_label b) r.cut
-      (ap statement r.symbols ∙ statement_reads (map symbol (body_words b)) (without_label b) (grammar.Bare (body_said false 0 (λ _. refl) b (r.good 0))));
+      (ap statement r.symbols ∙ statement_reads (map symbol (body_words b)) (without_label b)
+      (grammar.Bare (body_said false 0 (λ _. refl) b (r.good 0))));
   characters = r.cut.characters;
 }
 
@@ -75,12 +79,15 @@ labelled_read address text b h r =
     let free = label_is_free address h in
     let line = name ++ 0x3A ∷ 32 ∷ text in
     let ws : List Word = name_word name ∷ sign_word 0x3A ∷ r.words in
-    let c : IsCutInto line ws = after_word (name_word name) (0x3A ∷ 32 ∷ text) (sign_word 0x3A ∷ r.words) (name_stands name (0x3A ∷ 32 ∷ text) free.leaf.written refl)
+    let c : IsCutInto line ws =
+    after_word (name_word name) (0x3A ∷ 32 ∷ text) (sign_word 0x3A ∷ r.words)
+    (name_stands name (0x3A ∷ 32 ∷ text) free.leaf.written refl)
     (after_word (sign_word 0x3A) (32 ∷ text) r.words (colon_stands (32 ∷ text)) (after_blank text r.words r.cut)) in
     let says : statement (map symbol ws) ≡ Some (labelled name b) =
     ap (λ l. statement (symbol (name_word name) ∷ symbols.Colon ∷ l)) r.symbols
     ∙ ap (λ s. statement (s ∷ symbols.Colon ∷ map symbol (body_words b))) (name_symbol name free.leaf)
-    ∙ statement_reads (symbols.Name name ∷ symbols.Colon ∷ map symbol (body_words b)) (labelled name b) (grammar.Labelled free.free (body_said true 2 (λ e. absurd (cc e)) b (r.good 2))) in
+    ∙ statement_reads (symbols.Name name ∷ symbols.Colon ∷ map symbol (body_words b)) (labelled name b)
+    (grammar.Labelled free.free (body_said true 2 (λ e. absurd (cc e)) b (r.good 2))) in
     subst (λ l. IsRead l (labelled name b)) (sym (append_assoc name (codes ": ") text))
     (record {
       says =
@@ -90,7 +97,8 @@ labelled_read address text b h r =
     })
 
 -- a byte
-byte_read : (t : Target) (byte : ℕ) → byte < 256 → IsReadBody (content_text t (content.Byte byte)) (body_of t (content.Byte byte))
+byte_read : (t : Target) (byte : ℕ) → byte < 256
+    → IsReadBody (content_text t (content.Byte byte)) (body_of t (content.Byte byte))
 unfolding content_text
 byte_read t byte h =
     let few : byte < 65536 = omega (arith, h) in
@@ -99,12 +107,16 @@ byte_read t byte h =
       good = λ at. (few, tt);
       words = name_word (codes "DB") ∷ byte_word byte ∷ [];
       symbols = refl;
-      cut = after_word (name_word (codes "DB")) (32 ∷ byte_text byte) _ (name_stands (codes "DB") (32 ∷ byte_text byte) refl refl)
-          (after_blank (byte_text byte) _ (subst (λ l. IsCutInto l (byte_word byte ∷ [])) (append-nil (byte_text byte)) (after_word (byte_word byte) [] [] (byte_stands byte [] h refl) no_words)));
+      cut = after_word (name_word (codes "DB")) (32 ∷ byte_text byte) _
+          (name_stands (codes "DB") (32 ∷ byte_text byte) refl refl)
+          (after_blank (byte_text byte) _
+          (subst (λ l. IsCutInto l (byte_word byte ∷ [])) (append-nil (byte_text byte))
+          (after_word (byte_word byte) [] [] (byte_stands byte [] h refl) no_words)));
     }
 
 -- an instruction
-code_read : (t : Target) (i : Instr) → IsContent t (content.Code i) → IsReadBody (content_text t (content.Code i)) (body_of t (content.Code i))
+code_read : (t : Target) (i : Instr) → IsContent t (content.Code i)
+    → IsReadBody (content_text t (content.Code i)) (body_of t (content.Code i))
 unfolding content_text spelled
 code_read t i h =
     let m = (text_of i).mnemonic in
@@ -115,7 +127,12 @@ code_read t i h =
     let c = after (codes ",") t (text_of i).third in
     let Q : List OperandTree → Type 0 = λ os. IsReadBody (content_text t (content.Code i)) (body.Code m os) in
     subst Q (sym r.is) (record {
-      begins = record { name = m; rest = a ++ (b ++ c); is = append_assoc (m ++ a) b c ∙ append_assoc m a (b ++ c); written = code.written };
+      begins = record {
+        name = m;
+        rest = a ++ (b ++ c);
+        is = append_assoc (m ++ a) b c ∙ append_assoc m a (b ++ c);
+        written = code.written;
+      };
       good = λ at. code;
       words = r.words;
       symbols = r.symbols;
@@ -127,22 +144,27 @@ content_read t (content.Byte byte) h = byte_read t byte h
 content_read t (content.Code i) h = code_read t i h
 
 statement_read : (label : Option ℕ) (t : Target) (c : Content) → IsLabel label → IsContent t c
-    → IsRead (label_front label ++ content_text t c) (record { label = option_map label_text label; body = body_of t c })
+    → IsRead (label_front label ++ content_text t c)
+    (record { label = option_map label_text label; body = body_of t c })
 unfolding label_front
 statement_read None t c l h = bare_read (content_text t c) (body_of t c) (content_read t c h)
 statement_read (Some address) t c l h = labelled_read address (content_text t c) (body_of t c) l (content_read t c h)
 
 -- CSEG AT
-segment_read : (base : ℕ) → base < 65536 → IsReadBody (codes "CSEG AT " ++ word_text base) (body.Select kind.Code (Some (tree.Number base)))
+segment_read : (base : ℕ) → base < 65536
+    → IsReadBody (codes "CSEG AT " ++ word_text base) (body.Select kind.Code (Some (tree.Number base)))
 unfolding directive_of select_of
 segment_read base h = record {
   begins = record { name = codes "CSEG"; rest = 32 ∷ (codes "AT " ++ word_text base); is = refl; written = refl };
   good = λ at. (refl, h);
   words = name_word (codes "CSEG") ∷ name_word (codes "AT") ∷ number_word base ∷ [];
   symbols = refl;
-  cut = after_word (name_word (codes "CSEG")) (32 ∷ (codes "AT " ++ word_text base)) _ (name_stands (codes "CSEG") _ refl refl)
-      (after_blank _ _ (after_word (name_word (codes "AT")) (32 ∷ word_text base) _ (name_stands (codes "AT") _ refl refl)
-      (after_blank _ _ (subst (λ l. IsCutInto l (number_word base ∷ [])) (append-nil (word_text base)) (after_word (number_word base) [] [] (word_stands base [] h refl) no_words)))));
+  cut = after_word (name_word (codes "CSEG")) (32 ∷ (codes "AT " ++ word_text base)) _
+      (name_stands (codes "CSEG") _ refl refl)
+      (after_blank _ _ (after_word (name_word (codes "AT")) (32 ∷ word_text base) _
+      (name_stands (codes "AT") _ refl refl)
+      (after_blank _ _ (subst (λ l. IsCutInto l (number_word base ∷ [])) (append-nil (word_text base))
+      (after_word (number_word base) [] [] (word_stands base [] h refl) no_words)))));
 }
 
 end_read : IsReadBody (codes "END") body.End
@@ -155,9 +177,11 @@ end_read = record {
 }
 
 -- each line that can be written is read as the statement that is meant
-pub line_read : (l : Line) → IsSound l → IsRead (line_text l) (meant l)
+pub line_read : (l : SourceLine) → IsSound l → IsRead (line_text l) (meant l)
 unfolding line_text statement_text any_line control.by_word
 line_read line.Nomod51 h = record { says = refl; characters = refl }
-line_read (line.Segment base) h = bare_read (codes "CSEG AT " ++ word_text base) (body.Select kind.Code (Some (tree.Number base))) (segment_read base h)
+line_read (line.Segment base) h =
+    bare_read (codes "CSEG AT " ++ word_text base) (body.Select kind.Code (Some (tree.Number base)))
+    (segment_read base h)
 line_read (line.Statement s) h = statement_read s.label s.target s.content h.label h.content
 line_read line.End h = bare_read (codes "END") body.End end_read

@@ -1,5 +1,7 @@
 -- Each statement of a disassembly is at its address.
-use Rattle.std.proofs.Common.{◌≡◌, ℕ, zero, suc, ◌+◌, ◌-◌, ◌<◌, ◌≤◌, nat_le, Bool, true, false, cond, List, [], ◌∷◌, ◌++◌, append_assoc, length, map, flat_map, Option, Some, None, refl, ap, ◌∙◌, subst, arith, slice_get, slice_index}
+use Rattle.std.proofs.Common.{◌≡◌, ℕ, zero, suc, ◌+◌, ◌-◌, ◌<◌, ◌≤◌, nat_le, Bool, true, false, cond, List, [], ◌∷◌}
+use Rattle.std.proofs.Common.{◌++◌, append_assoc, length, map, flat_map, Option, Some, None, refl, ap, ◌∙◌, subst}
+use Rattle.std.proofs.Common.{arith, slice_get, slice_index}
 use Rattle.std.proofs.lemmas.Bool.{leb-true}
 use Rattle.std.proofs.lemmas.Grind.{flat_map-append}
 use Rattle.m51_cells.specs.declared.kind.Kind.TheVariants as kind
@@ -8,14 +10,15 @@ use Rattle.m51_isa.specs.declared.instr.Instr.TheVariants.{Nop}
 use Rattle.m51_isa.specs.Spelling.{text_of}
 use Rattle.m51_isa.specs.Table.{length_of}
 use Rattle.m51_asm.specs.Assignment.{TextSegment, absolute, opening}
-use Rattle.m51_disasm.specs.declared.line.Line.{Line}
-use Rattle.m51_disasm.specs.declared.line.Line.TheVariants as line
-use Rattle.m51_disasm.specs.declared.part.Part.{Part}
+use Rattle.m51_disasm.specs.declared.line.SourceLine.{SourceLine}
+use Rattle.m51_disasm.specs.declared.line.SourceLine.TheVariants as line
+use Rattle.m51_disasm.specs.declared.part.CodeRange.{CodeRange}
 use Rattle.m51_disasm.specs.declared.statement.Content.{Content}
 use Rattle.m51_disasm.specs.declared.statement.Content.TheVariants as content
 use Rattle.m51_disasm.specs.declared.statement.Statement.{Statement}
 use Rattle.m51_disasm.specs.Lines.{beginnings, targets, line_of, part_lines, lines_of}
-use Rattle.m51_disasm.specs.Statements.{instr_at, all_inside, can_stand, content_of, statement_at, length_in, statements_from, statements_of}
+use Rattle.m51_disasm.specs.Statements.{instr_at, all_inside, can_stand, content_of, statement_at, length_in}
+use Rattle.m51_disasm.specs.Statements.{statements_from, statements_of}
 use Rattle.m51_stmt.proofs.WordCuts.{left}
 use Rattle.m51_disasm_proof.specs.Places.{Spot, lines_before, segment_after, place_after, spots_from}
 
@@ -34,11 +37,13 @@ record IsWithin (at end : ℕ) (c : Content) : Type 0 where
   some : 1 ≤ length_in c
   ends : at + length_in c ≤ end
 
-code_within : (at end byte : ℕ) (i : Instr) (b : Bool) → can_stand end at i ≡ b → at < end → IsWithin at end (cond b (content.Code i) (content.Byte byte))
+code_within : (at end byte : ℕ) (i : Instr) (b : Bool) → can_stand end at i ≡ b → at < end
+    → IsWithin at end (cond b (content.Code i) (content.Byte byte))
 unfolding can_stand
 code_within at end byte i true h below = record {
   some = some_bytes i;
-  ends = leb-true (at + length_of i) end (left (nat_le (at + length_of i) end) (all_inside (at + length_of i) (text_of i)) h);
+  ends = leb-true (at + length_of i) end
+      (left (nat_le (at + length_of i) end) (all_inside (at + length_of i) (text_of i)) h);
 }
 code_within at end byte i false h below = record { some = omega arith; ends = omega (arith, below) }
 
@@ -46,10 +51,13 @@ content_within : (at end byte : ℕ) (o : Option Instr) → at < end → IsWithi
 content_within at end byte None below = record { some = omega arith; ends = omega (arith, below) }
 content_within at end byte (Some i) below = code_within at end byte i (can_stand end at i) refl below
 
-same_follow : (from from2 to to2 : ℕ) (statements : List Statement) → from ≡ from2 → to ≡ to2 → Follow from statements to → Follow from2 statements to2
-same_follow from from2 to to2 statements e h f = subst (λ n. Follow from2 statements n) h (subst (λ n. Follow n statements to) e f)
+same_follow : (from from2 to to2 : ℕ) (statements : List Statement) → from ≡ from2 → to ≡ to2
+    → Follow from statements to → Follow from2 statements to2
+same_follow from from2 to to2 statements e h f =
+    subst (λ n. Follow from2 statements n) h (subst (λ n. Follow n statements to) e f)
 
-follow : (image : List ℕ) (end passed at more : ℕ) → at + more ≡ end → passed ≤ more → Follow (at + passed) (statements_from image end passed at more) end
+follow : (image : List ℕ) (end passed at more : ℕ) → at + more ≡ end → passed ≤ more
+    → Follow (at + passed) (statements_from image end passed at more) end
 unfolding statements_from statement_at
 follow image end zero at zero ends fits = ends
 follow image end (suc passed) at zero ends fits = absurd (omega (arith, fits))
@@ -63,21 +71,28 @@ follow image end zero at (suc more) ends fits =
     let here : at + 0 ≡ at = omega arith in
     let next : at + 1 + (length_in c - 1) ≡ at + 0 + length_in c = omega (arith, within.some) in (
       here,
-      same_follow (at + 1 + (length_in c - 1)) (at + 0 + length_in c) end end (statements_from image end (length_in c - 1) (at + 1) more) next refl
-          (follow image end (length_in c - 1) (at + 1) more (omega (arith, ends)) (omega (arith, within.ends, within.some, ends))),
+      same_follow (at + 1 + (length_in c - 1)) (at + 0 + length_in c) end end
+          (statements_from image end (length_in c - 1) (at + 1) more) next refl
+          (follow image end (length_in c - 1) (at + 1) more (omega (arith, ends))
+          (omega (arith, within.ends, within.some, ends))),
     )
 
 -- the statements of a part follow one another from its base to its end
-pub part_follows : (image : List ℕ) (part : Part) → Follow part.base (statements_of image part) (part.base + part.size)
+pub part_follows : (image : List ℕ) (part : CodeRange)
+    → Follow part.base (statements_of image part) (part.base + part.size)
 part_follows image part =
     let begin : part.base + 0 ≡ part.base = omega arith in
-    same_follow (part.base + 0) part.base (part.base + part.size) (part.base + part.size) (statements_of image part) begin refl
+    same_follow (part.base + 0) part.base (part.base + part.size) (part.base + part.size) (statements_of image part)
+    begin refl
     (follow image (part.base + part.size) 0 part.base part.size refl (omega arith))
 
 -- ---- their spots
 
-statement_spots : (begin led : List ℕ) (statements : List Statement) (rest : List Line) (k : ℕ) (seg : TextSegment) (from to : ℕ) → Follow from statements to
-    → (j : ℕ) (s : Statement) → slice_get statements j ≡ Some s → slice_get (spots_from k seg from (map (line_of begin led) statements ++ rest)) j ≡ Some (record { segment = seg; place = s.at })
+statement_spots : (begin led : List ℕ) (statements : List Statement) (rest : List SourceLine) (k : ℕ)
+    (seg : TextSegment) (from to : ℕ) → Follow from statements to
+    → (j : ℕ) (s : Statement) → slice_get statements j ≡ Some s
+    → slice_get (spots_from k seg from (map (line_of begin led) statements ++ rest)) j
+    ≡ Some (record { segment = seg; place = s.at })
 statement_spots begin led [] rest k seg from to f j s e = absurd (cc e)
 statement_spots begin led (x ∷ statements) rest k seg from to f zero s e =
     let same : x ≡ s = cc e in
@@ -86,12 +101,13 @@ statement_spots begin led (x ∷ statements) rest k seg from to f (suc j) s e =
     statement_spots begin led statements rest (suc k) seg (from + length_in x.content) to f.1 j s e
 
 -- the spots of lines after other lines
-record IsAfter (ys : List Line) (k : ℕ) (spots : List Spot) (count : ℕ) : Type 0 where
+record IsAfter (ys : List SourceLine) (k : ℕ) (spots : List Spot) (count : ℕ) : Type 0 where
   segment : TextSegment
   place : ℕ
   are : (j : ℕ) → slice_get spots (count + j) ≡ slice_get (spots_from k segment place ys) j
 
-spots_after : (xs ys : List Line) (k : ℕ) (seg : TextSegment) (place : ℕ) → IsAfter ys (k + length xs) (spots_from k seg place (xs ++ ys)) (length xs)
+spots_after : (xs ys : List SourceLine) (k : ℕ) (seg : TextSegment) (place : ℕ)
+    → IsAfter ys (k + length xs) (spots_from k seg place (xs ++ ys)) (length xs)
 spots_after [] ys k seg place = record {
   segment = seg;
   place = place;
@@ -113,26 +129,33 @@ spots_after (x ∷ xs) ys k seg place =
     }
 
 -- the lines of a disassembly, about one of its parts
-pub around : (image : List ℕ) (before : List Part) (part : Part) (after : List Part)
-    → lines_of image (before ++ part ∷ after) ≡ (line.Nomod51 ∷ flat_map (part_lines image) before) ++ (part_lines image part ++ (flat_map (part_lines image) after ++ line.End ∷ []))
+pub around : (image : List ℕ) (before : List CodeRange) (part : CodeRange) (after : List CodeRange)
+    → lines_of image (before ++ part ∷ after) ≡ (line.Nomod51 ∷ flat_map (part_lines image) before)
+    ++ (part_lines image part ++ (flat_map (part_lines image) after ++ line.End ∷ []))
 unfolding lines_of
 around image before part after =
     ap (λ l. line.Nomod51 ∷ (l ++ line.End ∷ [])) (flat_map-append (part_lines image) before (part ∷ after))
-    ∙ ap (λ l. line.Nomod51 ∷ l) (append_assoc (flat_map (part_lines image) before) (part_lines image part ++ flat_map (part_lines image) after) (line.End ∷ [])
-    ∙ ap (λ l. flat_map (part_lines image) before ++ l) (append_assoc (part_lines image part) (flat_map (part_lines image) after) (line.End ∷ [])))
+    ∙ ap (λ l. line.Nomod51 ∷ l)
+    (append_assoc (flat_map (part_lines image) before) (part_lines image part ++ flat_map (part_lines image) after)
+    (line.End ∷ [])
+    ∙ ap (λ l. flat_map (part_lines image) before ++ l)
+    (append_assoc (part_lines image part) (flat_map (part_lines image) after) (line.End ∷ [])))
 
 -- the spot of a statement of a part: its address, in the segment that the CSEG of the part begins
-pub statement_spot : (image : List ℕ) (before : List Part) (part : Part) (after : List Part) (j : ℕ) (s : Statement) → slice_get (statements_of image part) j ≡ Some s
+pub statement_spot : (image : List ℕ) (before : List CodeRange) (part : CodeRange) (after : List CodeRange) (j : ℕ)
+    (s : Statement) → slice_get (statements_of image part) j ≡ Some s
     → slice_get (spots_from 0 opening 0 (lines_of image (before ++ part ∷ after))) (lines_before image before + suc j)
     ≡ Some (record { segment = absolute (lines_before image before + 2) kind.Code part.base; place = s.at })
 unfolding part_lines
 statement_spot image before part after j s e =
-    let front : List Line = line.Nomod51 ∷ flat_map (part_lines image) before in
-    let rest : List Line = flat_map (part_lines image) after ++ line.End ∷ [] in
+    let front : List SourceLine = line.Nomod51 ∷ flat_map (part_lines image) before in
+    let rest : List SourceLine = flat_map (part_lines image) after ++ line.End ∷ [] in
     let n = lines_before image before in
     let at = spots_after front (part_lines image part ++ rest) 0 opening 0 in
     let same : 0 + n ≡ n = omega arith in
     ap (λ l. slice_get (spots_from 0 opening 0 l) (n + suc j)) (around image before part after)
     ∙ at.are (suc j)
     ∙ ap (λ i. slice_get (spots_from i at.segment at.place (part_lines image part ++ rest)) (suc j)) same
-    ∙ statement_spots (beginnings (statements_of image part)) (targets (statements_of image part)) (statements_of image part) rest (suc n) (absolute (n + 2) kind.Code part.base) part.base (part.base + part.size) (part_follows image part) j s e
+    ∙ statement_spots (beginnings (statements_of image part)) (targets (statements_of image part))
+    (statements_of image part) rest (suc n) (absolute (n + 2) kind.Code part.base) part.base (part.base + part.size)
+    (part_follows image part) j s e

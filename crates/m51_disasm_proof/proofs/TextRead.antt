@@ -1,5 +1,7 @@
 -- The text of a disassembly is read as its lines, and no line has a fault.
-use Rattle.std.proofs.Common.{◌≡◌, ℕ, zero, suc, ◌+◌, ◌-◌, ◌<◌, ◌≤◌, ◌&&◌, ◌||◌, not, nat_lt, Bool, true, false, cond, List, [], ◌∷◌, ◌++◌, length, length-append, take, map, get_or, Some, None, Ok, Err, refl, ap, ◌∙◌, append_assoc, arith}
+use Rattle.std.proofs.Common.{◌≡◌, ℕ, zero, suc, ◌+◌, ◌-◌, ◌<◌, ◌≤◌, ◌&&◌, ◌||◌, not, nat_lt, Bool, true, false, cond}
+use Rattle.std.proofs.Common.{List, [], ◌∷◌, ◌++◌, length, length-append, take, map, get_or, Some, None, Ok, Err, refl}
+use Rattle.std.proofs.Common.{ap, ◌∙◌, append_assoc, arith}
 use Rattle.std.proofs.Math.Bool.{and-false}
 use Rattle.std.specs.Prelude.{codes}
 use Rattle.std.specs.List.{AllByRecursion, list_all, list_any, slice_split}
@@ -22,8 +24,8 @@ use Rattle.m51_text.specs.Said.{is_character, said, is_end_body, is_end, is_text
 use Rattle.m51_text.specs.Text.{TextLine, brought, lines_with, inclusion_by, include_lines, text_lines}
 use Rattle.m51_text.specs.Faults.{ends_source, fault_with, fault_of, fault_by_place, before, faults_from, faults_of}
 use Rattle.m51_text.specs.Answer.{Lines, with_statement, statements_of, faults_or_lines, text_of}
-use Rattle.m51_disasm.specs.declared.line.Line.{Line}
-use Rattle.m51_disasm.specs.declared.line.Line.TheVariants as line
+use Rattle.m51_disasm.specs.declared.line.SourceLine.{SourceLine}
+use Rattle.m51_disasm.specs.declared.line.SourceLine.TheVariants as line
 use Rattle.m51_disasm.specs.declared.line.Target.{Target}
 use Rattle.m51_disasm.specs.declared.statement.Content.{Content}
 use Rattle.m51_disasm.specs.declared.statement.Content.TheVariants as content
@@ -35,12 +37,13 @@ use Rattle.m51_disasm_proof.proofs.StatementsRead.{line_read}
 
 -- ---- each line says what is meant
 
-pub line_said : (l : Line) → IsSound l → said (line_text l) ≡ Ok (meant l)
+pub line_said : (l : SourceLine) → IsSound l → said (line_text l) ≡ Ok (meant l)
 unfolding said
 line_said l is =
     let read = line_read l is in
     ap (λ b. cond b (statement_of (line_text l)) (Err BAD_BYTE)) read.characters
-    ∙ ap (λ b. cond b (Err LONG_LINE) (any_line (line_text l))) (at_most_255 (length (line_text l)) (line_few l)) ∙ read.says
+    ∙ ap (λ b. cond b (Err LONG_LINE) (any_line (line_text l))) (at_most_255 (length (line_text l)) (line_few l))
+    ∙ read.says
 
 -- ---- the lines of the text
 
@@ -64,18 +67,22 @@ at_return (c ∷ text) zero h e = no_return c (left (is_character c) (list_all i
 at_return (c ∷ text) (suc place) h e = at_return text place (right (is_character c) (list_all is_character text) h) e
 
 kept : (text : List ℕ) → list_all is_character text ≡ true → strip_carriage_return text ≡ text
-kept text h = ap (λ (b : Bool). cond b (take (length text - 1) text) text) (ne_eqb (get_or text (length text - 1) 0) 13 (at_return text (length text - 1) h))
+kept text h = ap (λ (b : Bool). cond b (take (length text - 1) text) text)
+    (ne_eqb (get_or text (length text - 1) 0) 13 (at_return text (length text - 1) h))
 
-first_line : (text rest : List ℕ) → list_all is_character text ≡ true → lines ((text ++ codes "\n") ++ rest) ≡ text ∷ lines rest
+first_line : (text rest : List ℕ) → list_all is_character text ≡ true
+    → lines ((text ++ codes "\n") ++ rest) ≡ text ∷ lines rest
 first_line text rest h =
     ap lines (append_assoc text (codes "\n") rest)
-    ∙ ap lines_of_parts (slice_split_at is_line_feed text 10 rest (All-from_recursion (λ c. is_line_feed c ≡ false) text (no_feed text h)) refl)
+    ∙ ap lines_of_parts (slice_split_at is_line_feed text 10 rest
+    (All-from_recursion (λ c. is_line_feed c ≡ false) text (no_feed text h)) refl)
     ∙ ended text (slice_split is_line_feed rest) (omega (arith, length-slice_split is_line_feed rest))
     ∙ ap (λ (line : List ℕ). line ∷ lines rest) (kept text h)
 
-lines_are : (ls : List Line) → AllByRecursion IsSound ls → lines (text_of_lines ls) ≡ map line_text ls
+lines_are : (ls : List SourceLine) → AllByRecursion IsSound ls → lines (text_of_lines ls) ≡ map line_text ls
 lines_are [] is = refl
-lines_are (l ∷ ls) is = first_line (line_text l) (text_of_lines ls) (line_read l is.0).characters ∙ ap (λ rest. line_text l ∷ rest) (lines_are ls is.1)
+lines_are (l ∷ ls) is = first_line (line_text l) (text_of_lines ls) (line_read l is.0).characters
+    ∙ ap (λ rest. line_text l ∷ rest) (lines_are ls is.1)
 
 -- ---- the lines are only those of the source
 
@@ -83,35 +90,37 @@ nothing_asked_of : (t : Target) (c : Content) → include_name (body_of t c) ≡
 nothing_asked_of t (content.Byte byte) = refl
 nothing_asked_of t (content.Code i) = refl
 
-nothing_asked : (l : Line) → include_name (meant l).body ≡ None
+nothing_asked : (l : SourceLine) → include_name (meant l).body ≡ None
 nothing_asked line.Nomod51 = refl
 nothing_asked (line.Segment base) = refl
 nothing_asked (line.Statement s) = nothing_asked_of s.target s.content
 nothing_asked line.End = refl
 
-none_brought : (l : Line) → IsSound l → brought [] 8 (line_text l) ≡ []
+none_brought : (l : SourceLine) → IsSound l → brought [] 8 (line_text l) ≡ []
 unfolding brought
 none_brought l is =
     ap (λ r. include_lines [] (brought [] 7) 7 (inclusion_by [] 8 (asked r))) (line_said l is)
     ∙ ap (λ o. include_lines [] (brought [] 7) 7 (inclusion_by [] 8 o)) (nothing_asked l)
 
 -- the lines of a text, from this number on
-abbrev numbered : ℕ → List Line → List TextLine
+abbrev numbered : ℕ → List SourceLine → List TextLine
 numbered n [] = []
 numbered n (l ∷ ls) = record { file = 0; line = n; levels = 8; bytes = line_text l } ∷ numbered (n + 1) ls
 
-own_lines : (n : ℕ) (ls : List Line) → AllByRecursion IsSound ls → lines_with (brought [] 8) 8 0 n (map line_text ls) ≡ numbered n ls
+own_lines : (n : ℕ) (ls : List SourceLine) → AllByRecursion IsSound ls
+    → lines_with (brought [] 8) 8 0 n (map line_text ls) ≡ numbered n ls
 own_lines n [] is = refl
 own_lines n (l ∷ ls) is =
     let this : TextLine = record { file = 0; line = n; levels = 8; bytes = line_text l } in
     ap (λ more. this ∷ (more ++ lines_with (brought [] 8) 8 0 (n + 1) (map line_text ls))) (none_brought l is.0)
     ∙ ap (λ more. this ∷ more) (own_lines (n + 1) ls is.1)
 
-count : (n : ℕ) (ls : List Line) → length (numbered n ls) ≡ length ls
+count : (n : ℕ) (ls : List SourceLine) → length (numbered n ls) ≡ length ls
 count n [] = refl
 count n (l ∷ ls) = ap suc (count (n + 1) ls)
 
-all_lines : (source : SourceFile) (ls : List Line) → AllByRecursion IsSound ls → length ls ≤ 65535 → source.bytes ≡ text_of_lines ls → text_lines source [] ≡ numbered 1 ls
+all_lines : (source : SourceFile) (ls : List SourceLine) → AllByRecursion IsSound ls → length ls ≤ 65535
+    → source.bytes ≡ text_of_lines ls → text_lines source [] ≡ numbered 1 ls
 unfolding text_lines
 all_lines source ls is few bytes =
     ap (λ b. take 65536 (lines_with (brought [] 8) 8 0 1 (lines b))) bytes
@@ -122,7 +131,7 @@ all_lines source ls is few bytes =
 -- ---- no line has a fault
 
 -- END comes last, and nowhere else
-abbrev pub EndsOnce : List Line → Type 0
+abbrev pub EndsOnce : List SourceLine → Type 0
 EndsOnce [] = ⊥
 EndsOnce (l ∷ []) = l ≡ line.End
 EndsOnce (l ∷ m ∷ ls) = (is_end_body (meant l).body ≡ false) × EndsOnce (m ∷ ls)
@@ -131,27 +140,33 @@ or_true : (a b : Bool) → b ≡ true → (a || b) ≡ true
 or_true true b h = refl
 or_true false b h = h
 
-ends_said : (n : ℕ) (l : Line) → IsSound l → ends_source (record { file = 0; line = n; levels = 8; bytes = line_text l }) ≡ is_end_body (meant l).body
+ends_said : (n : ℕ) (l : SourceLine) → IsSound l
+    → ends_source (record { file = 0; line = n; levels = 8; bytes = line_text l }) ≡ is_end_body (meant l).body
 ends_said n l is = ap is_end (line_said l is)
 
-has_end : (n : ℕ) (ls : List Line) → AllByRecursion IsSound ls → EndsOnce ls → list_any ends_source (numbered n ls) ≡ true
+has_end : (n : ℕ) (ls : List SourceLine) → AllByRecursion IsSound ls → EndsOnce ls
+    → list_any ends_source (numbered n ls) ≡ true
 has_end n [] is e = absurd e
 has_end n (l ∷ []) is e = ap (λ b. b || false) (ends_said n l is.0 ∙ ap (λ l. is_end_body (meant l).body) e)
-has_end n (l ∷ m ∷ ls) is e = or_true (ends_source (record { file = 0; line = n; levels = 8; bytes = line_text l })) (list_any ends_source (numbered (n + 1) (m ∷ ls))) (has_end (n + 1) (m ∷ ls) is.1 e.1)
+has_end n (l ∷ m ∷ ls) is e = or_true (ends_source (record { file = 0; line = n; levels = 8; bytes = line_text l }))
+    (list_any ends_source (numbered (n + 1) (m ∷ ls))) (has_end (n + 1) (m ∷ ls) is.1 e.1)
 
 -- a line without an END above it, before line 65,536
-no_fault : (above : List TextLine) (n : ℕ) (l : Line) → IsSound l → list_any ends_source above ≡ false → length above < 65535
+no_fault : (above : List TextLine) (n : ℕ) (l : SourceLine) → IsSound l → list_any ends_source above ≡ false
+    → length above < 65535
     → fault_of [] above (record { file = 0; line = n; levels = 8; bytes = line_text l }) false ≡ None
 no_fault above n l is none few =
     let this : TextLine = record { file = 0; line = n; levels = 8; bytes = line_text l } in
     let s = meant l in
     ap (fault_with [] above this false) (line_said l is)
-    ∙ ap (λ o. fault_by_place (list_any ends_source above && is_text s || is_end (Ok s) && false) (inclusion_by [] 8 o) (length above)) (nothing_asked l)
+    ∙ ap (λ o. fault_by_place (list_any ends_source above && is_text s || is_end (Ok s) && false) (inclusion_by [] 8 o)
+    (length above)) (nothing_asked l)
     ∙ ap (λ b. fault_by_place (b && is_text s || is_end (Ok s) && false) (inclusion_by [] 8 None) (length above)) none
     ∙ ap (λ b. fault_by_place b (inclusion_by [] 8 None) (length above)) (and-false (is_end_body s.body))
     ∙ ap (λ b. cond b (Some TOO_MANY) None) (ne_eqb (length above) 65535 (λ e. omega (arith, e, few)))
 
-no_faults : (above : List TextLine) (n : ℕ) (ls : List Line) → AllByRecursion IsSound ls → EndsOnce ls → list_any ends_source above ≡ false → length above + length ls ≤ 65535
+no_faults : (above : List TextLine) (n : ℕ) (ls : List SourceLine) → AllByRecursion IsSound ls → EndsOnce ls
+    → list_any ends_source above ≡ false → length above + length ls ≤ 65535
     → faults_from [] false above (numbered n ls) ≡ []
 no_faults above n [] is e none few = absurd e
 no_faults above n (l ∷ []) is e none few =
@@ -163,17 +178,20 @@ no_faults above n (l ∷ m ∷ ls) is e none few =
     let still : list_any ends_source (above ++ this ∷ []) ≡ false =
     list_any-append ends_source above (this ∷ []) ∙ (λ i. none i || (((ends_said n l is.0 ∙ e.0) i) || false)) in
     let size = length-append above (this ∷ []) in
-    ap (λ o. before this o (faults_from [] false (above ++ this ∷ []) rest)) (no_fault above n l is.0 none (omega (arith, few)))
+    ap (λ o. before this o (faults_from [] false (above ++ this ∷ []) rest))
+    (no_fault above n l is.0 none (omega (arith, few)))
     ∙ no_faults (above ++ this ∷ []) (n + 1) (m ∷ ls) is.1 e.1 still (omega (arith, few, size))
 
-statements_are : (n : ℕ) (ls : List Line) → AllByRecursion IsSound ls → statements_of (numbered n ls) ≡ read_from n ls
+statements_are : (n : ℕ) (ls : List SourceLine) → AllByRecursion IsSound ls
+    → statements_of (numbered n ls) ≡ read_from n ls
 statements_are n [] is = refl
 statements_are n (l ∷ ls) is =
     let this : TextLine = record { file = 0; line = n; levels = 8; bytes = line_text l } in
     ap (λ r. with_statement this r (statements_of (numbered (n + 1) ls))) (line_said l is.0)
     ∙ ap (λ more. record { file = 0; line = n; stmt = meant l } ∷ more) (statements_are (n + 1) ls is.1)
 
-faults_are : (ls : List Line) → AllByRecursion IsSound ls → EndsOnce ls → length ls ≤ 65535 → faults_of [] (numbered 1 ls) ≡ []
+faults_are : (ls : List SourceLine) → AllByRecursion IsSound ls → EndsOnce ls → length ls ≤ 65535
+    → faults_of [] (numbered 1 ls) ≡ []
 faults_are [] is e few = absurd e
 faults_are (l ∷ ls) is e few =
     let all = numbered 1 (l ∷ ls) in
@@ -182,7 +200,8 @@ faults_are (l ∷ ls) is e few =
     ∙ no_faults [] 1 (l ∷ ls) is e refl (omega (arith, few))
 
 -- the text of lines is read as these lines
-pub text_read : (source : SourceFile) (ls : List Line) → AllByRecursion IsSound ls → EndsOnce ls → length ls ≤ 65535 → source.bytes ≡ text_of_lines ls
+pub text_read : (source : SourceFile) (ls : List SourceLine) → AllByRecursion IsSound ls → EndsOnce ls
+    → length ls ≤ 65535 → source.bytes ≡ text_of_lines ls
     → text_of source [] ≡ Lines (read_from 1 ls)
 text_read source ls is e few bytes =
     ap (λ all. faults_or_lines (faults_of [] all) (statements_of all)) (all_lines source ls is few bytes)

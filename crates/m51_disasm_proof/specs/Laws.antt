@@ -11,8 +11,8 @@ use Rattle.m51_text.specs.Answer.{Lines, text_of}
 use Rattle.m51_asm.specs.Answer.{AnswerTree, IsAnswer}
 use Rattle.m51_asm.specs.Assignment.{Assignment, absolute, opening}
 use Rattle.m51_asm.specs.Fitting.{Fits}
-use Rattle.m51_disasm.specs.declared.line.Line.{Line}
-use Rattle.m51_disasm.specs.declared.part.Part.{Part}
+use Rattle.m51_disasm.specs.declared.line.SourceLine.{SourceLine}
+use Rattle.m51_disasm.specs.declared.part.CodeRange.{CodeRange}
 use Rattle.m51_disasm.specs.declared.statement.Statement.{Statement}
 use Rattle.m51_disasm.specs.Answer.{disassembled}
 use Rattle.m51_disasm.specs.Lines.{is_among, targets, written_target, lines_of}
@@ -28,7 +28,7 @@ use Rattle.m51_disasm_proof.specs.Standing.{bytes_at}
 
 -- each line that can be written is read as the statement that is meant
 abbrev pub LinesReadBack : Type 0
-LinesReadBack = (l : Line) → IsSound l → any_line (line_text l) ≡ Ok (meant l)
+LinesReadBack = (l : SourceLine) → IsSound l → any_line (line_text l) ≡ Ok (meant l)
 
 -- The text of each layout and image that have one, as a source without includes, is read as the lines that are meant:
 -- no line has a fault of its form or its place.
@@ -55,7 +55,7 @@ StatementsStand =
     (l : LayoutParts) (image text : List ℕ)
     → IsSoundLayout l → AreBytes image → disassembled l image ≡ Ok text
     → (a : Assignment) → Fits (read_from 1 (lines_of image (parts_of l))) a
-    → (before : List Part) (part : Part) (after : List Part) → parts_of l ≡ before ++ part ∷ after
+    → (before : List CodeRange) (part : CodeRange) (after : List CodeRange) → parts_of l ≡ before ++ part ∷ after
     → (j : ℕ) (s : Statement) → slice_get (statements_of image part) j ≡ Some s
     → IsSpot a (lines_before image before + suc j)
     (record { segment = absolute (lines_before image before + 2) kind.Code part.base; place = s.at })
@@ -78,7 +78,7 @@ LabelsStand =
     (l : LayoutParts) (image text : List ℕ)
     → IsSoundLayout l → AreBytes image → disassembled l image ≡ Ok text
     → (a : Assignment) → Fits (read_from 1 (lines_of image (parts_of l))) a
-    → (before : List Part) (part : Part) (after : List Part) → parts_of l ≡ before ++ part ∷ after
+    → (before : List CodeRange) (part : CodeRange) (after : List CodeRange) → parts_of l ≡ before ++ part ∷ after
     → (j : ℕ) (s : Statement) → slice_get (statements_of image part) j ≡ Some s
     → is_among (targets (statements_of image part)) s.at ≡ true
     → (k : ℕ) → a.value k (label_text s.at) ≡ Some (code_value (lines_before image before + 2) s.at)
@@ -90,7 +90,7 @@ StatementsGiveBytes =
     (l : LayoutParts) (image text : List ℕ)
     → IsSoundLayout l → AreBytes image → disassembled l image ≡ Ok text
     → (a : Assignment) → Fits (read_from 1 (lines_of image (parts_of l))) a
-    → (before : List Part) (part : Part) (after : List Part) → parts_of l ≡ before ++ part ∷ after
+    → (before : List CodeRange) (part : CodeRange) (after : List CodeRange) → parts_of l ≡ before ++ part ∷ after
     → (j : ℕ) (s : Statement) → slice_get (statements_of image part) j ≡ Some s
     → LineGives (read_from 1 (lines_of image (parts_of l))) a image (lines_before image before + suc j) s.at
     (length_in s.content)

@@ -11,8 +11,8 @@ use Rattle.m51_expr.specs.Tree.{Number, Name}
 use Rattle.m51_stmt.specs.Statement.{OperandTree, A, Ab, C, Dptr, APc, ADptr, AtDptr, R, AtR, Imm, Plain, NotBit}
 use Rattle.m51_stmt.specs.Statement.{BodyTree, Mod51, Select, End, Db, Code, Value, StmtTree}
 use Rattle.m51_text.specs.Answer.{LineTree}
-use Rattle.m51_disasm.specs.declared.line.Line.{Line}
-use Rattle.m51_disasm.specs.declared.line.Line.TheVariants as line
+use Rattle.m51_disasm.specs.declared.line.SourceLine.{SourceLine}
+use Rattle.m51_disasm.specs.declared.line.SourceLine.TheVariants as line
 use Rattle.m51_disasm.specs.declared.line.Target.{Target}
 use Rattle.m51_disasm.specs.declared.line.Target.TheVariants as target
 use Rattle.m51_disasm.specs.declared.statement.Content.{Content}
@@ -67,14 +67,14 @@ abbrev pub without_label : BodyTree → StmtTree
 without_label body = record { label = None; body = body }
 
 -- what a line says
-abbrev pub meant : Line → StmtTree
+abbrev pub meant : SourceLine → StmtTree
 meant line.Nomod51 = without_label (Mod51 false)
 meant (line.Segment base) = without_label (Select kind.Code (Some (Number base)))
 meant (line.Statement s) = record { label = option_map label_text s.label; body = body_of s.target s.content }
 meant line.End = without_label End
 
 -- the lines of a disassembly as the assembler reads them: all are of the source, and this is the number of the first
-abbrev pub read_from : ℕ → List Line → List LineTree
+abbrev pub read_from : ℕ → List SourceLine → List LineTree
 read_from number [] = []
 read_from number (l ∷ lines) =
     record { file = 0; line = number; stmt = meant l } ∷ read_from (number + 1) lines

@@ -8,11 +8,11 @@ use Rattle.m51_module.specs.declared.segment.Segment.{Segment}
 use Rattle.m51_emit.specs.Pieces.{pieces_of_run}
 use Rattle.m51_asm.specs.Naming.{module_name}
 use Rattle.m51_asm.specs.Answer.{AnswerTree, Gives, Faults}
-use Rattle.m51_disasm.specs.declared.part.Part.{Part}
+use Rattle.m51_disasm.specs.declared.part.CodeRange.{CodeRange}
 use Rattle.m51_disasm_proof.specs.Standing.{bytes_at}
 
 -- the absolute segment of CODE of a part
-abbrev pub segment_of : Part → Segment
+abbrev pub segment_of : CodeRange → Segment
 segment_of part = record {
   name = [];
   kind = kind.Code;
@@ -25,14 +25,14 @@ segment_of part = record {
 
 -- The pieces of parts, whose segments are numbered from this number on: the bytes of the image of each, from its first
 -- byte on.
-abbrev pub pieces_from : ℕ → List ℕ → List Part → List Piece
+abbrev pub pieces_from : ℕ → List ℕ → List CodeRange → List Piece
 pieces_from number image [] = []
 pieces_from number image (part ∷ parts) =
     pieces_of_run number (0, bytes_at image part.base part.size) ++ pieces_from (suc number) image parts
 
 -- The module of these parts of an image, which has its name from a file: for each part its segment with its bytes, and
 -- nothing else.
-abbrev pub module_of : List ℕ → List ℕ → List Part → ModuleParts
+abbrev pub module_of : List ℕ → List ℕ → List CodeRange → ModuleParts
 module_of file image parts = record {
   name = module_name file;
   version = 1;

@@ -2,9 +2,9 @@
 -- those before it.
 use Rattle.std.specs.Prelude.{◌≡◌, ℕ, suc, ◌+◌, List, [], ◌∷◌, length, flat_map}
 use Rattle.m51_cells.specs.declared.kind.Kind.TheVariants as kind
-use Rattle.m51_disasm.specs.declared.line.Line.{Line}
-use Rattle.m51_disasm.specs.declared.line.Line.TheVariants as line
-use Rattle.m51_disasm.specs.declared.part.Part.{Part}
+use Rattle.m51_disasm.specs.declared.line.SourceLine.{SourceLine}
+use Rattle.m51_disasm.specs.declared.line.SourceLine.TheVariants as line
+use Rattle.m51_disasm.specs.declared.part.CodeRange.{CodeRange}
 use Rattle.m51_disasm.specs.Lines.{part_lines}
 use Rattle.m51_disasm.specs.Statements.{length_in}
 use Rattle.m51_asm.specs.Assignment.{TextSegment, Assignment, absolute}
@@ -15,29 +15,29 @@ pub record Spot : Type 0 where
   pub place : ℕ
 
 -- the segment after line k, which is in this one
-abbrev pub segment_after : ℕ → TextSegment → Line → TextSegment
+abbrev pub segment_after : ℕ → TextSegment → SourceLine → TextSegment
 segment_after k segment (line.Segment base) = absolute (k + 2) kind.Code base
 segment_after k segment other = segment
 
 -- how many bytes a line has
-abbrev pub line_size : Line → ℕ
+abbrev pub line_size : SourceLine → ℕ
 line_size (line.Statement s) = length_in s.content
 line_size other = 0
 
 -- the address after a line at this one
-abbrev pub place_after : ℕ → Line → ℕ
+abbrev pub place_after : ℕ → SourceLine → ℕ
 place_after place (line.Segment base) = base
 place_after place other = place + line_size other
 
 -- the spots of these lines, the first of which is line k in this segment, at this place
-abbrev pub spots_from : ℕ → TextSegment → ℕ → List Line → List Spot
+abbrev pub spots_from : ℕ → TextSegment → ℕ → List SourceLine → List Spot
 spots_from k segment place [] = []
 spots_from k segment place (l ∷ lines) =
     record { segment = segment; place = place }
     ∷ spots_from (suc k) (segment_after k segment l) (place_after place l) lines
 
 -- how many lines are before the CSEG of a part, from the parts before it
-abbrev pub lines_before : List ℕ → List Part → ℕ
+abbrev pub lines_before : List ℕ → List CodeRange → ℕ
 lines_before image before = suc (length (flat_map (part_lines image) before))
 
 -- line k is in this spot

@@ -8,8 +8,8 @@ use Rattle.m51_isa.specs.Spelling.{Text, text_of}
 use Rattle.m51_module.specs.Plan.{IsPlaced}
 use Rattle.m51_module.specs.declared.parts.LayoutParts.{LayoutParts}
 use Rattle.m51_module.specs.declared.placed.Placed.{Placed}
-use Rattle.m51_disasm.specs.declared.line.Line.{Line}
-use Rattle.m51_disasm.specs.declared.line.Line.TheVariants as line
+use Rattle.m51_disasm.specs.declared.line.SourceLine.{SourceLine}
+use Rattle.m51_disasm.specs.declared.line.SourceLine.TheVariants as line
 use Rattle.m51_disasm.specs.declared.line.StatementLine.{StatementLine}
 use Rattle.m51_disasm.specs.declared.line.Target.{Target}
 use Rattle.m51_disasm.specs.declared.line.Target.TheVariants as target
@@ -59,7 +59,7 @@ pub record IsStatementLine (s : StatementLine) : Type 0 where
   pub content : IsContent s.target s.content
 
 -- the line can be written
-abbrev pub IsSound : Line → Type 0
+abbrev pub IsSound : SourceLine → Type 0
 IsSound line.Nomod51 = Unit {0}
 IsSound (line.Segment base) = base < 65536
 IsSound (line.Statement s) = IsStatementLine s

@@ -7,7 +7,7 @@ use Rattle.m51_isa.specs.declared.generics.Jump.{Jump}
 use Rattle.m51_expr.specs.declared.value.Value.{Value}
 use Rattle.m51_expr.specs.Meanings.{Meanings}
 use Rattle.m51_expr.specs.Value.{whole}
-use Rattle.m51_encode.specs.declared.outcome.Outcome.TheVariants.{Stands}
+use Rattle.m51_encode.specs.declared.outcome.OperandOutcome.TheVariants.{Stands}
 use Rattle.m51_stmt.specs.Statement.{BodyTree}
 use Rattle.m51_emit.specs.declared.content.EmittedContent.{EmittedContent}
 use Rattle.m51_emit.specs.Content.{outcomes_by, content_by}

@@ -1,5 +1,6 @@
 -- A line without a fault gives as many bytes as its size, and the faults of content are six.
-use Rattle.std.proofs.Common.{◌≡◌, ℕ, ◌+◌, ◌*◌, List, [], ◌∷◌, length, map, Option, Some, None, Ok, Err, refl, ap, sym, subst, ◌∙◌, length-append, arith}
+use Rattle.std.proofs.Common.{◌≡◌, ℕ, ◌+◌, ◌*◌, List, [], ◌∷◌, length, map, Option, Some, None, Ok, Err, refl, ap, sym}
+use Rattle.std.proofs.Common.{subst, ◌∙◌, length-append, arith}
 use Rattle.std.specs.Prelude.{IfOk, IsOk, unwrap_or}
 use Rattle.m51_isa.specs.declared.generics.Jump.{Jump}
 use Rattle.m51_isa.specs.Table.{length_of as row_length}
@@ -11,8 +12,8 @@ use Rattle.m51_expr.specs.Operand.{ItemTree, OperandTree}
 use Rattle.m51_encode.specs.declared.coding.Coded.{Coded}
 use Rattle.m51_encode.specs.declared.item.Width.{Width}
 use Rattle.m51_encode.specs.declared.item.Width.TheVariants.{Byte, Word}
-use Rattle.m51_encode.specs.declared.outcome.Outcome.{Outcome}
-use Rattle.m51_encode.specs.declared.outcome.Outcome.TheVariants.{Faulty, Fixes, Stands}
+use Rattle.m51_encode.specs.declared.outcome.OperandOutcome.{OperandOutcome}
+use Rattle.m51_encode.specs.declared.outcome.OperandOutcome.TheVariants.{Faulty, Fixes, Stands}
 use Rattle.m51_encode.specs.declared.reference.FieldValue.{FieldValue}
 use Rattle.m51_encode.specs.declared.reference.FieldValue.TheVariants.{Number, Linked}
 use Rattle.m51_encode.specs.Filling.{Answer, and_then, fielded}
@@ -41,7 +42,7 @@ neither None next h = record { one_is = refl; next_is = h }
 neither (Some n) next h = absurd (cc h)
 
 -- where no part counts as a fault none has one
-faultless : (made : ℕ) (parts : List Outcome) → leftmost_fault made parts ≡ None → first_faulty parts ≡ None
+faultless : (made : ℕ) (parts : List OperandOutcome) → leftmost_fault made parts ≡ None → first_faulty parts ≡ None
 faultless made [] h = refl
 faultless made (Faulty number ∷ parts) h = absurd (cc h)
 faultless made (Fixes ∷ parts) h = faultless (made_with made Fixes) parts (neither (part_fault made Fixes) _ h).next_is
@@ -53,22 +54,27 @@ answered answer (Some number) is told = absurd (cc is)
 
 pub instructions_are_coded : InstructionsAreCoded
 instructions_are_coded names jump mnemonic operands made may h =
-    answered (coded names mnemonic operands jump) (first_faulty (outcomes names mnemonic operands jump)) (faultless made (outcomes names mnemonic operands jump) h.is)
+    answered (coded names mnemonic operands jump) (first_faulty (outcomes names mnemonic operands jump))
+    (faultless made (outcomes names mnemonic operands jump) h.is)
     (outcomes_tell names mnemonic operands may jump)
 
-stands : (names : Meanings) (mnemonic : List ℕ) (operands : List OperandTree) (jump : Jump) (has : HasRow mnemonic operands jump) → IfOk (coded names mnemonic operands jump) (StandsFor names has.line)
+stands : (names : Meanings) (mnemonic : List ℕ) (operands : List OperandTree) (jump : Jump)
+    (has : HasRow mnemonic operands jump) → IfOk (coded names mnemonic operands jump) (StandsFor names has.line)
 unfolding coded
 stands names mnemonic operands jump has =
-    subst (λ (l : Option Line). IfOk (coded_line names l) (StandsFor names has.line)) (sym has.is) (coded_stands_for_line names has.line)
+    subst (λ (l : Option Line). IfOk (coded_line names l) (StandsFor names has.line)) (sym has.is)
+    (coded_stands_for_line names has.line)
 
-filled : (names : Meanings) (l : Line) (len : ℕ) (answer : Answer Coded) → IsOk answer → IfOk answer (StandsFor names l) → IfOk answer (λ c. c.code.len ≡ len) → length (coded_content answer).bytes ≡ len
+filled : (names : Meanings) (l : Line) (len : ℕ) (answer : Answer Coded) → IsOk answer → IfOk answer (StandsFor names l)
+    → IfOk answer (λ c. c.code.len ≡ len) → length (coded_content answer).bytes ≡ len
 filled names l len (Ok c) ok s same = stood_length names l c s ∙ (sym (ap (λ x. x.len) s.code) ∙ same)
 filled names l len (Err e) ok s same = absurd (cc ok)
 
 pub instructions_fill : InstructionsFill
 instructions_fill names jump mnemonic operands made may h =
     let has = forms_have_rows mnemonic operands may jump in
-    filled names has.line (row_length has.row) (coded names mnemonic operands jump) (instructions_are_coded names jump mnemonic operands made may h)
+    filled names has.line (row_length has.row) (coded names mnemonic operands jump)
+    (instructions_are_coded names jump mnemonic operands made may h)
     (stands names mnemonic operands jump has) (has.same names)
     ∙ sym (ap (λ (o : Option ℕ). unwrap_or o 0) has.length)
 
@@ -82,29 +88,40 @@ abbrev items_len : Width → List ItemTree → ℕ
 items_len width [] = 0
 items_len width (x ∷ xs) = item_len width x + items_len width xs
 
-field_len_is : (width : Width) (e : Tree) (held : FieldValue) → length (field_bytes width held) ≡ item_len width (item.Value e)
+field_len_is : (width : Width) (e : Tree) (held : FieldValue)
+    → length (field_bytes width held) ≡ item_len width (item.Value e)
 field_len_is Byte e (Number n) = refl
 field_len_is Byte e (Linked r) = refl
 field_len_is Word e (Number n) = refl
 field_len_is Word e (Linked r) = refl
 
-value_fills : (width : Width) (made : ℕ) (e : Tree) (answer : Answer FieldValue) → part_fault made (item_outcome (and_then answer (λ held. Ok (Some held)))) ≡ None
-    → length (item_given width (item.Value e) (and_then answer (λ held. Ok (Some held)))).bytes ≡ item_len width (item.Value e)
+value_fills : (width : Width) (made : ℕ) (e : Tree) (answer : Answer FieldValue)
+    → part_fault made (item_outcome (and_then answer (λ held. Ok (Some held)))) ≡ None
+    → length (item_given width (item.Value e) (and_then answer (λ held. Ok (Some held)))).bytes
+    ≡ item_len width (item.Value e)
 value_fills width made e (Ok held) h = field_len_is width e held
 value_fills width made e (Err fault) h = absurd (cc h)
 
-item_fills : (names : Meanings) (width : Width) (made : ℕ) (x : ItemTree) → part_fault made (item_outcome (item_field names width x)) ≡ None → length (item_content names width x).bytes ≡ item_len width x
-item_fills names width made (item.Value e) h = value_fills width made e (fielded names 0 (field_of_width width) (value_of names e)) h
+item_fills : (names : Meanings) (width : Width) (made : ℕ) (x : ItemTree)
+    → part_fault made (item_outcome (item_field names width x)) ≡ None
+    → length (item_content names width x).bytes ≡ item_len width x
+item_fills names width made (item.Value e) h =
+    value_fills width made e (fielded names 0 (field_of_width width) (value_of names e)) h
 item_fills names Byte made (item.Text characters) h = refl
 item_fills names Word made (item.Text characters) h = refl
 
-items_fill : (names : Meanings) (width : Width) (made : ℕ) (xs : List ItemTree) → leftmost_fault made (map (λ x. item_outcome (item_field names width x)) xs) ≡ None → length (joined (map (item_content names width) xs)).bytes ≡ items_len width xs
+items_fill : (names : Meanings) (width : Width) (made : ℕ) (xs : List ItemTree)
+    → leftmost_fault made (map (λ x. item_outcome (item_field names width x)) xs) ≡ None
+    → length (joined (map (item_content names width) xs)).bytes ≡ items_len width xs
 items_fill names width made [] h = refl
 items_fill names width made (x ∷ xs) h =
     let parts = neither (part_fault made (item_outcome (item_field names width x))) _ h in
-    let first : length (item_content names width x).bytes ≡ item_len width x = item_fills names width made x parts.one_is in
+    let first : length (item_content names width x).bytes ≡ item_len width x =
+    item_fills names width made x parts.one_is in
     let others = items_fill names width (made_with made (item_outcome (item_field names width x))) xs parts.next_is in
-    length-append (item_content names width x).bytes (joined (map (item_content names width) xs)).bytes ∙ (ap (λ (n : ℕ). n + length (joined (map (item_content names width) xs)).bytes) first ∙ ap (λ (n : ℕ). item_len width x + n) others)
+    length-append (item_content names width x).bytes (joined (map (item_content names width) xs)).bytes
+    ∙ (ap (λ (n : ℕ). n + length (joined (map (item_content names width) xs)).bytes) first
+    ∙ ap (λ (n : ℕ). item_len width x + n) others)
 
 bytes_len : (xs : List ItemTree) → items_len Byte xs ≡ items_size xs
 bytes_len [] = refl

@@ -1,5 +1,6 @@
 -- The fields of each row lie in its bytes, in ascending order, and none overlaps the next.
-use Rattle.std.proofs.Common.{◌≡◌, ℕ, zero, suc, ◌+◌, Bool, true, ◌&&◌, cond, List, [], ◌∷◌, length, take, Option, Some, None, refl}
+use Rattle.std.proofs.Common.{◌≡◌, ℕ, zero, suc, ◌+◌, Bool, true, ◌&&◌, cond, List, [], ◌∷◌, length, take, Option, Some}
+use Rattle.std.proofs.Common.{None, refl}
 use Rattle.std.specs.Prelude.{◌==◌, nat_le}
 use Rattle.m51_isa.specs.declared.instr.Instr.{Instr}
 use Rattle.m51_isa.specs.declared.instr.Instr.TheVariants.{Nop}
@@ -23,7 +24,8 @@ width_or byte None other = other
 
 -- the width of the field of a text that begins at the byte, or 0
 abbrev pub width_at : Text → ℕ → ℕ
-width_at t byte = width_or byte (field_in t.first) (width_or byte (field_in t.second) (width_or byte (field_in t.third) 0))
+width_at t byte = width_or byte (field_in t.first)
+    (width_or byte (field_in t.second) (width_or byte (field_in t.third) 0))
 
 -- fields of these widths, which begin at one byte after another from this one on, lie between two bytes
 abbrev pub widths_lie : ℕ → ℕ → ℕ → List ℕ → Bool

@@ -13,7 +13,8 @@ use Rattle.m51_emit.specs.Content.{nothing}
 use Rattle.m51_emit.specs.Lines.{given, line_given}
 
 pub other_gives_nothing : (names : Meanings) (jump : Jump) (made : ℕ) (body : Body)
-    → ((name : Name) (operands : ListOf Operand) → body ≡ Code name operands → ⊥) → ((items : ListOf Item) → body ≡ Db items → ⊥) → ((words : ListOf Item) → body ≡ Dw words → ⊥)
+    → ((name : Name) (operands : ListOf Operand) → body ≡ Code name operands → ⊥)
+    → ((items : ListOf Item) → body ≡ Db items → ⊥) → ((words : ListOf Item) → body ≡ Dw words → ⊥)
     → given nothing made [] ≡ line_given names jump (body_tree body) made
 other_gives_nothing names jump made (Code name operands) h k l = absurd (h name operands refl)
 other_gives_nothing names jump made (Db items) h k l = absurd (k items refl)

@@ -6,8 +6,8 @@ use Rattle.m51_expr.specs.Meanings.{Meanings}
 use Rattle.m51_encode.specs.declared.coding.Coded.{Coded}
 use Rattle.m51_encode.specs.declared.item.Width.{Width}
 use Rattle.m51_encode.specs.declared.item.Width.TheVariants.{Byte, Word}
-use Rattle.m51_encode.specs.declared.outcome.Outcome.{Outcome}
-use Rattle.m51_encode.specs.declared.outcome.Outcome.TheVariants.{Faulty, Fixes, Stands}
+use Rattle.m51_encode.specs.declared.outcome.OperandOutcome.{OperandOutcome}
+use Rattle.m51_encode.specs.declared.outcome.OperandOutcome.TheVariants.{Faulty, Fixes, Stands}
 use Rattle.m51_encode.specs.declared.reference.FieldValue.{FieldValue}
 use Rattle.m51_encode.specs.declared.reference.FieldValue.TheVariants.{Linked}
 use Rattle.m51_encode.specs.declared.reference.Reference.{Reference}
@@ -25,13 +25,13 @@ abbrev pub nothing : EmittedContent
 nothing = record { bytes = []; references = [] }
 
 -- the outcome of an item
-abbrev pub item_outcome : Answer (Option FieldValue) → Outcome
+abbrev pub item_outcome : Answer (Option FieldValue) → OperandOutcome
 item_outcome (Ok (Some (Linked reference))) = Fixes
 item_outcome (Ok held) = Stands
 item_outcome (Err e) = Faulty e.number
 
 -- The outcomes of the operands and items of a line. A text of DW is read as a number, so no item of DW is a text.
-abbrev pub outcomes_by : Meanings → Jump → BodyTree → List Outcome
+abbrev pub outcomes_by : Meanings → Jump → BodyTree → List OperandOutcome
 outcomes_by names jump (Code mnemonic operands) = outcomes names mnemonic operands jump
 outcomes_by names jump (Db items) = map (λ item. item_outcome (item_field names Byte item)) items
 outcomes_by names jump (Dw words) = map (λ word. item_outcome (item_field names Word word)) words

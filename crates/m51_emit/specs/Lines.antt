@@ -2,14 +2,14 @@
 use Rattle.std.specs.Prelude.{ℕ, List}
 use Rattle.m51_isa.specs.declared.generics.Jump.{Jump}
 use Rattle.m51_expr.specs.Meanings.{Meanings}
-use Rattle.m51_encode.specs.declared.outcome.Outcome.{Outcome}
+use Rattle.m51_encode.specs.declared.outcome.OperandOutcome.{OperandOutcome}
 use Rattle.m51_stmt.specs.Statement.{BodyTree}
 use Rattle.m51_emit.specs.declared.content.LineContent.{LineContent}
 use Rattle.m51_emit.specs.Outcomes.{made_with_all, leftmost_fault}
 use Rattle.m51_emit.specs.Content.{EmittedContent, outcomes_by, content_by}
 
 -- this content, and the fault of the parts that it is made of, with `made` fixups before them
-abbrev pub given : EmittedContent → ℕ → List Outcome → LineContent
+abbrev pub given : EmittedContent → ℕ → List OperandOutcome → LineContent
 given c made parts = record { content = c; fault = leftmost_fault made parts; made = made_with_all made parts }
 
 -- what a line gives, with `made` fixups before it

@@ -9,8 +9,8 @@ use Rattle.m51_cells.specs.Kinds.{same_kind}
 use Rattle.m51_module.specs.declared.symbol.Public.{Public}
 use Rattle.m51_expr.specs.declared.value.Value.{Value}
 use Rattle.m51_expr.specs.Value.{is_whole}
-use Rattle.m51_encode.specs.declared.outcome.Outcome.{Outcome}
-use Rattle.m51_encode.specs.declared.outcome.Outcome.TheVariants.{Faulty, Stands}
+use Rattle.m51_encode.specs.declared.outcome.OperandOutcome.{OperandOutcome}
+use Rattle.m51_encode.specs.declared.outcome.OperandOutcome.TheVariants.{Faulty, Stands}
 use Rattle.m51_emit.specs.declared.publics.Definer.{Definer}
 use Rattle.m51_emit.specs.declared.publics.Definer.TheVariants as by
 
@@ -52,7 +52,7 @@ public_by name by.Set kind at value = Err BASE_NOT_ALLOWED
 public_by name by.External kind at value = Err BASE_NOT_ALLOWED
 public_by name by.Other kind at value = public_valued name kind at value
 
-abbrev pub public_outcome : Published → Outcome
+abbrev pub public_outcome : Published → OperandOutcome
 public_outcome (Ok p) = Stands
 public_outcome (Err number) = Faulty number
 

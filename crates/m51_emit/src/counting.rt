@@ -5,7 +5,7 @@ ghost use Rattle.m51_emit.specs.Outcomes.{made_with, part_fault, or_next};
 ghost use Rattle.m51_emit.specs.Counting.{none_of, counted, counted_all};
 
 use m51_cells::{MOST_FIXUPS, TOO_MANY};
-use m51_encode::Outcome;
+use m51_encode::OperandOutcome;
 
 /// How many fixups are made, and the leftmost fault of a line down to an operand or item.
 #[derive(Clone, Copy)]
@@ -29,28 +29,28 @@ fn has_room(made: usize) -> bool
 }
 
 // How many fixups are made up to the end of the part, with `made` before it.
-fn made_with(made: usize, part: Outcome) -> usize
+fn made_with(made: usize, part: OperandOutcome) -> usize
     ensures { result ≡ made_with made part }
 {
     match part {
-        Outcome::Fixes => { if has_room(made) { made + 1 } else { made } }
-        Outcome::Faulty(_) | Outcome::Stands => made,
+        OperandOutcome::Fixes => { if has_room(made) { made + 1 } else { made } }
+        OperandOutcome::Faulty(_) | OperandOutcome::Stands => made,
     }
 }
 
 // The fault of the part, with `made` fixups before it.
-fn part_fault(made: usize, part: Outcome) -> Option<u8>
+fn part_fault(made: usize, part: OperandOutcome) -> Option<u8>
     ensures { result ≡ part_fault made part }
 {
     match part {
-        Outcome::Faulty(number) => Some(number),
-        Outcome::Fixes => { if has_room(made) { None } else { Some(TOO_MANY) } }
-        Outcome::Stands => None,
+        OperandOutcome::Faulty(number) => Some(number),
+        OperandOutcome::Fixes => { if has_room(made) { None } else { Some(TOO_MANY) } }
+        OperandOutcome::Stands => None,
     }
 }
 
 /// Counts one more part.
-pub(crate) fn counted(count: FixupCount, part: Outcome) -> FixupCount
+pub(crate) fn counted(count: FixupCount, part: OperandOutcome) -> FixupCount
     ensures { result ≡ counted count part }
 {
     FixupCount {
@@ -60,7 +60,7 @@ pub(crate) fn counted(count: FixupCount, part: Outcome) -> FixupCount
 }
 
 /// Counts the three operands of an instruction.
-pub(crate) fn counted_operands(count: FixupCount, operands: [Outcome; 3]) -> FixupCount
+pub(crate) fn counted_operands(count: FixupCount, operands: [OperandOutcome; 3]) -> FixupCount
     ensures { result ≡ counted_all count operands }
 {
     let [first, second, third] = operands;

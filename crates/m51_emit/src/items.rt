@@ -11,7 +11,7 @@ ghost use Rattle.m51_emit.specs.Growing.{content_in};
 use crate::content::{EmittedContent, LineContent, ReferenceAt, References};
 use crate::counting::{FixupCount, counted, none_of};
 use m51_cells::{Bytes, NoMemory};
-use m51_encode::{CodingError, FieldValue, Outcome, Width, item_field, push_item};
+use m51_encode::{CodingError, FieldValue, OperandOutcome, Width, item_field, push_item};
 use m51_expr::{Item, Lookup};
 use std::alloc::Global;
 
@@ -24,13 +24,13 @@ pub(crate) struct GrowingContent {
 }
 
 // The outcome of an item with this field.
-fn item_outcome(field: &Result<Option<FieldValue>, CodingError>) -> Outcome
+fn item_outcome(field: &Result<Option<FieldValue>, CodingError>) -> OperandOutcome
     ensures { result ≡ item_outcome field.now }
 {
     match field {
-        Ok(Some(FieldValue::Linked(_))) => Outcome::Fixes,
-        Ok(_) => Outcome::Stands,
-        Err(error) => Outcome::Faulty(error.number),
+        Ok(Some(FieldValue::Linked(_))) => OperandOutcome::Fixes,
+        Ok(_) => OperandOutcome::Stands,
+        Err(error) => OperandOutcome::Faulty(error.number),
     }
 }
 

@@ -12,12 +12,14 @@ use Rattle.m51_expr.specs.Operand.{OperandTree}
 use Rattle.m51_encode.specs.JumpForm.{address_after}
 use Rattle.m51_encode.specs.declared.coding.Coded.{Coded}
 use Rattle.m51_encode.specs.Filling.{Answer, filled}
-use Rattle.m51_encode.specs.Coding.{Line, line_of, line_row, coded_in, coded_by, coded_line, coded, outcomes_by, outcomes_line, outcomes, length_of}
+use Rattle.m51_encode.specs.Coding.{Line, line_of, line_row, coded_in, coded_by, coded_line, coded, outcomes_by}
+use Rattle.m51_encode.specs.Coding.{outcomes_line, outcomes, length_of}
 use Rattle.m51_encode.specs.Lengths.{HasRow, FormsHaveRows}
 use Rattle.m51_encode.proofs.Standing.{then_ok}
 
 -- the bytes of a row have its length, whatever the numbers in them
-coded_length : (names : Meanings) (a b c : Option OperandTree) (row : Instr) → IfOk (coded_in names a b c row) (λ x. x.code.len ≡ row_length row)
+coded_length : (names : Meanings) (a b c : Option OperandTree) (row : Instr)
+    → IfOk (coded_in names a b c row) (λ x. x.code.len ≡ row_length row)
 coded_length names a b c row =
     let P : Coded → Type 0 = λ x. x.code.len ≡ row_length row in
     let next : ℕ = address_after names (row_length row) in
@@ -26,11 +28,13 @@ coded_length names a b c row =
     then_ok (filled names next (field_in (text_of row).third) c) _ P (λ z in_third.
     (texts_are_rows.filled row x.number y.number z.number).length)))
 
-of_row : (mnemonic : List ℕ) (operands : List OperandTree) (form : Jump) (l : Line) (o : Option Instr) → line_of mnemonic operands form ≡ Some l → line_row l ≡ o → is_some o ≡ true → HasRow mnemonic operands form
+of_row : (mnemonic : List ℕ) (operands : List OperandTree) (form : Jump) (l : Line) (o : Option Instr)
+    → line_of mnemonic operands form ≡ Some l → line_row l ≡ o → is_some o ≡ true → HasRow mnemonic operands form
 unfolding coded outcomes length_of
 of_row mnemonic operands form l None is found h = absurd (cc h)
 of_row mnemonic operands form l (Some row) is found h =
-    let code : (names : Meanings) → coded names mnemonic operands form ≡ coded_in names l.first l.second l.third row = λ names. ap (coded_line names) is ∙ ap (coded_by names l) found in
+    let code : (names : Meanings) → coded names mnemonic operands form ≡ coded_in names l.first l.second l.third row =
+    λ names. ap (coded_line names) is ∙ ap (coded_by names l) found in
     let P : Answer Coded → Type 0 = λ x. IfOk x (λ c. c.code.len ≡ row_length row) in
     record {
       line = l;
@@ -42,7 +46,8 @@ of_row mnemonic operands form l (Some row) is found h =
       same = λ names. subst P (sym (code names)) (coded_length names l.first l.second l.third row);
     }
 
-of_line : (mnemonic : List ℕ) (operands : List OperandTree) (form : Jump) (l : Line) → line_of mnemonic operands form ≡ Some l → is_some (line_row l) ≡ true → HasRow mnemonic operands form
+of_line : (mnemonic : List ℕ) (operands : List OperandTree) (form : Jump) (l : Line)
+    → line_of mnemonic operands form ≡ Some l → is_some (line_row l) ≡ true → HasRow mnemonic operands form
 of_line mnemonic operands form l is h = of_row mnemonic operands form l (line_row l) is refl h
 
 pub forms_have_rows : FormsHaveRows

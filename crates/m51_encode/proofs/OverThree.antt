@@ -4,7 +4,7 @@ use Rattle.m51_isa.specs.declared.generics.Jump.{Jump}
 use Rattle.m51_expr.specs.declared.operand.Operand.{Operand}
 use Rattle.m51_expr.specs.Operand.{operand_tree}
 use Rattle.m51_expr.specs.Meanings.{Meanings}
-use Rattle.m51_encode.specs.declared.outcome.Outcome.TheVariants.{Stands}
+use Rattle.m51_encode.specs.declared.outcome.OperandOutcome.TheVariants.{Stands}
 use Rattle.m51_encode.specs.Coding.{outcomes}
 
 pub over_three : (names : Meanings) (mnemonic : List ℕ) (operands : List Operand) (jump : Jump) → 4 ≤ length operands

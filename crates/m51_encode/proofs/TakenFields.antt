@@ -17,7 +17,8 @@ computed false false true r l n h = h
 computed false false false r l n h = absurd (cc h)
 
 -- a reference is the one that is chosen, where the other choices are numbers and none
-pub referred : (current linked absolute : Bool) (r : Option FieldValue) (l m : Reference) → (r ≡ Some (Linked m) → l ≡ m)
+pub referred : (current linked absolute : Bool) (r : Option FieldValue) (l m : Reference)
+    → (r ≡ Some (Linked m) → l ≡ m)
     → cond current r (cond linked (Some (Linked l)) (cond absolute r None)) ≡ Some (Linked m) → l ≡ m
 referred true linked absolute r l m other h = other h
 referred false true absolute r l m other h = cc h

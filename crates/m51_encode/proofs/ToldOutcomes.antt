@@ -4,15 +4,15 @@ use Rattle.m51_isa.specs.declared.instr.Instr.{Instr}
 use Rattle.m51_encode.specs.declared.coding.Coded.{Coded}
 use Rattle.m51_encode.specs.declared.reference.Reference.{Reference}
 use Rattle.m51_encode.specs.declared.filling.Held.{Held}
-use Rattle.m51_encode.specs.declared.outcome.Outcome.{Outcome}
-use Rattle.m51_encode.specs.declared.outcome.Outcome.TheVariants.{Faulty}
+use Rattle.m51_encode.specs.declared.outcome.OperandOutcome.{OperandOutcome}
+use Rattle.m51_encode.specs.declared.outcome.OperandOutcome.TheVariants.{Faulty}
 use Rattle.m51_encode.specs.Filling.{Answer}
 use Rattle.m51_encode.specs.Outcomes.{linked, outcome_of, first_faulty}
 use Rattle.m51_encode.specs.Coding.{coded_as, gathered, three_outcomes, first_of, second_of, third_of, coded}
 use Rattle.m51_encode.specs.OutcomeLaws.{IsTold, OutcomesTell}
 use Rattle.m51_encode.proofs.FormRows.{forms_have_rows}
 
-skip : (o : Option Reference) (more : List Outcome) → first_faulty (linked o ∷ more) ≡ first_faulty more
+skip : (o : Option Reference) (more : List OperandOutcome) → first_faulty (linked o ∷ more) ≡ first_faulty more
 skip None more = refl
 skip (Some r) more = refl
 
@@ -21,16 +21,17 @@ told : (row : Instr) (x y z : Answer Held) → IsTold (first_faulty (three_outco
 told row (Err e) y z = refl
 told row (Ok a) (Err e) z =
     let answer : Answer Coded = Err e in
-    let more : List Outcome = Faulty e.number ∷ outcome_of z ∷ [] in
+    let more : List OperandOutcome = Faulty e.number ∷ outcome_of z ∷ [] in
     subst (λ w. IsTold w answer) (sym (skip a.reference more)) refl
 told row (Ok a) (Ok b) (Err e) =
     let answer : Answer Coded = Err e in
-    let more : List Outcome = Faulty e.number ∷ [] in
+    let more : List OperandOutcome = Faulty e.number ∷ [] in
     subst (λ w. IsTold w answer) (sym (skip a.reference (linked b.reference ∷ more) ∙ skip b.reference more)) refl
 told row (Ok a) (Ok b) (Ok c) =
     let answer : Answer Coded = Ok (coded_as row a b c) in
-    let more : List Outcome = linked c.reference ∷ [] in
-    subst (λ w. IsTold w answer) (sym (skip a.reference (linked b.reference ∷ more) ∙ (skip b.reference more ∙ skip c.reference []))) refl
+    let more : List OperandOutcome = linked c.reference ∷ [] in
+    subst (λ w. IsTold w answer)
+    (sym (skip a.reference (linked b.reference ∷ more) ∙ (skip b.reference more ∙ skip c.reference []))) refl
 
 pub outcomes_tell : OutcomesTell
 outcomes_tell names mnemonic operands may form =

@@ -18,8 +18,8 @@ use Rattle.m51_expr.specs.Looks.{look_of}
 use Rattle.m51_encode.specs.declared.coding.Coded.{Coded}
 use Rattle.m51_encode.specs.declared.filling.Held.{Held}
 use Rattle.m51_encode.specs.JumpForm.{address_after}
-use Rattle.m51_encode.specs.declared.outcome.Outcome.{Outcome}
-use Rattle.m51_encode.specs.declared.outcome.Outcome.TheVariants.{Stands}
+use Rattle.m51_encode.specs.declared.outcome.OperandOutcome.{OperandOutcome}
+use Rattle.m51_encode.specs.declared.outcome.OperandOutcome.TheVariants.{Stands}
 use Rattle.m51_encode.specs.Filling.{Answer, and_then, fault, filled, references_of}
 use Rattle.m51_encode.specs.Outcomes.{outcome_of}
 
@@ -99,25 +99,26 @@ unfoldable pub coded : Meanings → List ℕ → List OperandTree → Jump → A
 coded names mnemonic operands jump = coded_line names (line_of mnemonic operands jump)
 
 -- the outcomes of three operands
-abbrev pub three_outcomes : Answer Held → Answer Held → Answer Held → List Outcome
+abbrev pub three_outcomes : Answer Held → Answer Held → Answer Held → List OperandOutcome
 three_outcomes a b c = outcome_of a ∷ outcome_of b ∷ outcome_of c ∷ []
 
 -- the outcomes of the operands in the fields of the row
-abbrev pub outcomes_in : Meanings → Option OperandTree → Option OperandTree → Option OperandTree → Instr → List Outcome
+abbrev pub outcomes_in : Meanings → Option OperandTree → Option OperandTree → Option OperandTree → Instr
+    → List OperandOutcome
 outcomes_in names a b c row = three_outcomes (first_of names row a) (second_of names row b) (third_of names row c)
 
 -- the same for the row of a line, if it has one
-abbrev pub outcomes_by : Meanings → Line → Option Instr → List Outcome
+abbrev pub outcomes_by : Meanings → Line → Option Instr → List OperandOutcome
 outcomes_by names l (Some row) = outcomes_in names l.first l.second l.third row
 outcomes_by names l None = Stands ∷ Stands ∷ Stands ∷ []
 
 -- the same for a line, if it has no more than three operands
-abbrev pub outcomes_line : Meanings → Option Line → List Outcome
+abbrev pub outcomes_line : Meanings → Option Line → List OperandOutcome
 outcomes_line names (Some l) = outcomes_by names l (line_row l)
 outcomes_line names None = Stands ∷ Stands ∷ Stands ∷ []
 
 -- The outcomes of the operands of an instruction of a source, from left to right; `Stands` for one that is missing.
-unfoldable pub outcomes : Meanings → List ℕ → List OperandTree → Jump → List Outcome
+unfoldable pub outcomes : Meanings → List ℕ → List OperandTree → Jump → List OperandOutcome
 outcomes names mnemonic operands jump = outcomes_line names (line_of mnemonic operands jump)
 
 -- the length of an instruction of a source, whatever the values of its operands

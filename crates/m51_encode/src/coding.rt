@@ -8,7 +8,7 @@ ghost use Rattle.m51_encode.specs.Coding.{coded, outcomes_in, outcomes_line, out
 
 use crate::choosing::address_after;
 use crate::filling::{CodingError, Held, filled, references_of};
-use crate::outcome::{Outcome, outcome_of};
+use crate::outcome::{OperandOutcome, outcome_of};
 use crate::reference::Reference;
 use m51_cells::{NO_INSTRUCTION, Name};
 use m51_expr::{Lookup, Operand, look_of};
@@ -32,15 +32,19 @@ pub struct Coded {
 /// Source: own choice ("Instructions of a source").
 #[derive(Clone, Copy, Debug, PartialEq, Eq)]
 pub struct Coding {
-    /// The outcome of each operand, from left to right; `Outcome::Stands` for one that is missing.
-    pub outcomes: [Outcome; 3],
+    /// The outcome of each operand, from left to right; `OperandOutcome::Stands` for one that is missing.
+    pub outcomes: [OperandOutcome; 3],
     /// Its bytes and references, or its fault.
     pub coded: Result<Coded, CodingError>,
 }
 
 // The table has no such row.
 const NO_SUCH_ROW: Coding = Coding {
-    outcomes: [Outcome::Stands, Outcome::Stands, Outcome::Stands],
+    outcomes: [
+        OperandOutcome::Stands,
+        OperandOutcome::Stands,
+        OperandOutcome::Stands,
+    ],
     coded: Err(CodingError {
         number: NO_INSTRUCTION,
     }),

@@ -23,5 +23,5 @@ pub use field_values::field_value;
 pub use filling::{CodingError, expression_field};
 pub use item::{Width, item_field, push_item};
 pub use laws::{coded_stands_for_line, forms_have_rows, operands_fail_by_five, outcomes_tell};
-pub use outcome::Outcome;
+pub use outcome::OperandOutcome;
 pub use reference::{FieldValue, Reference};

@@ -9,7 +9,7 @@ use crate::reference::Reference;
 ///
 /// Source: own choice ("Faults of instructions").
 #[derive(Clone, Copy, Debug, PartialEq, Eq)]
-pub enum Outcome {
+pub enum OperandOutcome {
     /// It has the fault of this number: 7 to 10 where it has no value, 14 for a value out of range or class.
     Faulty(u8),
     /// The linker fills in its field.
@@ -19,21 +19,21 @@ pub enum Outcome {
 }
 
 // The outcome of an operand with this reference, or none.
-fn linked(reference: Option<Reference>) -> Outcome
+fn linked(reference: Option<Reference>) -> OperandOutcome
     ensures { result ≡ linked reference }
 {
     match reference {
-        Some(_) => Outcome::Fixes,
-        None => Outcome::Stands,
+        Some(_) => OperandOutcome::Fixes,
+        None => OperandOutcome::Stands,
     }
 }
 
 /// The outcome of an operand.
-pub(crate) fn outcome_of(filled: &Result<Held, CodingError>) -> Outcome
+pub(crate) fn outcome_of(filled: &Result<Held, CodingError>) -> OperandOutcome
     ensures { result ≡ outcome_of filled.now }
 {
     match filled {
         Ok(held) => linked(held.reference),
-        Err(error) => Outcome::Faulty(error.number),
+        Err(error) => OperandOutcome::Faulty(error.number),
     }
 }

@@ -12,7 +12,8 @@ use Rattle.m51_cells.specs.Outcome.{and_then}
 use Rattle.m51_expr.specs.Tree.{Number, Name, Here, One, Two}
 use Rattle.m51_expr.specs.Value.{Valued, fault, bit_address, counted}
 use Rattle.m51_expr.specs.Meanings.{Meanings, is_unplaced, as_number}
-use Rattle.m51_expr.specs.Operators.{kept_under, or_number, unary, settled, beside, arithmetic, class_of, base_of, on_base, of_numbers, of_wholes, of_settled, binary}
+use Rattle.m51_expr.specs.Operators.{kept_under, or_number, unary, settled, beside, arithmetic, class_of, base_of}
+use Rattle.m51_expr.specs.Operators.{on_base, of_numbers, of_wholes, of_settled, binary}
 use Rattle.m51_expr.specs.Bits.{has_bits, with_bit, placed_bit, bit_of, dot}
 use Rattle.m51_expr.specs.Evaluation.{is_dot, applied, or_unknown, value_of}
 use Rattle.m51_expr.specs.FaultLaws.{IsFaultOfValue, FailsAsValue, ValuesFailByFour}
@@ -29,7 +30,8 @@ zero_fails = record { least = lit≤ tt; most = lit≤ tt }
 bit_fails : IsFaultOfValue 10
 bit_fails = record { least = lit≤ tt; most = lit≤ tt }
 
-then_fails : {A B : Type 0} (r : Valued A) (go : A → Valued B) → FailsAsValue r → ((a : A) → FailsAsValue (go a)) → FailsAsValue (and_then r go)
+then_fails : {A B : Type 0} (r : Valued A) (go : A → Valued B) → FailsAsValue r → ((a : A) → FailsAsValue (go a))
+    → FailsAsValue (and_then r go)
 then_fails (Ok a) go h next = next a
 then_fails (Err e) go h next = h
 
@@ -56,20 +58,24 @@ unary_fails names op1.Plus v = then_fails (as_number names v) _ (number_fails na
 unary_fails names op1.Minus v = then_fails (as_number names v) _ (number_fails names v) (λ n. tt)
 unary_fails names op1.Not v = then_fails (as_number names v) _ (number_fails names v) (λ n. tt)
 
-on_base_fails : (class : Kind) (o : Option Base) (from_base number : Valued ℕ) → FailsAsValue from_base → FailsAsValue number → FailsAsValue (on_base class o from_base number)
+on_base_fails : (class : Kind) (o : Option Base) (from_base number : Valued ℕ) → FailsAsValue from_base
+    → FailsAsValue number → FailsAsValue (on_base class o from_base number)
 on_base_fails class (Some b) from_base number h k = then_fails from_base _ h (λ n. tt)
 on_base_fails class None from_base number h k = then_fails number _ k (λ n. tt)
 
 numbers_fail : (names : Meanings) (op : Binary) (x y : Value) → FailsAsValue (of_numbers names op x y)
 numbers_fail names op x y =
-    then_fails (as_number names x) _ (number_fails names x) (λ a. then_fails (as_number names y) _ (number_fails names y) (λ b. arithmetic_fails op a b))
+    then_fails (as_number names x) _ (number_fails names x)
+    (λ a. then_fails (as_number names y) _ (number_fails names y) (λ b. arithmetic_fails op a b))
 
-wholes_fail : (names : Meanings) (op : Binary) (class : Kind) (x y : Value) → FailsAsValue (of_wholes names op class x y)
+wholes_fail : (names : Meanings) (op : Binary) (class : Kind) (x y : Value)
+    → FailsAsValue (of_wholes names op class x y)
 wholes_fail names op class x y =
     on_base_fails class (base_of op x.base y.base) (arithmetic op x.number y.number) (of_numbers names op x y)
     (arithmetic_fails op x.number y.number) (numbers_fail names op x y)
 
-settled_fails : (names : Meanings) (op : Binary) (class : Kind) (x y : Value) → FailsAsValue (of_settled names op class x y)
+settled_fails : (names : Meanings) (op : Binary) (class : Kind) (x y : Value)
+    → FailsAsValue (of_settled names op class x y)
 settled_fails names op class x y =
     either_fails _ (of_wholes names op class (beside names y.base x) (beside names x.base y)) (fault 8)
     (wholes_fail names op class (beside names y.base x) (beside names x.base y)) base_fails
@@ -106,7 +112,8 @@ unfolding value_of
 values_fail_by_four names (Number n) = tt
 values_fail_by_four names Here = tt
 values_fail_by_four names (Name name) = unknown_name_fails (names.value name)
-values_fail_by_four names (One op inner) = then_fails (value_of names inner) (unary names op) (values_fail_by_four names inner) (unary_fails names op)
+values_fail_by_four names (One op inner) =
+    then_fails (value_of names inner) (unary names op) (values_fail_by_four names inner) (unary_fails names op)
 values_fail_by_four names (Two op left right) =
     then_fails (value_of names left) _ (values_fail_by_four names left) (λ x.
     then_fails (value_of names right) (applied names op x) (values_fail_by_four names right) (applied_fails names op x))

@@ -69,6 +69,12 @@ unfoldable mutual
       followed (infix_of (line at) rank) left at
       (λ op. and_on (read n line (rank + 1) (at + 1)) (λ right next. more n line rank (Two op left right) next))
 
+-- An operand continues as an expression of each rank down to this one, which is `k` ranks below that of operands.
+unfoldable pub looser : ℕ → ℕ → Line → ℕ → Tree → ℕ → Reads
+looser zero n line rank left at = Some (left, at)
+looser (suc k) n line rank left at =
+    and_on (looser k (n - 1) line (rank + 1) left at) (λ inner next. more (n - 1) line rank inner next)
+
 -- how many steps are enough for an expression of this rank that ends within `left` symbols
 abbrev pub enough : ℕ → ℕ → ℕ
 enough left rank = 10 * left + (9 - rank)

@@ -1,5 +1,5 @@
 //! The ranks of operators.
-ghost use Rattle.std.specs.Prelude.{◌≡◌, IsSome, option_map, option_copied};
+ghost use Rattle.std.specs.Prelude.{◌≡◌, IsSome, is_some, option_map, option_copied};
 ghost use Rattle.m51_expr.specs.Tree.{Number, tree_of};
 ghost use Rattle.m51_expr.specs.Ranks.{prefix_operator, infix_operator, prefix_of, infix_of, leaf_of, prefix_rank};
 ghost use Rattle.m51_expr.specs.Ranks.{infix_rank, text_value, is_open, is_close};
@@ -58,6 +58,20 @@ fn infix_operator(symbol: Option<&Symbol>) -> Option<Binary>
         Some(Symbol::Infix(op)) => Some(*op),
         _ => None,
     }
+}
+
+/// Whether it is an operator before an operand.
+pub(crate) fn is_prefix(symbol: Option<&Symbol>) -> bool
+    ensures { result ≡ is_some (prefix_operator (option_copied symbol.entry)) }
+{
+    prefix_operator(symbol).is_some()
+}
+
+/// Whether it is an operator between two operands.
+pub(crate) fn is_infix(symbol: Option<&Symbol>) -> bool
+    ensures { result ≡ is_some (infix_operator (option_copied symbol.entry)) }
+{
+    infix_operator(symbol).is_some()
 }
 
 /// The operator before an operand, where its rank is this one.

@@ -1,14 +1,16 @@
 //! Reads expressions by the ranks of their operators.
-ghost use Rattle.std.specs.Prelude.{◌≡◌, ◌≤◌, ◌<◌, ◌-◌, ℕ, All, IfOk, IsSome, Some, length, map, ◌+◌, option_copied};
+ghost use Rattle.std.specs.Prelude.{◌≡◌, ◌≤◌, ◌<◌, ◌-◌, ℕ, All, IfOk, IsSome, is_some};
+ghost use Rattle.std.specs.Prelude.{false, Some, length, map, ◌+◌, option_copied};
 ghost use Rattle.m51_lex.specs.Tokens.{IsWithin};
 ghost use Rattle.m51_expr.specs.Symbol.{symbol_of};
+ghost use Rattle.m51_expr.specs.Ranks.{prefix_operator};
 ghost use Rattle.m51_expr.specs.Tree.{Tree, tree_of};
 ghost use Rattle.m51_expr.specs.Grammar.{IsExpression};
-ghost use Rattle.m51_expr.specs.Reading.{GivesTree, line_of, read, more, operand, enough, expression_in};
+ghost use Rattle.m51_expr.specs.Reading.{GivesTree, line_of, read, more, looser, operand, enough, expression_in};
 ghost use Rattle.m51_expr.specs.Reading.{expression_from};
 
 use crate::fault::ReadError;
-use crate::ranks::{OPERAND, infix_of, is_close, is_open, leaf_of, prefix_of};
+use crate::ranks::{OPERAND, infix_of, is_close, is_infix, is_open, is_prefix, leaf_of, prefix_of};
 use crate::symbol::{Symbol, symbols};
 use crate::tree::{Expr, one, two};
 use m51_cells::NO_EXPRESSION;
@@ -40,10 +42,14 @@ fn read(alloc: Global, symbols: &[Symbol], rank: u8, at: usize) -> Result<(Expr,
         → GivesTree result (read n (line_of symbols.now) rank at) }
     ensures within { IfOk result (λ r. (at < r.1) × (r.1 ≤ length symbols.now)) }
 {
+    let symbol = symbol_at(symbols, at);
+    if !is_prefix(symbol) {
+        return plain(alloc, symbols, rank, at);
+    }
     if rank == OPERAND {
         return operand(alloc, symbols, at);
     }
-    match prefix_of(symbol_at(symbols, at), rank) {
+    match prefix_of(symbol, rank) {
         Some(op) => {
             let (inner, next) = read(alloc, symbols, rank, at + 1)?;
             Ok((one(alloc, op, inner)?, next))
@@ -53,6 +59,44 @@ fn read(alloc: Global, symbols: &[Symbol], rank: u8, at: usize) -> Result<(Expr,
             more(alloc, symbols, rank, left, next)
         }
     }
+}
+
+// The expression of this rank that begins with an operand, and the place after it.
+#[cycle(reader)]
+fn plain(alloc: Global, symbols: &[Symbol], rank: u8, at: usize) -> Result<(Expr, usize), ReadError>
+    requires rank { rank ≤ 8 }
+    requires plain { is_some (prefix_operator (line_of symbols.now at)) ≡ false }
+    ensures gives { (n : ℕ) → enough (length symbols.now - at) rank ≤ n
+        → GivesTree result (read n (line_of symbols.now) rank at) }
+    ensures within { IfOk result (λ r. (at < r.1) × (r.1 ≤ length symbols.now)) }
+{
+    let (left, next) = operand(alloc, symbols, at)?;
+    looser(alloc, symbols, rank, left, next)
+}
+
+// An operand continues as an expression of each rank down to this one.
+#[cycle(reader)]
+fn looser(
+    alloc: Global,
+    symbols: &[Symbol],
+    rank: u8,
+    left: Expr,
+    at: usize,
+) -> Result<(Expr, usize), ReadError>
+    requires rank { rank ≤ 8 }
+    requires within { at ≤ length symbols.now }
+    ensures gives { (n : ℕ) → enough (length symbols.now - at) rank ≤ n
+        → GivesTree result (looser (8 - rank) n (line_of symbols.now) rank (tree_of left) at) }
+    ensures within { IfOk result (λ r. (at ≤ r.1) × (r.1 ≤ length symbols.now)) }
+{
+    if rank == OPERAND {
+        return Ok((left, at));
+    }
+    if !is_infix(symbol_at(symbols, at)) {
+        return Ok((left, at));
+    }
+    let (inner, next) = looser(alloc, symbols, rank + 1, left, at)?;
+    more(alloc, symbols, rank, inner, next)
 }
 
 // An expression of this rank continues, as long as operators of the rank follow.

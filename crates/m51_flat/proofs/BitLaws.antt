@@ -1,5 +1,6 @@
 -- Flags and rotations bit by bit.
-use Rattle.std.proofs.Common.{◌≡◌, ◌≢◌, ℕ, zero, suc, ◌+◌, ◌-◌, ◌*◌, ◌/◌, ◌%◌, ◌<◌, Bool, true, false, refl, ap, ◌∙◌, arith, lit<, ⊎_elim, nat_eq}
+use Rattle.std.proofs.Common.{◌≡◌, ◌≢◌, ℕ, zero, suc, ◌+◌, ◌-◌, ◌*◌, ◌/◌, ◌%◌, ◌<◌, Bool, true, false, refl, ap, ◌∙◌}
+use Rattle.std.proofs.Common.{arith, lit<, ⊎_elim, nat_eq}
 use Rattle.std.specs.Prelude.{◌==◌}
 use Rattle.std.specs.Int.{bit_at}
 use Rattle.std.proofs.lemmas.Bool.Decides.{eqb_tells}
@@ -27,10 +28,12 @@ flags_of s psw =
     let far76 : 7 ≢ 6 = λ (h : 7 ≡ 6). omega (arith, h) in
     let far62 : 6 ≢ 2 = λ (h : 6 ≡ 2). omega (arith, h) in
     record {
-      cy = bit_other two 2 7 s.ov (lit< tt) (lit< tt) far72 ∙ bit_other one 6 7 s.ac (lit< tt) (lit< tt) far76 ∙ bit_same psw 7 s.cy (lit< tt);
+      cy = bit_other two 2 7 s.ov (lit< tt) (lit< tt) far72 ∙ bit_other one 6 7 s.ac (lit< tt) (lit< tt) far76
+          ∙ bit_same psw 7 s.cy (lit< tt);
       ac = bit_other two 2 6 s.ov (lit< tt) (lit< tt) far62 ∙ bit_same one 6 s.ac (lit< tt);
       ov = bit_same two 2 s.ov (lit< tt);
-      others = λ k h n7 n6 n2. bit_other two 2 k s.ov (lit< tt) h n2 ∙ bit_other one 6 k s.ac (lit< tt) h n6 ∙ bit_other psw 7 k s.cy (lit< tt) h n7;
+      others = λ k h n7 n6 n2. bit_other two 2 k s.ov (lit< tt) h n2 ∙ bit_other one 6 k s.ac (lit< tt) h n6
+          ∙ bit_other psw 7 k s.cy (lit< tt) h n7;
     }
 
 pub flags_are_written : FlagsAreWritten
@@ -38,16 +41,23 @@ unfolding with_flags
 flags_are_written s psw = flags_of s psw
 
 rotated_right : (a k : ℕ) → a < 256 → k < 8 → bit_at (a / 2 + 128 * (a % 2)) k ≡ bit_at a ((k + 1) % 8)
-rotated_right a k h = of_register (λ k. bit_at (a / 2 + 128 * (a % 2)) k ≡ bit_at a ((k + 1) % 8)) (omega (arith, h)) (omega (arith, h)) (omega (arith, h)) (omega (arith, h)) (omega (arith, h)) (omega (arith, h)) (omega (arith, h)) (omega (arith, h)) k
+rotated_right a k h = of_register (λ k. bit_at (a / 2 + 128 * (a % 2)) k ≡ bit_at a ((k + 1) % 8)) (omega (arith, h))
+    (omega (arith, h)) (omega (arith, h)) (omega (arith, h)) (omega (arith, h)) (omega (arith, h)) (omega (arith, h))
+    (omega (arith, h)) k
 
 rotated_left : (a k : ℕ) → a < 256 → k < 8 → bit_at (a % 128 * 2 + a / 128) k ≡ bit_at a ((k + 7) % 8)
-rotated_left a k h = of_register (λ k. bit_at (a % 128 * 2 + a / 128) k ≡ bit_at a ((k + 7) % 8)) (omega (arith, h)) (omega (arith, h)) (omega (arith, h)) (omega (arith, h)) (omega (arith, h)) (omega (arith, h)) (omega (arith, h)) (omega (arith, h)) k
+rotated_left a k h = of_register (λ k. bit_at (a % 128 * 2 + a / 128) k ≡ bit_at a ((k + 7) % 8)) (omega (arith, h))
+    (omega (arith, h)) (omega (arith, h)) (omega (arith, h)) (omega (arith, h)) (omega (arith, h)) (omega (arith, h))
+    (omega (arith, h)) k
 
 swapped : (a k : ℕ) → a < 256 → k < 8 → bit_at (a % 16 * 16 + a / 16) k ≡ bit_at a ((k + 4) % 8)
-swapped a k h = of_register (λ k. bit_at (a % 16 * 16 + a / 16) k ≡ bit_at a ((k + 4) % 8)) (omega (arith, h)) (omega (arith, h)) (omega (arith, h)) (omega (arith, h)) (omega (arith, h)) (omega (arith, h)) (omega (arith, h)) (omega (arith, h)) k
+swapped a k h = of_register (λ k. bit_at (a % 16 * 16 + a / 16) k ≡ bit_at a ((k + 4) % 8)) (omega (arith, h))
+    (omega (arith, h)) (omega (arith, h)) (omega (arith, h)) (omega (arith, h)) (omega (arith, h)) (omega (arith, h))
+    (omega (arith, h)) k
 
 complemented : (a k : ℕ) → a < 256 → k < 8 → bit_at (255 - a) k + bit_at a k ≡ 1
-complemented a k h = of_register (λ k. bit_at (255 - a) k + bit_at a k ≡ 1) (omega (arith, h)) (omega (arith, h)) (omega (arith, h)) (omega (arith, h)) (omega (arith, h)) (omega (arith, h)) (omega (arith, h)) (omega (arith, h)) k
+complemented a k h = of_register (λ k. bit_at (255 - a) k + bit_at a k ≡ 1) (omega (arith, h)) (omega (arith, h))
+    (omega (arith, h)) (omega (arith, h)) (omega (arith, h)) (omega (arith, h)) (omega (arith, h)) (omega (arith, h)) k
 
 below_7 : (P : ℕ → Type 0) → P 0 → P 1 → P 2 → P 3 → P 4 → P 5 → P 6 → (n : ℕ) → n < 7 → P n
 below_7 P p0 p1 p2 p3 p4 p5 p6 zero h = p0
@@ -60,10 +70,14 @@ below_7 P p0 p1 p2 p3 p4 p5 p6 (suc (suc (suc (suc (suc (suc zero)))))) h = p6
 below_7 P p0 p1 p2 p3 p4 p5 p6 (suc (suc (suc (suc (suc (suc (suc n))))))) h = absurd (omega (arith, h))
 
 right_by : (a c k : ℕ) → a < 256 → c < 2 → k < 7 → bit_at (a / 2 + 128 * c) k ≡ bit_at a (k + 1)
-right_by a c k h b = below_7 (λ k. bit_at (a / 2 + 128 * c) k ≡ bit_at a (k + 1)) (omega (arith, h, b)) (omega (arith, h, b)) (omega (arith, h, b)) (omega (arith, h, b)) (omega (arith, h, b)) (omega (arith, h, b)) (omega (arith, h, b)) k
+right_by a c k h b = below_7 (λ k. bit_at (a / 2 + 128 * c) k ≡ bit_at a (k + 1)) (omega (arith, h, b))
+    (omega (arith, h, b)) (omega (arith, h, b)) (omega (arith, h, b)) (omega (arith, h, b)) (omega (arith, h, b))
+    (omega (arith, h, b)) k
 
 left_by : (a c k : ℕ) → a < 256 → c < 2 → k < 7 → bit_at (a % 128 * 2 + c) (k + 1) ≡ bit_at a k
-left_by a c k h b = below_7 (λ k. bit_at (a % 128 * 2 + c) (k + 1) ≡ bit_at a k) (omega (arith, h, b)) (omega (arith, h, b)) (omega (arith, h, b)) (omega (arith, h, b)) (omega (arith, h, b)) (omega (arith, h, b)) (omega (arith, h, b)) k
+left_by a c k h b = below_7 (λ k. bit_at (a % 128 * 2 + c) (k + 1) ≡ bit_at a k) (omega (arith, h, b))
+    (omega (arith, h, b)) (omega (arith, h, b)) (omega (arith, h, b)) (omega (arith, h, b)) (omega (arith, h, b))
+    (omega (arith, h, b)) k
 
 right_in : (a c : ℕ) → a < 256 → c < 2 → bit_at (a / 2 + 128 * c) 7 ≡ c
 right_in a c h b = omega (arith, h, b)
@@ -81,10 +95,12 @@ bit_small true = lit< tt
 bit_small false = lit< tt
 
 right_out : (a : ℕ) → bit_of (a % 2 == 1) ≡ bit_at a 0
-right_out a = let small : a % 2 < 2 = omega arith in let same : a % 2 ≡ bit_at a 0 = omega arith in is_one (a % 2) small ∙ same
+right_out a = let small : a % 2 < 2 = omega arith in let same : a % 2 ≡ bit_at a 0 = omega arith in
+    is_one (a % 2) small ∙ same
 
 left_out : (a : ℕ) → a < 256 → bit_of (a / 128 == 1) ≡ bit_at a 7
-left_out a h = let small : a / 128 < 2 = omega (arith, h) in let same : a / 128 ≡ bit_at a 7 = omega (arith, h) in is_one (a / 128) small ∙ same
+left_out a h = let small : a / 128 < 2 = omega (arith, h) in let same : a / 128 ≡ bit_at a 7 = omega (arith, h) in
+    is_one (a / 128) small ∙ same
 
 pub bits_are_turned : BitsAreTurned
 bits_are_turned a cy ac h = record {

@@ -1,20 +1,24 @@
 -- What a device that stores a register keeps, and what is on the stack after a call.
-use Rattle.std.proofs.Common.{◌≡◌, ◌≢◌, ◌+◌, ◌-◌, ◌%◌, ◌≤◌, ℕ, Bool, true, false, cond, length, slice_set, length-set, ap, sym, ◌∙◌, refl, lit≤}
+use Rattle.std.proofs.Common.{◌≡◌, ◌≢◌, ◌+◌, ◌-◌, ◌%◌, ◌≤◌, ℕ, Bool, true, false, cond, length, slice_set, length-set}
+use Rattle.std.proofs.Common.{ap, sym, ◌∙◌, refl, lit≤}
 use Rattle.m51_flat.specs.declared.state.Cpu.{Cpu}
 use Rattle.m51_flat.specs.declared.state.Effect.{Effect}
 use Rattle.m51_alu.specs.Arithmetic.{bit_of, parity_of}
 use Rattle.std.specs.Int.{bit_at}
 use Rattle.std.specs.Prelude.{◌||◌}
-use Rattle.m51_flat.specs.Sfr.{acc, has_register, latch, psw, sp, with_bit, with_flag, with_latch, with_parity, with_sfr}
+use Rattle.m51_flat.specs.Sfr.{acc, has_register, latch, psw, sp, with_bit, with_flag, with_latch, with_parity}
+use Rattle.m51_flat.specs.Sfr.{with_sfr}
 use Rattle.m51_flat.specs.Transfers.{called, stacked}
 use Rattle.m51_flat.specs.Laws.{HasParity}
-use Rattle.m51_flat.specs.DeviceLaws.{CallsAreMade, FlagsKeepTheRest, KeepsTheRest, PcIsStacked, SameControl, StoresKeepTheRest}
+use Rattle.m51_flat.specs.DeviceLaws.{CallsAreMade, FlagsKeepTheRest, KeepsTheRest, PcIsStacked, SameControl}
+use Rattle.m51_flat.specs.DeviceLaws.{StoresKeepTheRest}
 use Rattle.m51_flat.proofs.Flows.{called_calls, sp_written}
 use Rattle.m51_flat.proofs.Outcomes.{parity_of_right, right_of}
 use Rattle.m51_flat.proofs.Parity.{called_right, sfr_right}
 use Rattle.m51_flat.proofs.RegisterLaws.{apart, other}
 
-same_parity : (old new : Cpu) → latch new psw ≡ latch old psw → latch new acc ≡ latch old acc → HasParity old → HasParity new
+same_parity : (old new : Cpu) → latch new psw ≡ latch old psw → latch new acc ≡ latch old acc → HasParity old
+    → HasParity new
 same_parity old new p a h = ap (λ n. bit_at n 0) p ∙ h ∙ ap (λ n. bit_of (parity_of n)) (sym a)
 
 keeps_itself : (a : ℕ) (cpu : Cpu) → length cpu.regs ≡ 128 → KeepsTheRest a cpu cpu
@@ -25,7 +29,8 @@ keeps_itself a cpu len = record {
   parity = λ p q h. h;
 }
 
-keeps_others : (a v : ℕ) (cpu : Cpu) → length cpu.regs ≡ 128 → 128 ≤ a → KeepsTheRest a cpu (record cpu { regs = slice_set cpu.regs (a - 128) v })
+keeps_others : (a v : ℕ) (cpu : Cpu) → length cpu.regs ≡ 128 → 128 ≤ a
+    → KeepsTheRest a cpu (record cpu { regs = slice_set cpu.regs (a - 128) v })
 keeps_others a v cpu len low =
     let new : Cpu = record cpu { regs = slice_set cpu.regs (a - 128) v } in
     let far : (b : ℕ) → 128 ≤ b → b ≢ a → latch new b ≡ latch cpu b = λ b h ne. other cpu a b v (apart a b low h ne) in
@@ -36,13 +41,15 @@ keeps_others a v cpu len low =
       parity = λ p q h. same_parity cpu new (far psw (lit≤ tt) (λ e. p (sym e))) (far acc (lit≤ tt) (λ e. q (sym e))) h;
     }
 
-either : (a : ℕ) (b : Bool) (old x y : Cpu) → KeepsTheRest a old x → KeepsTheRest a old y → KeepsTheRest a old (cond b x y)
+either : (a : ℕ) (b : Bool) (old x y : Cpu) → KeepsTheRest a old x → KeepsTheRest a old y
+    → KeepsTheRest a old (cond b x y)
 either a true old x y hx hy = hx
 either a false old x y hx hy = hy
 
 pub stores_keep_the_rest : StoresKeepTheRest
 unfolding with_latch
-stores_keep_the_rest cpu a v len low = either a (has_register a) cpu _ cpu (keeps_others a v cpu len low) (keeps_itself a cpu len)
+stores_keep_the_rest cpu a v len low =
+    either a (has_register a) cpu _ cpu (keeps_others a v cpu len low) (keeps_itself a cpu len)
 
 pub flags_keep_the_rest : FlagsKeepTheRest
 unfolding with_flag

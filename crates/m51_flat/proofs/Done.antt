@@ -12,7 +12,8 @@ use Rattle.m51_flat.specs.declared.state.Seen.{Seen}
 use Rattle.m51_flat.specs.declared.state.Seen.TheVariants.{Value, Outside as SeenOutside, Unset as SeenUnset}
 use Rattle.m51_flat.specs.Outcome.{Outcome, Done, PowerDown}
 use Rattle.m51_flat.specs.States.{CellState, Holds, Absent, Fresh, States, shut_of}
-use Rattle.m51_flat.specs.Reads.{Access, Agrees, CellMap, access_seen, accesses_over, first_missing, result_over, value_or_missing}
+use Rattle.m51_flat.specs.Reads.{Access, Agrees, CellMap, access_seen, accesses_over, first_missing, result_over}
+use Rattle.m51_flat.specs.Reads.{value_or_missing}
 use Rattle.m51_flat.specs.Sfr.{flag, pcon}
 use Rattle.m51_flat.specs.Meaning.{concluded, outcome_of, plan_of, unless_shut}
 use Rattle.m51_flat.specs.OutcomeLaws.{EffectsAreDone, PowerGoesDown}
@@ -40,13 +41,15 @@ if_down false e h = cc h
 
 -- a read that has a value is followed by the others
 next_done : (r : Seen) (barred : Cell → Bool) (s : States) (xs : List Access) (a e : Effect)
-    → concluded barred (and_then (value_or_missing r) (λ v. first_missing s xs a)) ≡ Done e → concluded barred (first_missing s xs a) ≡ Done e
+    → concluded barred (and_then (value_or_missing r) (λ v. first_missing s xs a)) ≡ Done e
+    → concluded barred (first_missing s xs a) ≡ Done e
 next_done (Value v) barred s xs a e h = h
 next_done (SeenOutside c) barred s xs a e h = cc h
 next_done (SeenUnset c) barred s xs a e h = cc h
 
 next_down : (r : Seen) (barred : Cell → Bool) (s : States) (xs : List Access) (a : Effect)
-    → concluded barred (and_then (value_or_missing r) (λ v. first_missing s xs a)) ≡ PowerDown → concluded barred (first_missing s xs a) ≡ PowerDown
+    → concluded barred (and_then (value_or_missing r) (λ v. first_missing s xs a)) ≡ PowerDown
+    → concluded barred (first_missing s xs a) ≡ PowerDown
 next_down (Value v) barred s xs a h = h
 next_down (SeenOutside c) barred s xs a h = cc h
 next_down (SeenUnset c) barred s xs a h = cc h
@@ -57,7 +60,8 @@ record IsOpen (barred : Cell → Bool) (a e : Effect) : Type 0 where
   powered : flag a.cpu pcon 1 ≡ false
   is : a ≡ e
 
-open_is : (barred : Cell → Bool) (s : States) (xs : List Access) (a e : Effect) → concluded barred (first_missing s xs a) ≡ Done e → IsOpen barred a e
+open_is : (barred : Cell → Bool) (s : States) (xs : List Access) (a e : Effect)
+    → concluded barred (first_missing s xs a) ≡ Done e → IsOpen barred a e
 open_is barred s [] a e h =
     let one = none_shut (shut_of barred a.first) (unless_shut (shut_of barred a.second) (end_of a)) e h in
     let two = none_shut (shut_of barred a.second) (end_of a) e one.1 in
@@ -65,9 +69,12 @@ open_is barred s [] a e h =
     record { first = one.0; second = two.0; powered = end.0; is = end.1 }
 open_is barred s (x ∷ xs) a e h = open_is barred s xs a e (next_done (access_seen s x) barred s xs a e h)
 
-down_is : (barred : Cell → Bool) (s : States) (xs : List Access) (a : Effect) → concluded barred (first_missing s xs a) ≡ PowerDown → flag a.cpu pcon 1 ≡ true
+down_is : (barred : Cell → Bool) (s : States) (xs : List Access) (a : Effect)
+    → concluded barred (first_missing s xs a) ≡ PowerDown → flag a.cpu pcon 1 ≡ true
 down_is barred s [] a h =
-    if_down (flag a.cpu pcon 1) a (none_down (shut_of barred a.second) (end_of a) (none_down (shut_of barred a.first) (unless_shut (shut_of barred a.second) (end_of a)) h))
+    if_down (flag a.cpu pcon 1) a
+    (none_down (shut_of barred a.second) (end_of a)
+    (none_down (shut_of barred a.first) (unless_shut (shut_of barred a.second) (end_of a)) h))
 down_is barred s (x ∷ xs) a h = down_is barred s xs a (next_down (access_seen s x) barred s xs a h)
 
 -- what cells hold, as a map
@@ -82,12 +89,15 @@ map_of s = record { ram = λ n. value_of (s.ram n); xram = λ n. value_of (s.xra
 map_agrees : (s : States) → Agrees s (map_of s)
 map_agrees s = record { ram = λ n v e. ap value_of e; xram = λ n v e. ap value_of e }
 
-open_over : (cpu : Cpu) (cells : States) (barred : Cell → Bool) (instr : Instr) (image : List ℕ) (ext : Pins) (m : CellMap) (e : Effect)
-    → outcome_of cpu cells barred instr image ext ≡ Done e → Agrees cells m → IsOpen barred (result_over m (plan_of cpu instr image ext)) e
+open_over : (cpu : Cpu) (cells : States) (barred : Cell → Bool) (instr : Instr) (image : List ℕ) (ext : Pins)
+    (m : CellMap) (e : Effect)
+    → outcome_of cpu cells barred instr image ext ≡ Done e → Agrees cells m
+    → IsOpen barred (result_over m (plan_of cpu instr image ext)) e
 unfolding outcome_of
 open_over cpu cells barred instr image ext m e h g =
     let p = plan_of cpu instr image ext in
-    open_is barred cells (accesses_over m p) (result_over m p) e (ap (concluded barred) (sym (readings p cells m g)) ∙ h)
+    open_is barred cells (accesses_over m p) (result_over m p) e
+    (ap (concluded barred) (sym (readings p cells m g)) ∙ h)
 
 pub effects_are_done : EffectsAreDone
 effects_are_done cpu cells barred instr image ext e h =

@@ -1,6 +1,7 @@
 -- One induction over the actions: what each write of a register or of memory keeps, and each jump, every action keeps
 -- that is no call and no return.
-use Rattle.std.proofs.Common.{◌≡◌, ℕ, ◌+◌, ◌%◌, ◌<◌, Bool, true, false, cond, List, Option, Some, None, refl, subst, sym, ap, ◌∙◌, arith}
+use Rattle.std.proofs.Common.{◌≡◌, ℕ, ◌+◌, ◌%◌, ◌<◌, Bool, true, false, cond, List, Option, Some, None, refl, subst}
+use Rattle.std.proofs.Common.{sym, ap, ◌∙◌, arith}
 use Rattle.std.proofs.lemmas.Bool.{cond_both, ltb-true}
 use Rattle.std.specs.Prelude.{◌==◌, ◌&&◌, nat_lt, IfSome}
 use Rattle.m51_alu.specs.declared.sum.Sum.{Sum}
@@ -16,16 +17,23 @@ use Rattle.m51_flat.specs.declared.state.Effect.{Effect}
 use Rattle.m51_flat.specs.declared.state.Put.{Put}
 use Rattle.m51_flat.specs.declared.state.Put.TheVariants.{Xbyte}
 use Rattle.m51_flat.specs.declared.state.Transfer.TheVariants.{Jump}
-use Rattle.m51_flat.specs.declared.actions.Place.{Place}
-use Rattle.m51_flat.specs.declared.actions.Place.TheVariants.{Accumulator, Direct, Indirect, Bank}
+use Rattle.m51_flat.specs.declared.actions.Addressing.{Addressing}
+use Rattle.m51_flat.specs.declared.actions.Addressing.TheVariants.{Accumulator, Direct, Indirect, Bank}
 use Rattle.m51_flat.specs.declared.actions.ByteOperand.TheVariants.{At}
 use Rattle.m51_flat.specs.declared.actions.Location.{Location}
 use Rattle.m51_flat.specs.declared.actions.Location.TheVariants.{Ram, Sfr}
 use Rattle.m51_flat.specs.declared.actions.Action.{Action}
-use Rattle.m51_flat.specs.declared.actions.Action.TheVariants.{Skip, Assign, Accumulate, Combine, Change, Turn, Multiply, Divide, Exchange, ExchangeDigit, LoadDptr, AdvanceDptr, LoadExternal, StoreExternal, LoadCode, Push, Pop, ChangeCarry, CarryWith, StoreBit, FlipBit, JumpTo, JumpNear, JumpBy, JumpIndirect, BranchOn, BranchOnBit, TestAndClear, Compare, CountDown, CallTo, CallNear, Return}
+use Rattle.m51_flat.specs.declared.actions.Action.TheVariants.{Skip, Assign, Accumulate, Combine, Change, Turn}
+use Rattle.m51_flat.specs.declared.actions.Action.TheVariants.{Multiply, Divide, Exchange, ExchangeDigit, LoadDptr}
+use Rattle.m51_flat.specs.declared.actions.Action.TheVariants.{AdvanceDptr, LoadExternal, StoreExternal, LoadCode, Push}
+use Rattle.m51_flat.specs.declared.actions.Action.TheVariants.{Pop, ChangeCarry, CarryWith, StoreBit, FlipBit, JumpTo}
+use Rattle.m51_flat.specs.declared.actions.Action.TheVariants.{JumpNear, JumpBy, JumpIndirect, BranchOn, BranchOnBit}
+use Rattle.m51_flat.specs.declared.actions.Action.TheVariants.{TestAndClear, Compare, CountDown, CallTo, CallNear}
+use Rattle.m51_flat.specs.declared.actions.Action.TheVariants.{Return}
 use Rattle.m51_flat.specs.Reads.{Reads, Ends, Read, then_read}
 use Rattle.m51_flat.specs.Sfr.{acc, breg, dph, dpl, flag, latch, psw, sp, with_sfr}
-use Rattle.m51_flat.specs.Operands.{bank, bit_found_at, bit_latch_at, byte_of_bit, found_at, latch_at, location_of, operand_value, with_bit_at, with_location}
+use Rattle.m51_flat.specs.Operands.{bank, bit_found_at, bit_latch_at, byte_of_bit, found_at, latch_at, location_of}
+use Rattle.m51_flat.specs.Operands.{operand_value, with_bit_at, with_location}
 use Rattle.m51_flat.specs.Parts.{branched, jumped, with_carry, with_dptr, with_pair, with_sum}
 use Rattle.m51_flat.specs.Arithmetic.{assigned, changed, combined, digits_exchanged, exchanged, summed, with_turn}
 use Rattle.m51_flat.specs.Moves.{code_loaded, external_address, external_loaded, external_stored, popped, pushed}
@@ -37,7 +45,7 @@ use Rattle.m51_flat.specs.Laws.{Always}
 use Rattle.m51_flat.specs.LevelLaws.{is_written}
 
 -- what an action writes at an address of its operand
-abbrev pub place_written : Place → Written
+abbrev pub place_written : Addressing → Written
 place_written (Direct a) = DirectByte a
 place_written _ = Nothing
 
@@ -102,13 +110,15 @@ MayGo watched next G action = IfSome (target_by action next) G
 -- Control may jump to an address of G; n is that of the next instruction.
 module _ (watched : ℕ → Bool) (P Q : Bool → Effect → Type 0) (n : ℕ) (G : ℕ → Type 0) where
   pub record IsKept : Type 0 where
-    pub apart : (watched acc ≡ false) × (watched psw ≡ false) × (watched breg ≡ false) × (watched dph ≡ false) × (watched dpl ≡ false)
+    pub apart : (watched acc ≡ false) × (watched psw ≡ false) × (watched breg ≡ false) × (watched dph ≡ false)
+        × (watched dpl ≡ false)
     pub low : (a : ℕ) → a < 128 → watched a ≡ false
     pub register : (a v : ℕ) (e : Effect) → P false e → P (watched a) (with_sfr a v e)
     pub memory : (put : Put) (e : Effect) → P false e → P false (record e { first = put })
     pub ends : (b : Bool) (e : Effect) → P b e → Q b e
     pub jump : (b : Bool) (to : ℕ) (e : Effect) → G to → P b e → Q b (jumped to Jump e)
-    pub branch : (b : Bool) (rel : ℕ) (e : Effect) → G (relative n rel) → P b e → Q b (jumped (relative e.cpu.pc rel) Jump e)
+    pub branch : (b : Bool) (rel : ℕ) (e : Effect) → G (relative n rel) → P b e
+        → Q b (jumped (relative e.cpu.pc rel) Jump e)
 
   abbrev location_watched : Location → Bool
   location_watched (Ram a) = false
@@ -117,7 +127,8 @@ module _ (watched : ℕ → Bool) (P Q : Bool → Effect → Type 0) (n : ℕ) (
   abbrev Gives : Bool → Reads Effect → Type 0
   Gives w p = Always (λ e. Q w e) p
 
-  gives_then : {A : Type 0} (w : Bool) (p : Reads A) (go : A → Reads Effect) → ((a : A) → Gives w (go a)) → Gives w (then_read p go)
+  gives_then : {A : Type 0} (w : Bool) (p : Reads A) (go : A → Reads Effect) → ((a : A) → Gives w (go a))
+      → Gives w (then_read p go)
   gives_then w (Ends a) go h = h a
   gives_then w (Read x more) go h = λ v. gives_then w (more v) go h
 
@@ -157,7 +168,8 @@ module _ (watched : ℕ → Bool) (P Q : Bool → Effect → Type 0) (n : ℕ) (
     code_kept image e base h = plain _ _ e k.apart.0 h
 
     -- where the operand lies, and what its write keeps
-    placed : (w : Bool) (at : Location) (v : ℕ) (e : Effect) → location_watched at ≡ w → P false e → P w (with_location at v e)
+    placed : (w : Bool) (at : Location) (v : ℕ) (e : Effect) → location_watched at ≡ w → P false e
+        → P w (with_location at v e)
     unfolding with_location
     placed w (Ram a) v e m h = so m (k.memory _ e h)
     placed w (Sfr a) v e m h = so m (k.register a v e h)
@@ -166,10 +178,10 @@ module _ (watched : ℕ → Bool) (P Q : Bool → Effect → Type 0) (n : ℕ) (
     direct_watched a true p = sym (k.low a (ltb-true a 128 p))
     direct_watched a false p = refl
 
-    abbrev place_watched : Cpu → Place → Bool
+    abbrev place_watched : Cpu → Addressing → Bool
     place_watched cpu place = is_written watched cpu (place_written place)
 
-    located : (cpu : Cpu) (place : Place) (go : Location → Reads Effect)
+    located : (cpu : Cpu) (place : Addressing) (go : Location → Reads Effect)
         → ((at : Location) → location_watched at ≡ place_watched cpu place → Gives (place_watched cpu place) (go at))
         → Gives (place_watched cpu place) (then_read (location_of cpu place) go)
     unfolding location_of
@@ -181,7 +193,8 @@ module _ (watched : ℕ → Bool) (P Q : Bool → Effect → Type 0) (n : ℕ) (
     bit_low : (bit : ℕ) → bit < 128 → watched (byte_of_bit bit) ≡ false
     bit_low bit h = k.low (byte_of_bit bit) (omega (arith, h))
 
-    bit_kept : (w : Bool) (bit : ℕ) (b : Bool) (e : Effect) → watched (byte_of_bit bit) ≡ w → P false e → P w (with_bit_at bit b e)
+    bit_kept : (w : Bool) (bit : ℕ) (b : Bool) (e : Effect) → watched (byte_of_bit bit) ≡ w → P false e
+        → P w (with_bit_at bit b e)
     unfolding with_bit_at
     bit_kept w bit b e p h =
         cond_both (nat_lt bit 128) _ _ (λ e. P w e)
@@ -193,44 +206,60 @@ module _ (watched : ℕ → Bool) (P Q : Bool → Effect → Type 0) (n : ℕ) (
     branched_kept w true rel e j h = k.branch w rel e j h
     branched_kept w false rel e j h = k.ends w e h
 
-    assigned_kept : (ext : Pins) (e : Effect) (place : Place) (from : _) → P false e → Gives (place_watched e.cpu place) (assigned ext e place from)
+    assigned_kept : (ext : Pins) (e : Effect) (place : Addressing) (from : _) → P false e
+        → Gives (place_watched e.cpu place) (assigned ext e place from)
     unfolding assigned
     assigned_kept ext e place from h =
-        located e.cpu place _ (λ at m. gives_then _ (operand_value e.cpu ext from) _ (λ v. k.ends _ _ (placed _ at v e m h)))
+        located e.cpu place _
+        (λ at m. gives_then _ (operand_value e.cpu ext from) _ (λ v. k.ends _ _ (placed _ at v e m h)))
 
     summed_kept : (ext : Pins) (e : Effect) (op : _) (from : _) → P false e → Gives false (summed ext e op from)
     unfolding summed
     summed_kept ext e op from h = gives_then _ (operand_value e.cpu ext from) _ (λ v. k.ends _ _ (sum_kept _ e h))
 
-    combined_kept : (ext : Pins) (e : Effect) (op : _) (place : Place) (from : _) → P false e → Gives (place_watched e.cpu place) (combined ext e op place from)
+    combined_kept : (ext : Pins) (e : Effect) (op : _) (place : Addressing) (from : _) → P false e
+        → Gives (place_watched e.cpu place) (combined ext e op place from)
     unfolding combined
     combined_kept ext e op place from h =
-        located e.cpu place _ (λ at m. gives_then _ (latch_at e.cpu at) _ (λ v. gives_then _ (operand_value e.cpu ext from) _ (λ w. k.ends _ _ (placed _ at _ e m h))))
+        located e.cpu place _
+        (λ at m. gives_then _ (latch_at e.cpu at) _
+        (λ v. gives_then _ (operand_value e.cpu ext from) _ (λ w. k.ends _ _ (placed _ at _ e m h))))
 
-    changed_kept : (e : Effect) (count : _) (place : Place) → P false e → Gives (place_watched e.cpu place) (changed e count place)
+    changed_kept : (e : Effect) (count : _) (place : Addressing) → P false e
+        → Gives (place_watched e.cpu place) (changed e count place)
     unfolding changed
-    changed_kept e count place h = located e.cpu place _ (λ at m. gives_then _ (latch_at e.cpu at) _ (λ v. k.ends _ _ (placed _ at _ e m h)))
+    changed_kept e count place h =
+        located e.cpu place _ (λ at m. gives_then _ (latch_at e.cpu at) _ (λ v. k.ends _ _ (placed _ at _ e m h)))
 
-    exchanged_kept : (ext : Pins) (e : Effect) (place : Place) → P false e → Gives (place_watched e.cpu place) (exchanged ext e place)
+    exchanged_kept : (ext : Pins) (e : Effect) (place : Addressing) → P false e
+        → Gives (place_watched e.cpu place) (exchanged ext e place)
     unfolding exchanged
     exchanged_kept ext e place h =
-        located e.cpu place _ (λ at m. gives_then _ (found_at e.cpu ext at) _ (λ v. k.ends _ _ (placed _ at _ _ m (plain acc v e k.apart.0 h))))
+        located e.cpu place _
+        (λ at m. gives_then _ (found_at e.cpu ext at) _
+        (λ v. k.ends _ _ (placed _ at _ _ m (plain acc v e k.apart.0 h))))
 
-    digits_exchanged_kept : (ext : Pins) (e : Effect) (place : Place) → P false e → Gives (place_watched e.cpu place) (digits_exchanged ext e place)
+    digits_exchanged_kept : (ext : Pins) (e : Effect) (place : Addressing) → P false e
+        → Gives (place_watched e.cpu place) (digits_exchanged ext e place)
     unfolding digits_exchanged
     digits_exchanged_kept ext e place h =
-        located e.cpu place _ (λ at m. gives_then _ (found_at e.cpu ext at) _ (λ v. k.ends _ _ (placed _ at _ _ m (plain acc _ e k.apart.0 h))))
+        located e.cpu place _
+        (λ at m. gives_then _ (found_at e.cpu ext at) _
+        (λ v. k.ends _ _ (placed _ at _ _ m (plain acc _ e k.apart.0 h))))
 
     external_loaded_kept : (e : Effect) (from : _) → P false e → Gives false (external_loaded e from)
     unfolding external_loaded
-    external_loaded_kept e from h = gives_then _ (external_address e.cpu from) _ (λ a v. k.ends _ _ (plain acc v e k.apart.0 h))
+    external_loaded_kept e from h =
+        gives_then _ (external_address e.cpu from) _ (λ a v. k.ends _ _ (plain acc v e k.apart.0 h))
 
     external_stored_kept : (e : Effect) (to : _) → P false e → Gives false (external_stored e to)
     unfolding external_stored
     external_stored_kept e to h =
-        gives_then _ (external_address e.cpu to) (λ a. Ends (record e { first = Xbyte a (latch e.cpu acc) })) (λ a. k.ends _ _ (k.memory _ e h))
+        gives_then _ (external_address e.cpu to) (λ a. Ends (record e { first = Xbyte a (latch e.cpu acc) }))
+        (λ a. k.ends _ _ (k.memory _ e h))
 
-    pushed_kept : (ext : Pins) (e : Effect) (place : Place) → watched sp ≡ false → P false e → Gives false (pushed ext e place)
+    pushed_kept : (ext : Pins) (e : Effect) (place : Addressing) → watched sp ≡ false → P false e
+        → Gives false (pushed ext e place)
     unfolding pushed
     pushed_kept ext e place p h =
         let top = (latch e.cpu sp + 1) % 256 in
@@ -238,11 +267,13 @@ module _ (watched : ℕ → Bool) (P Q : Bool → Effect → Type 0) (n : ℕ) (
         gives_then _ (operand_value raised.cpu ext (At place)) (λ v. Ends (with_location (Ram top) v raised))
         (λ v. k.ends _ _ (placed _ (Ram top) v raised refl (plain sp top e p h)))
 
-    popped_kept : (e : Effect) (place : Place) → watched sp ≡ false → P false e → Gives (place_watched e.cpu place) (popped e place)
+    popped_kept : (e : Effect) (place : Addressing) → watched sp ≡ false → P false e
+        → Gives (place_watched e.cpu place) (popped e place)
     unfolding popped
     popped_kept e place p h = located e.cpu place _ (λ at m v. k.ends _ _ (placed _ at v _ m (plain sp _ e p h)))
 
-    carry_merged_kept : (ext : Pins) (e : Effect) (by : _) (bit : ℕ) → P false e → Gives false (carry_merged ext e by bit)
+    carry_merged_kept : (ext : Pins) (e : Effect) (by : _) (bit : ℕ) → P false e
+        → Gives false (carry_merged ext e by bit)
     unfolding carry_merged
     carry_merged_kept ext e by bit h = gives_then _ (bit_found_at e.cpu ext bit) _ (λ v. k.ends _ _ (carry_kept _ e h))
 
@@ -250,19 +281,25 @@ module _ (watched : ℕ → Bool) (P Q : Bool → Effect → Type 0) (n : ℕ) (
     unfolding bit_flipped
     bit_flipped_kept e bit h = gives_then _ (bit_latch_at e.cpu bit) _ (λ v. k.ends _ _ (bit_kept _ bit _ e refl h))
 
-    branched_on_bit_kept : (ext : Pins) (e : Effect) (test : _) (bit rel : ℕ) → G (relative n rel) → P false e → Gives false (branched_on_bit ext e test bit rel)
+    branched_on_bit_kept : (ext : Pins) (e : Effect) (test : _) (bit rel : ℕ) → G (relative n rel) → P false e
+        → Gives false (branched_on_bit ext e test bit rel)
     unfolding branched_on_bit
-    branched_on_bit_kept ext e test bit rel j h = gives_then _ (bit_found_at e.cpu ext bit) _ (λ v. branched_kept _ _ rel e j h)
+    branched_on_bit_kept ext e test bit rel j h =
+        gives_then _ (bit_found_at e.cpu ext bit) _ (λ v. branched_kept _ _ rel e j h)
 
-    compared_kept : (ext : Pins) (e : Effect) (first second : _) (rel : ℕ) → G (relative n rel) → P false e → Gives false (compared ext e first second rel)
+    compared_kept : (ext : Pins) (e : Effect) (first second : _) (rel : ℕ) → G (relative n rel) → P false e
+        → Gives false (compared ext e first second rel)
     unfolding compared
     compared_kept ext e first second rel j h =
-        gives_then _ (operand_value e.cpu ext first) _ (λ a. gives_then _ (operand_value e.cpu ext second) _ (λ b. branched_kept _ _ rel _ j (carry_kept _ e h)))
+        gives_then _ (operand_value e.cpu ext first) _
+        (λ a. gives_then _ (operand_value e.cpu ext second) _ (λ b. branched_kept _ _ rel _ j (carry_kept _ e h)))
 
-    counted_down_kept : (e : Effect) (place : Place) (rel : ℕ) → G (relative n rel) → P false e → Gives (place_watched e.cpu place) (counted_down e place rel)
+    counted_down_kept : (e : Effect) (place : Addressing) (rel : ℕ) → G (relative n rel) → P false e
+        → Gives (place_watched e.cpu place) (counted_down e place rel)
     unfolding counted_down
     counted_down_kept e place rel j h =
-        located e.cpu place _ (λ at m. gives_then _ (latch_at e.cpu at) _ (λ v. branched_kept _ _ rel _ j (placed _ at _ e m h)))
+        located e.cpu place _
+        (λ at m. gives_then _ (latch_at e.cpu at) _ (λ v. branched_kept _ _ rel _ j (placed _ at _ e m h)))
 
     -- a bit of internal RAM is none of the registers; of a register it is written where it is 1
     tested_kept : (e : Effect) (bit rel : ℕ) → G (relative n rel) → P false e
@@ -273,16 +310,19 @@ module _ (watched : ℕ → Bool) (P Q : Bool → Effect → Type 0) (n : ℕ) (
         let is_one = flag e.cpu (byte_of_bit bit) (bit % 8) in
         let w = holds && is_one in
         let taken = branched true rel (with_bit_at bit false e) in
-        cond_both (nat_lt bit 128) _ _ (λ (reads : Reads ℕ). Gives w (then_read reads (λ v. Ends (cond (v == 1) taken e))))
+        cond_both (nat_lt bit 128) _ _
+        (λ (reads : Reads ℕ). Gives w (then_read reads (λ v. Ends (cond (v == 1) taken e))))
         (λ low v.
         let none : holds ≡ false = bit_low bit (ltb-true bit 128 low) in
         let is : false ≡ w = ap (λ b. b && is_one) (sym none) in
-        choose w (v == 1) taken e (branched_kept w true rel _ j (bit_kept w bit false e (none ∙ is) h)) (k.ends w e (so is h)))
+        choose w (v == 1) taken e (branched_kept w true rel _ j (bit_kept w bit false e (none ∙ is) h))
+        (k.ends w e (so is h)))
         (λ high. cond_both is_one taken e (λ e. Q w e)
         (λ yes. branched_kept w true rel _ j (bit_kept w bit false e (beside_true holds is_one yes) h))
         (λ no. k.ends w e (so (beside_false holds is_one no) h)))
 
-    pub walk : (image : List ℕ) (ext : Pins) (e : Effect) (action : Action) → e.cpu.pc ≡ n → MayGo watched n G action → P false e
+    pub walk : (image : List ℕ) (ext : Pins) (e : Effect) (action : Action) → e.cpu.pc ≡ n → MayGo watched n G action
+        → P false e
         → Gives (is_written watched e.cpu (written_by action)) (plan image ext e action)
     walk image ext e Skip here m h = k.ends _ _ h
     walk image ext e (Assign place from) here m h = assigned_kept ext e place from h

@@ -17,12 +17,15 @@ same_inside true c d h = h refl
 same_inside false c d h = refl
 
 -- bytes that are all the fill make the cells that are filled
-pub cells_filled : (m : FlatBytes) (fill : ℕ) → ((n : ℕ) → n < 256 → slice_index m.ram n ≡ fill) → ((n : ℕ) → n < 65536 → slice_index m.xram n ≡ fill) → flat_cells m ≡ filled_cells fill
+pub cells_filled : (m : FlatBytes) (fill : ℕ) → ((n : ℕ) → n < 256 → slice_index m.ram n ≡ fill)
+    → ((n : ℕ) → n < 65536 → slice_index m.xram n ≡ fill) → flat_cells m ≡ filled_cells fill
 cells_filled m fill ram xram =
     same_states (flat_cells m) (filled_cells fill)
     (λ n. same_inside (nat_lt n 2048) (Holds (bit_at (slice_index m.ram (n / 8)) (n % 8))) (Holds (bit_at fill (n % 8)))
-    (λ e. let inside : n / 8 < 256 = omega (arith, ltb-true n 2048 e) in ap (λ b. Holds (bit_at b (n % 8))) (ram (n / 8) inside)))
-    (λ n. same_inside (nat_lt n 65536) (Holds (slice_index m.xram n)) (Holds fill) (λ e. ap Holds (xram n (ltb-true n 65536 e))))
+    (λ e. let inside : n / 8 < 256 = omega (arith, ltb-true n 2048 e) in
+    ap (λ b. Holds (bit_at b (n % 8))) (ram (n / 8) inside)))
+    (λ n. same_inside (nat_lt n 65536) (Holds (slice_index m.xram n)) (Holds fill)
+    (λ e. ap Holds (xram n (ltb-true n 65536 e))))
 
 -- no put is shut where no cell is barred
 pub none_shut : (put : Put) → None ≡ shut_of (λ cell. false) put

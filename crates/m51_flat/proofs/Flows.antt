@@ -1,8 +1,10 @@
 -- Each action ends as its flow says.
-use Rattle.std.proofs.Common.{◌≡◌, ◌≢◌, ◌+◌, ◌*◌, ◌%◌, ◌<◌, ◌∙◌, arith, lit<, length, get_or-set_same, get_or-set_other, ℕ, Bool, true, false, cond, List, refl, subst, ◌⊎◌, inl, inr}
+use Rattle.std.proofs.Common.{◌≡◌, ◌≢◌, ◌+◌, ◌*◌, ◌%◌, ◌<◌, ◌∙◌, arith, lit<, length, get_or-set_same, get_or-set_other}
+use Rattle.std.proofs.Common.{ℕ, Bool, true, false, cond, List, refl, subst, ◌⊎◌, inl, inr}
 use Rattle.std.specs.Prelude.{◌==◌, ◌&&◌, slice_index, slice_set}
 use Rattle.m51_isa.specs.declared.instr.Flow.{Flow}
-use Rattle.m51_isa.specs.declared.instr.Flow.TheVariants.{Next as FlowNext, Branch, Call as FlowCall, Ret as FlowRet, Reti as FlowReti}
+use Rattle.m51_isa.specs.declared.instr.Flow.TheVariants.{Next as FlowNext, Branch, Call as FlowCall, Ret as FlowRet}
+use Rattle.m51_isa.specs.declared.instr.Flow.TheVariants.{Reti as FlowReti}
 use Rattle.m51_isa.specs.declared.instr.Instr.{Instr}
 use Rattle.m51_isa.specs.declared.instr.Instr.TheVariants.{Nop}
 use Rattle.m51_isa.specs.Table.{flow_of}
@@ -14,7 +16,9 @@ use Rattle.m51_flat.specs.declared.state.Transfer.TheVariants.{Next, Jump}
 use Rattle.m51_flat.specs.declared.actions.ReturnFrom.{ReturnFrom}
 use Rattle.m51_flat.specs.declared.actions.ReturnFrom.TheVariants.{Subroutine, Interrupt}
 use Rattle.m51_flat.specs.declared.actions.Action.{Action}
-use Rattle.m51_flat.specs.declared.actions.Action.TheVariants.{JumpTo, JumpNear, JumpBy, JumpIndirect, BranchOn, BranchOnBit, TestAndClear, Compare, CountDown, CallTo, CallNear, Return}
+use Rattle.m51_flat.specs.declared.actions.Action.TheVariants.{JumpTo, JumpNear, JumpBy, JumpIndirect, BranchOn}
+use Rattle.m51_flat.specs.declared.actions.Action.TheVariants.{BranchOnBit, TestAndClear, Compare, CountDown, CallTo}
+use Rattle.m51_flat.specs.declared.actions.Action.TheVariants.{CallNear, Return}
 use Rattle.m51_flat.specs.Sfr.{has_register, latch, sbuf, sp, with_bit, with_parity, with_sfr}
 use Rattle.m51_flat.specs.Parts.{jumped}
 use Rattle.m51_flat.specs.Transfers.{called, returned, stacked}
@@ -79,7 +83,8 @@ pub latch_of : (cpu : Cpu) (pc a : ℕ) → latch (record cpu { pc = pc }) a ≡
 unfolding latch
 latch_of cpu pc a = refl
 
-pub called_calls : (e : Effect) (target : ℕ) → length e.cpu.regs ≡ 128 → IsCall e.cpu.pc (latch e.cpu sp) (called e target)
+pub called_calls : (e : Effect) (target : ℕ) → length e.cpu.regs ≡ 128
+    → IsCall e.cpu.pc (latch e.cpu sp) (called e target)
 unfolding called stacked
 called_calls e target len =
     let top = latch e.cpu sp in
@@ -95,15 +100,20 @@ unfoldable pub returns_by : ReturnFrom → Flow
 returns_by Subroutine = FlowRet
 returns_by Interrupt = FlowReti
 
-latch_at_end : (cpu : Cpu) (pc a : ℕ) (low high held : Bool) → latch (record cpu { pc = pc; low = low; high = high; held = held }) a ≡ latch cpu a
+latch_at_end : (cpu : Cpu) (pc a : ℕ) (low high held : Bool)
+    → latch (record cpu { pc = pc; low = low; high = high; held = held }) a ≡ latch cpu a
 unfolding latch
 latch_at_end cpu pc a low high held = refl
 
-returned_returns : (next : ℕ) (e : Effect) (from : ReturnFrom) → length e.cpu.regs ≡ 128 → Always (λ end. Follows (returns_by from) next (latch e.cpu sp) end) (returned e from)
+returned_returns : (next : ℕ) (e : Effect) (from : ReturnFrom) → length e.cpu.regs ≡ 128
+    → Always (λ end. Follows (returns_by from) next (latch e.cpu sp) end) (returned e from)
 unfolding returned returns_by
 returned_returns next e Subroutine len = λ high low.
     let lowered = with_sfr sp ((latch e.cpu sp + 254) % 256) e in
-    record { transfer = refl; stack = latch_of lowered.cpu (high * 256 + low) sp ∙ sp_written ((latch e.cpu sp + 254) % 256) e len }
+    record {
+      transfer = refl;
+      stack = latch_of lowered.cpu (high * 256 + low) sp ∙ sp_written ((latch e.cpu sp + 254) % 256) e len;
+    }
 returned_returns next e Interrupt len = λ high low.
     let lowered = with_sfr sp ((latch e.cpu sp + 254) % 256) e in
     record {
@@ -128,13 +138,15 @@ action_flow (CallNear address) = FlowCall
 action_flow (Return from) = returns_by from
 action_flow _ = FlowNext
 
-plan_flow : (image : List ℕ) (ext : Pins) (e : Effect) (action : Action) → length e.cpu.regs ≡ 128 → e.transfer ≡ Next → Always (λ end. Follows (action_flow action) e.cpu.pc (latch e.cpu sp) end) (plan image ext e action)
+plan_flow : (image : List ℕ) (ext : Pins) (e : Effect) (action : Action) → length e.cpu.regs ≡ 128 → e.transfer ≡ Next
+    → Always (λ end. Follows (action_flow action) e.cpu.pc (latch e.cpu sp) end) (plan image ext e action)
 plan_flow image ext e JumpIndirect len h = inr refl
 plan_flow image ext e (CallTo target) len h = called_calls e _ len
 plan_flow image ext e (CallNear address) len h = called_calls e _ len
 plan_flow image ext e (Return from) len h = returned_returns e.cpu.pc e from len
 plan_flow image ext e action len h =
-    walk (λ _. false) (λ _ end. GoesOn e.cpu.pc end) (λ _ end. Goes (action_flow action) e.cpu.pc end) e.cpu.pc (λ _. MayJump (action_flow action))
+    walk (λ _. false) (λ _ end. GoesOn e.cpu.pc end) (λ _ end. Goes (action_flow action) e.cpu.pc end) e.cpu.pc
+    (λ _. MayJump (action_flow action))
     (goes_kept (action_flow action) e.cpu.pc) image ext e action refl tt (h, refl)
 
 pub same_flow : (instr : Instr) → action_flow (action_of instr) ≡ flow_of instr
@@ -145,5 +157,6 @@ same_flow _ = refl
 pub flow_is_kept : FlowIsKept
 unfolding latch
 flow_is_kept cpu instr image ext len =
-    subst (λ flow. Always (λ e. Follows flow (next_address cpu instr) (latch cpu sp) e) (plan_of cpu instr image ext)) (same_flow instr)
+    subst (λ flow. Always (λ e. Follows flow (next_address cpu instr) (latch cpu sp) e) (plan_of cpu instr image ext))
+    (same_flow instr)
     (plan_flow image ext (started cpu instr) (action_of instr) len refl)

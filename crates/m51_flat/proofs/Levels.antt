@@ -1,4 +1,5 @@
--- Every action but the return from an interrupt keeps both levels in progress, and holds interrupts off where it writes IE or IP.
+-- Every action but the return from an interrupt keeps both levels in progress, and holds interrupts off where it writes
+-- IE or IP.
 use Rattle.std.proofs.Common.{◌≡◌, ℕ, Bool, true, false, cond, List, refl, subst, sym, ap, ◌∙◌, ◌<◌, arith}
 use Rattle.std.proofs.lemmas.Bool.{eqb-true, ne_eqb}
 use Rattle.std.specs.Prelude.{◌+◌, ◌%◌, ◌==◌, ◌&&◌, ◌||◌}
@@ -85,25 +86,34 @@ module _ (old : Cpu) where
       let s = plain_keeps false sp ((latch e.cpu sp + 2) % 256) e refl h in
       record { low = s.low; high = s.high; held = s.held }
 
-  returned_levels : (e : Effect) (from : ReturnFrom) → Keeps false e → Always (λ end. LevelsFollow (returns_by from) false old end) (returned e from)
+  returned_levels : (e : Effect) (from : ReturnFrom) → Keeps false e
+      → Always (λ end. LevelsFollow (returns_by from) false old end) (returned e from)
   unfolding returned returns_by
   returned_levels e Subroutine h = λ high low.
       let s = plain_keeps false sp ((latch e.cpu sp + 254) % 256) e refl h in
       record { low = s.low; high = s.high; held = s.held }
   returned_levels e Interrupt h = λ high low.
       let s = plain_keeps false sp ((latch e.cpu sp + 254) % 256) e refl h in
-      record { low = ap (λ h. h && (with_sfr sp ((latch e.cpu sp + 254) % 256) e).cpu.low) s.high ∙ ap (λ l. old.high && l) s.low; high = refl; held = refl }
+      record {
+        low = ap (λ h. h && (with_sfr sp ((latch e.cpu sp + 254) % 256) e).cpu.low) s.high
+            ∙ ap (λ l. old.high && l) s.low;
+        high = refl;
+        held = refl;
+      }
 
   plan_levels : (image : List ℕ) (ext : Pins) (e : Effect) (action : Action) → Keeps false e
-      → Always (λ end. LevelsFollow (action_flow action) (is_written holds_off e.cpu (written_by action)) old end) (plan image ext e action)
+      → Always (λ end. LevelsFollow (action_flow action) (is_written holds_off e.cpu (written_by action)) old end)
+      (plan image ext e action)
   plan_levels image ext e JumpIndirect h = record { low = h.low; high = h.high; held = h.held }
   plan_levels image ext e (CallTo target) h = called_keeps e _ h
   plan_levels image ext e (CallNear address) h = called_keeps e _ h
   plan_levels image ext e (Return from) h = returned_levels e from h
-  plan_levels image ext e action h = walk holds_off Keeps Keeps e.cpu.pc (λ _. Unit {0}) (levels_kept e.cpu.pc) image ext e action refl tt h
+  plan_levels image ext e action h =
+      walk holds_off Keeps Keeps e.cpu.pc (λ _. Unit {0}) (levels_kept e.cpu.pc) image ext e action refl tt h
 
 -- what is written depends only on the registers
-same_writes : (cpu : Cpu) (pc : ℕ) (held : Bool) (w : Written) → is_written holds_off (record cpu { pc = pc; held = held }) w ≡ is_written holds_off cpu w
+same_writes : (cpu : Cpu) (pc : ℕ) (held : Bool) (w : Written)
+    → is_written holds_off (record cpu { pc = pc; held = held }) w ≡ is_written holds_off cpu w
 unfolding flag latch
 same_writes cpu pc held w = refl
 
@@ -115,6 +125,8 @@ levels_are_kept cpu instr image ext =
     let follows : Always (λ e. LevelsFollow (action_flow action) (is_written holds_off old (written_by action)) cpu e) p
     = plan_levels cpu image ext (started cpu instr) action (record { low = refl; high = refl; held = refl }) in
     let column : Always (λ e. LevelsFollow (action_flow action) (is_written holds_off old (written_of instr)) cpu e) p
-    = subst (λ w. Always (λ e. LevelsFollow (action_flow action) (is_written holds_off old w) cpu e) p) (same_written instr) follows in
+    = subst (λ w. Always (λ e. LevelsFollow (action_flow action) (is_written holds_off old w) cpu e) p)
+    (same_written instr) follows in
     subst (λ flow. Always (λ e. LevelsFollow flow (writes_ie_or_ip cpu instr) cpu e) p) (same_flow instr)
-    (subst (λ w. Always (λ e. LevelsFollow (action_flow action) w cpu e) p) (same_writes cpu _ false (written_of instr)) column)
+    (subst (λ w. Always (λ e. LevelsFollow (action_flow action) w cpu e) p) (same_writes cpu _ false (written_of instr))
+    column)

@@ -1,5 +1,6 @@
 -- From what holds of every plan to what holds of every outcome.
-use Rattle.std.proofs.Common.{◌≡◌, ℕ, Bool, true, false, cond, List, length, Option, Some, None, Result, Ok, Err, refl, ap, ◌∙◌, sym, subst}
+use Rattle.std.proofs.Common.{◌≡◌, ℕ, Bool, true, false, cond, List, length, Option, Some, None, Result, Ok, Err, refl}
+use Rattle.std.proofs.Common.{ap, ◌∙◌, sym, subst}
 use Rattle.m51_cells.specs.declared.cell.Cell.{Cell}
 use Rattle.m51_cells.specs.Outcome.{and_then}
 use Rattle.m51_isa.specs.declared.instr.Instr.{Instr}
@@ -24,26 +25,32 @@ use Rattle.m51_flat.proofs.Levels.{levels_are_kept}
 use Rattle.m51_isa.specs.Table.{flow_of}
 
 -- the outcome of an instruction over a store is its outcome over every map that agrees with the store
-pub outcomes_agree : (m : CellMap) (cpu : Cpu) (s : States) (barred : Cell → Bool) (instr : Instr) (image : List ℕ) (ext : Pins) → Agrees s m → outcome_of cpu s barred instr image ext ≡ outcome_over m cpu s barred instr image ext
+pub outcomes_agree : (m : CellMap) (cpu : Cpu) (s : States) (barred : Cell → Bool) (instr : Instr) (image : List ℕ)
+    (ext : Pins) → Agrees s m → outcome_of cpu s barred instr image ext ≡ outcome_over m cpu s barred instr image ext
 unfolding outcome_of outcome_over
 outcomes_agree m cpu s barred instr image ext g = ap (concluded barred) (readings (plan_of cpu instr image ext) s m g)
 
-unless_done : (P : Effect → Type 0) (one two : Option Cell) (down : Bool) (e : Effect) → P e → IfDone (unless_shut one (unless_shut two (cond down PowerDown (Done e)))) P
+unless_done : (P : Effect → Type 0) (one two : Option Cell) (down : Bool) (e : Effect) → P e
+    → IfDone (unless_shut one (unless_shut two (cond down PowerDown (Done e)))) P
 unless_done P None None false e h = h
 unless_done P None None true e h = tt
 unless_done P None (Some c) down e h = tt
 unless_done P (Some c) two down e h = tt
 
-after_value : (P : Effect → Type 0) (barred : Cell → Bool) (r : Result ℕ Missing) (f : ℕ → Result Effect Missing) → ((v : ℕ) → IfDone (concluded barred (f v)) P) → IfDone (concluded barred (and_then r f)) P
+after_value : (P : Effect → Type 0) (barred : Cell → Bool) (r : Result ℕ Missing) (f : ℕ → Result Effect Missing)
+    → ((v : ℕ) → IfDone (concluded barred (f v)) P) → IfDone (concluded barred (and_then r f)) P
 after_value P barred (Ok v) f h = h v
 after_value P barred (Err (MissingOutside c)) f h = tt
 after_value P barred (Err (MissingUnset c)) f h = tt
 
 -- what holds whatever is read holds of the effect over a store
-pub always_done : (P : Effect → Type 0) (barred : Cell → Bool) (s : States) (p : Reads Effect) → Always P p → IfDone (concluded barred (answer s p)) P
-always_done P barred s (Ends e) h = unless_done P (shut_of barred e.first) (shut_of barred e.second) (flag e.cpu pcon 1) e h
+pub always_done : (P : Effect → Type 0) (barred : Cell → Bool) (s : States) (p : Reads Effect) → Always P p
+    → IfDone (concluded barred (answer s p)) P
+always_done P barred s (Ends e) h = unless_done P (shut_of barred e.first) (shut_of barred e.second) (flag e.cpu pcon 1)
+    e h
 always_done P barred s (Read x go) h =
-    after_value P barred (value_or_missing (access_seen s x)) (λ v. answer s (go v)) (λ v. always_done P barred s (go v) (h v))
+    after_value P barred (value_or_missing (access_seen s x)) (λ v. answer s (go v))
+    (λ v. always_done P barred s (go v) (h v))
 
 pub right_of : (cpu : Cpu) → length cpu.regs ≡ 128 → HasParity cpu → IsRight cpu
 unfolding latch has_register
@@ -53,27 +60,34 @@ pub parity_of_right : (cpu : Cpu) → IsRight cpu → HasParity cpu
 unfolding latch has_register
 parity_of_right cpu r = r.parity
 
-pub done_weaker : (P Q : Effect → Type 0) (outcome : Outcome) → ((e : Effect) → P e → Q e) → IfDone outcome P → IfDone outcome Q
+pub done_weaker : (P Q : Effect → Type 0) (outcome : Outcome) → ((e : Effect) → P e → Q e) → IfDone outcome P
+    → IfDone outcome Q
 done_weaker P Q (Done e) f h = f e h
 done_weaker P Q (Outside c) f h = tt
 done_weaker P Q (Unset c) f h = tt
 done_weaker P Q PowerDown f h = tt
 
 -- an instruction keeps the parity
-pub outcome_parity : (cpu : Cpu) (s : States) (barred : Cell → Bool) (instr : Instr) (image : List ℕ) (ext : Pins) → length cpu.regs ≡ 128 → HasParity cpu → IfDone (outcome_of cpu s barred instr image ext) (λ e. HasParity e.cpu)
+pub outcome_parity : (cpu : Cpu) (s : States) (barred : Cell → Bool) (instr : Instr) (image : List ℕ) (ext : Pins)
+    → length cpu.regs ≡ 128 → HasParity cpu → IfDone (outcome_of cpu s barred instr image ext) (λ e. HasParity e.cpu)
 unfolding outcome_of
 outcome_parity cpu s barred instr image ext len h =
     let before = right_of cpu len h in
     let start : IsRight (started cpu instr).cpu = record { len = before.len; parity = before.parity } in
     done_weaker (λ e. IsRight e.cpu) (λ e. HasParity e.cpu) (concluded barred (answer s (plan_of cpu instr image ext)))
     (λ e r. parity_of_right e.cpu r)
-    (always_done (λ e. IsRight e.cpu) barred s (plan_of cpu instr image ext) (plan_right image ext (started cpu instr) (action_of instr) start))
+    (always_done (λ e. IsRight e.cpu) barred s (plan_of cpu instr image ext)
+    (plan_right image ext (started cpu instr) (action_of instr) start))
 
 -- control continues by the flow of the instruction
-pub outcome_control : (cpu : Cpu) (s : States) (barred : Cell → Bool) (instr : Instr) (image : List ℕ) (ext : Pins) → length cpu.regs ≡ 128 → IfDone (outcome_of cpu s barred instr image ext) (λ e. Follows (flow_of instr) (next_address cpu instr) (latch cpu sp) e)
+pub outcome_control : (cpu : Cpu) (s : States) (barred : Cell → Bool) (instr : Instr) (image : List ℕ) (ext : Pins)
+    → length cpu.regs ≡ 128
+    → IfDone (outcome_of cpu s barred instr image ext)
+    (λ e. Follows (flow_of instr) (next_address cpu instr) (latch cpu sp) e)
 unfolding outcome_of
 outcome_control cpu s barred instr image ext len =
-    always_done (λ e. Follows (flow_of instr) (next_address cpu instr) (latch cpu sp) e) barred s (plan_of cpu instr image ext)
+    always_done (λ e. Follows (flow_of instr) (next_address cpu instr) (latch cpu sp) e) barred s
+    (plan_of cpu instr image ext)
     (flow_is_kept cpu instr image ext len)
 
 pub reset_parity : HasParity reset_cpu
@@ -81,18 +95,30 @@ unfolding latch has_register lib.Count.ones
 reset_parity = refl
 
 -- the same of what a call answers, where it answers the outcome
-pub over_map : (r : Outcome) (m : CellMap) (cpu : Cpu) (s : States) (barred : Cell → Bool) (instr : Instr) (image : List ℕ) (ext : Pins) → r ≡ outcome_of cpu s barred instr image ext → Agrees s m → r ≡ outcome_over m cpu s barred instr image ext
+pub over_map : (r : Outcome) (m : CellMap) (cpu : Cpu) (s : States) (barred : Cell → Bool) (instr : Instr)
+    (image : List ℕ) (ext : Pins) → r ≡ outcome_of cpu s barred instr image ext → Agrees s m
+    → r ≡ outcome_over m cpu s barred instr image ext
 over_map r m cpu s barred instr image ext e g = e ∙ outcomes_agree m cpu s barred instr image ext g
 
-pub keeps_parity : (r : Outcome) (cpu : Cpu) (s : States) (barred : Cell → Bool) (instr : Instr) (image : List ℕ) (ext : Pins) → r ≡ outcome_of cpu s barred instr image ext → length cpu.regs ≡ 128 → HasParity cpu → IfDone r (λ e. HasParity e.cpu)
-keeps_parity r cpu s barred instr image ext e len h = subst (λ r. IfDone r (λ e. HasParity e.cpu)) (sym e) (outcome_parity cpu s barred instr image ext len h)
+pub keeps_parity : (r : Outcome) (cpu : Cpu) (s : States) (barred : Cell → Bool) (instr : Instr) (image : List ℕ)
+    (ext : Pins) → r ≡ outcome_of cpu s barred instr image ext → length cpu.regs ≡ 128 → HasParity cpu
+    → IfDone r (λ e. HasParity e.cpu)
+keeps_parity r cpu s barred instr image ext e len h =
+    subst (λ r. IfDone r (λ e. HasParity e.cpu)) (sym e) (outcome_parity cpu s barred instr image ext len h)
 
-pub keeps_control : (r : Outcome) (cpu : Cpu) (s : States) (barred : Cell → Bool) (instr : Instr) (image : List ℕ) (ext : Pins) → r ≡ outcome_of cpu s barred instr image ext → length cpu.regs ≡ 128 → IfDone r (λ e. Follows (flow_of instr) (next_address cpu instr) (latch cpu sp) e)
-keeps_control r cpu s barred instr image ext e len = subst (λ r. IfDone r (λ e. Follows (flow_of instr) (next_address cpu instr) (latch cpu sp) e)) (sym e) (outcome_control cpu s barred instr image ext len)
+pub keeps_control : (r : Outcome) (cpu : Cpu) (s : States) (barred : Cell → Bool) (instr : Instr) (image : List ℕ)
+    (ext : Pins) → r ≡ outcome_of cpu s barred instr image ext → length cpu.regs ≡ 128
+    → IfDone r (λ e. Follows (flow_of instr) (next_address cpu instr) (latch cpu sp) e)
+keeps_control r cpu s barred instr image ext e len =
+    subst (λ r. IfDone r (λ e. Follows (flow_of instr) (next_address cpu instr) (latch cpu sp) e)) (sym e)
+    (outcome_control cpu s barred instr image ext len)
 
 -- so are the levels in progress
-pub keeps_levels : (r : Outcome) (cpu : Cpu) (s : States) (barred : Cell → Bool) (instr : Instr) (image : List ℕ) (ext : Pins) → r ≡ outcome_of cpu s barred instr image ext → IfDone r (λ e. LevelsFollow (flow_of instr) (writes_ie_or_ip cpu instr) cpu e)
+pub keeps_levels : (r : Outcome) (cpu : Cpu) (s : States) (barred : Cell → Bool) (instr : Instr) (image : List ℕ)
+    (ext : Pins) → r ≡ outcome_of cpu s barred instr image ext
+    → IfDone r (λ e. LevelsFollow (flow_of instr) (writes_ie_or_ip cpu instr) cpu e)
 unfolding outcome_of
 keeps_levels r cpu s barred instr image ext e =
     subst (λ r. IfDone r (λ e. LevelsFollow (flow_of instr) (writes_ie_or_ip cpu instr) cpu e)) (sym e)
-    (always_done (λ e. LevelsFollow (flow_of instr) (writes_ie_or_ip cpu instr) cpu e) barred s (plan_of cpu instr image ext) (levels_are_kept cpu instr image ext))
+    (always_done (λ e. LevelsFollow (flow_of instr) (writes_ie_or_ip cpu instr) cpu e) barred s
+    (plan_of cpu instr image ext) (levels_are_kept cpu instr image ext))

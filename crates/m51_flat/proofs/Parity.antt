@@ -1,5 +1,6 @@
 -- Every write of a register leaves bit 0 of PSW the parity of ACC, and so does every action.
-use Rattle.std.proofs.Common.{◌≡◌, ◌≢◌, ℕ, ◌+◌, ◌-◌, ◌%◌, ◌<◌, Bool, true, false, cond, List, length, refl, sym, ap, ◌∙◌, arith, lit<, get_or-set_same, get_or-set_other, length-set}
+use Rattle.std.proofs.Common.{◌≡◌, ◌≢◌, ℕ, ◌+◌, ◌-◌, ◌%◌, ◌<◌, Bool, true, false, cond, List, length, refl, sym, ap}
+use Rattle.std.proofs.Common.{◌∙◌, arith, lit<, get_or-set_same, get_or-set_other, length-set}
 use Rattle.std.specs.Prelude.{slice_index, slice_set, ◌==◌}
 use Rattle.std.specs.Int.{bit_at}
 use Rattle.m51_alu.specs.Arithmetic.{bit_of, parity_of}
@@ -45,7 +46,8 @@ parity_right cpu regs len e =
           ∙ ap (λ n. bit_of (parity_of n)) (sym at96);
     }
 
-pick : (b c : Bool) (x y z : Effect) → IsRight x.cpu → IsRight y.cpu → IsRight z.cpu → IsRight (cond b x (cond c y z)).cpu
+pick : (b c : Bool) (x y z : Effect) → IsRight x.cpu → IsRight y.cpu → IsRight z.cpu
+    → IsRight (cond b x (cond c y z)).cpu
 pick true c x y z hx hy hz = hx
 pick false true x y z hx hy hz = hy
 pick false false x y z hx hy hz = hz
@@ -53,16 +55,20 @@ pick false false x y z hx hy hz = hz
 pub sfr_right : (a v : ℕ) (e : Effect) → IsRight e.cpu → IsRight (with_sfr a v e).cpu
 unfolding with_sfr
 sfr_right a v e r =
-    pick (a == sbuf) (has_register a) _ _ e r (parity_right _ (slice_set e.cpu.regs (a - 128) v) (length-set e.cpu.regs (a - 128) v ∙ r.len) refl) r
+    pick (a == sbuf) (has_register a) _ _ e r
+    (parity_right _ (slice_set e.cpu.regs (a - 128) v) (length-set e.cpu.regs (a - 128) v ∙ r.len) refl) r
 
 pub called_right : (e : Effect) (target : ℕ) → IsRight e.cpu → IsRight (called e target).cpu
 unfolding called stacked
-called_right e target r = let s = sfr_right sp ((latch e.cpu sp + 2) % 256) e r in record { len = s.len; parity = s.parity }
+called_right e target r = let s = sfr_right sp ((latch e.cpu sp + 2) % 256) e r in
+    record { len = s.len; parity = s.parity }
 
 returned_right : (e : Effect) (from : ReturnFrom) → IsRight e.cpu → AlwaysRight (returned e from)
 unfolding returned
-returned_right e Interrupt r = λ high low. let s = sfr_right sp ((latch e.cpu sp + 254) % 256) e r in record { len = s.len; parity = s.parity }
-returned_right e Subroutine r = λ high low. let s = sfr_right sp ((latch e.cpu sp + 254) % 256) e r in record { len = s.len; parity = s.parity }
+returned_right e Interrupt r = λ high low. let s = sfr_right sp ((latch e.cpu sp + 254) % 256) e r in
+    record { len = s.len; parity = s.parity }
+returned_right e Subroutine r = λ high low. let s = sfr_right sp ((latch e.cpu sp + 254) % 256) e r in
+    record { len = s.len; parity = s.parity }
 
 abbrev Right : Bool → Effect → Type 0
 Right _ e = IsRight e.cpu
@@ -79,9 +85,11 @@ right_kept n = record {
   branch = λ b rel e j r. record { len = r.len; parity = r.parity };
 }
 
-pub plan_right : (image : List ℕ) (ext : Pins) (e : Effect) (action : Action) → IsRight e.cpu → AlwaysRight (plan image ext e action)
+pub plan_right : (image : List ℕ) (ext : Pins) (e : Effect) (action : Action) → IsRight e.cpu
+    → AlwaysRight (plan image ext e action)
 plan_right image ext e JumpIndirect r = record { len = r.len; parity = r.parity }
 plan_right image ext e (CallTo target) r = called_right e _ r
 plan_right image ext e (CallNear address) r = called_right e _ r
 plan_right image ext e (Return from) r = returned_right e from r
-plan_right image ext e action r = walk (λ _. false) Right Right e.cpu.pc (λ _. Unit {0}) (right_kept e.cpu.pc) image ext e action refl tt r
+plan_right image ext e action r = walk (λ _. false) Right Right e.cpu.pc (λ _. Unit {0}) (right_kept e.cpu.pc) image ext
+    e action refl tt r

@@ -1,5 +1,6 @@
 -- Registers that devices store to.
-use Rattle.std.proofs.Common.{◌≡◌, ◌≢◌, ℕ, ◌-◌, ◌≤◌, ◌<◌, true, false, cond, length, slice_set, slice_index, ap, ◌∙◌, arith, ⊎_elim, nat_eq}
+use Rattle.std.proofs.Common.{◌≡◌, ◌≢◌, ℕ, ◌-◌, ◌≤◌, ◌<◌, true, false, cond, length, slice_set, slice_index, ap, ◌∙◌}
+use Rattle.std.proofs.Common.{arith, ⊎_elim, nat_eq}
 use Rattle.std.proofs.lemmas.Bool.Decides.{eqb_tells}
 use Rattle.std.proofs.lemmas.List.{get_or-set_other, get_or-set_same}
 use Rattle.m51_flat.specs.declared.state.Cpu.{Cpu}
@@ -16,7 +17,8 @@ same : (cpu : Cpu) (a v : ℕ) → has_register a ≡ true → a - 128 < length 
     → latch (record cpu { regs = slice_set cpu.regs (a - 128) v }) a ≡ v
 unfolding latch
 same cpu a v h i =
-    ap (λ t. cond t (slice_index (slice_set cpu.regs (a - 128) v) (a - 128)) 0) h ∙ get_or-set_same cpu.regs (a - 128) v 0 i
+    ap (λ t. cond t (slice_index (slice_set cpu.regs (a - 128) v) (a - 128)) 0) h
+    ∙ get_or-set_same cpu.regs (a - 128) v 0 i
 
 pub other : (cpu : Cpu) (a b v : ℕ) → b - 128 ≢ a - 128
     → latch (record cpu { regs = slice_set cpu.regs (a - 128) v }) b ≡ latch cpu b

@@ -15,7 +15,7 @@ use Rattle.m51_flat.specs.declared.actions.BitSource.TheVariants.{One, Zero, Fro
 use Rattle.m51_flat.specs.declared.actions.Condition.TheVariants.{IfCarry, IfNoCarry, IfZero, IfNotZero}
 use Rattle.m51_flat.specs.declared.actions.BitTest.TheVariants.{IfSet, IfClear}
 use Rattle.m51_flat.specs.declared.actions.ReturnFrom.TheVariants.{Subroutine, Interrupt}
-use Rattle.m51_flat.specs.declared.actions.Place.TheVariants.{Accumulator, Direct, Indirect, Bank}
+use Rattle.m51_flat.specs.declared.actions.Addressing.TheVariants.{Accumulator, Direct, Indirect, Bank}
 use Rattle.m51_flat.specs.declared.actions.ByteOperand.TheVariants.{Immediate, At}
 use Rattle.m51_flat.specs.declared.actions.Action.{Action}
 use Rattle.m51_flat.specs.declared.actions.Action.TheVariants.{Skip, Assign, Accumulate, Combine, Change, Turn}

@@ -4,7 +4,7 @@ use Rattle.m51_alu.specs.declared.sum.Sum.{Sum}
 use Rattle.m51_alu.specs.Arithmetic.{bit_of, sum_of, difference_of, adjusted}
 use Rattle.m51_flat.specs.declared.state.Pins.{Pins}
 use Rattle.m51_flat.specs.declared.state.Effect.{Effect}
-use Rattle.m51_flat.specs.declared.actions.Place.{Place}
+use Rattle.m51_flat.specs.declared.actions.Addressing.{Addressing}
 use Rattle.m51_flat.specs.declared.actions.ByteOperand.{ByteOperand}
 use Rattle.m51_flat.specs.declared.actions.Addition.{Addition}
 use Rattle.m51_flat.specs.declared.actions.Addition.TheVariants.{Add, AddCarry, Subtract}
@@ -21,7 +21,7 @@ use Rattle.m51_flat.specs.Operands.{location_of, latch_at, found_at, operand_val
 use Rattle.m51_flat.specs.Parts.{auxiliary_carry, carry, with_carry, with_sum}
 
 -- a value is read and written
-unfoldable pub assigned : Pins → Effect → Place → ByteOperand → Reads Effect
+unfoldable pub assigned : Pins → Effect → Addressing → ByteOperand → Reads Effect
 assigned ext e place from =
     then_read (location_of e.cpu place) (λ at.
     then_read (operand_value e.cpu ext from) (λ v. Ends (with_location at v e)))
@@ -44,7 +44,7 @@ logic_of And v w = bit_and v w
 logic_of Xor v w = bit_xor v w
 
 -- an operand, of a port its latch, is combined with another
-unfoldable pub combined : Pins → Effect → Logic → Place → ByteOperand → Reads Effect
+unfoldable pub combined : Pins → Effect → Logic → Addressing → ByteOperand → Reads Effect
 combined ext e op place from =
     then_read (location_of e.cpu place) (λ at.
     then_read (latch_at e.cpu at) (λ v.
@@ -56,7 +56,7 @@ stepped Increment v = (v + 1) % 256
 stepped Decrement v = (v + 255) % 256
 
 -- an operand, of a port its latch, is counted up or down
-unfoldable pub changed : Effect → Count → Place → Reads Effect
+unfoldable pub changed : Effect → Count → Addressing → Reads Effect
 changed e count place =
     then_read (location_of e.cpu place) (λ at.
     then_read (latch_at e.cpu at) (λ v. Ends (with_location at (stepped count v) e)))
@@ -80,13 +80,13 @@ unfoldable pub with_turn : Turning → Effect → Effect
 with_turn by e = with_turned (turned by (latch e.cpu acc) (carry e.cpu) (auxiliary_carry e.cpu)) e
 
 -- A is exchanged with an operand
-unfoldable pub exchanged : Pins → Effect → Place → Reads Effect
+unfoldable pub exchanged : Pins → Effect → Addressing → Reads Effect
 exchanged ext e place =
     then_read (location_of e.cpu place) (λ at.
     then_read (found_at e.cpu ext at) (λ v. Ends (with_location at (latch e.cpu acc) (with_sfr acc v e))))
 
 -- the low digits of A and an operand are exchanged
-unfoldable pub digits_exchanged : Pins → Effect → Place → Reads Effect
+unfoldable pub digits_exchanged : Pins → Effect → Addressing → Reads Effect
 digits_exchanged ext e place =
     then_read (location_of e.cpu place) (λ at.
     then_read (found_at e.cpu ext at) (λ v.

@@ -4,7 +4,7 @@ use Rattle.m51_flat.specs.declared.state.Cpu.{Cpu}
 use Rattle.m51_flat.specs.declared.state.Pins.{Pins}
 use Rattle.m51_flat.specs.declared.state.Put.TheVariants.{Xbyte}
 use Rattle.m51_flat.specs.declared.state.Effect.{Effect}
-use Rattle.m51_flat.specs.declared.actions.Place.{Place}
+use Rattle.m51_flat.specs.declared.actions.Addressing.{Addressing}
 use Rattle.m51_flat.specs.declared.actions.ByteOperand.TheVariants.{At}
 use Rattle.m51_flat.specs.declared.actions.Location.TheVariants.{Ram}
 use Rattle.m51_flat.specs.declared.actions.ExternalAt.{ExternalAt}
@@ -41,14 +41,14 @@ code_loaded image e base =
     with_sfr acc (slice_index image ((code_base e.cpu base + latch e.cpu acc) % 65536)) e
 
 -- SP is raised before the operand is read
-unfoldable pub pushed : Pins → Effect → Place → Reads Effect
+unfoldable pub pushed : Pins → Effect → Addressing → Reads Effect
 pushed ext e place =
     let top = (latch e.cpu sp + 1) % 256 in
     let raised = with_sfr sp top e in
     then_read (operand_value raised.cpu ext (At place)) (λ v. Ends (with_location (Ram top) v raised))
 
 -- SP is lowered before the operand is written
-unfoldable pub popped : Effect → Place → Reads Effect
+unfoldable pub popped : Effect → Addressing → Reads Effect
 popped e place =
     let top = latch e.cpu sp in
     then_read (location_of e.cpu place) (λ at.

@@ -5,8 +5,8 @@ use Rattle.m51_flat.specs.declared.state.Cpu.{Cpu}
 use Rattle.m51_flat.specs.declared.state.Pins.{Pins}
 use Rattle.m51_flat.specs.declared.state.Put.TheVariants.{Byte, Bit}
 use Rattle.m51_flat.specs.declared.state.Effect.{Effect}
-use Rattle.m51_flat.specs.declared.actions.Place.{Place}
-use Rattle.m51_flat.specs.declared.actions.Place.TheVariants.{Accumulator, Direct, Indirect, Bank}
+use Rattle.m51_flat.specs.declared.actions.Addressing.{Addressing}
+use Rattle.m51_flat.specs.declared.actions.Addressing.TheVariants.{Accumulator, Direct, Indirect, Bank}
 use Rattle.m51_flat.specs.declared.actions.ByteOperand.{ByteOperand}
 use Rattle.m51_flat.specs.declared.actions.ByteOperand.TheVariants.{Immediate, At}
 use Rattle.m51_flat.specs.declared.actions.Location.{Location}
@@ -19,7 +19,7 @@ unfoldable pub bank : Cpu → ℕ
 bank cpu = 8 * (latch cpu psw / 8 % 4)
 
 -- where a place is: for an indirect one its register is read
-unfoldable pub location_of : Cpu → Place → Reads Location
+unfoldable pub location_of : Cpu → Addressing → Reads Location
 location_of cpu Accumulator = Ends (Sfr acc)
 location_of cpu (Direct a) = Ends (if nat_lt a 0x80 then Ram a else Sfr a)
 location_of cpu (Indirect i) = Read (ByteAt (bank cpu + i)) (λ p. Ends (Ram p))

@@ -5,7 +5,7 @@ use Rattle.m51_flat.specs.declared.state.Pins.{Pins}
 use Rattle.m51_flat.specs.declared.state.Put.TheVariants.{Byte}
 use Rattle.m51_flat.specs.declared.state.Transfer.TheVariants.{Call, Ret, Reti}
 use Rattle.m51_flat.specs.declared.state.Effect.{Effect}
-use Rattle.m51_flat.specs.declared.actions.Place.{Place}
+use Rattle.m51_flat.specs.declared.actions.Addressing.{Addressing}
 use Rattle.m51_flat.specs.declared.actions.ByteOperand.{ByteOperand}
 use Rattle.m51_flat.specs.declared.actions.Condition.{Condition}
 use Rattle.m51_flat.specs.declared.actions.Condition.TheVariants.{IfCarry, IfNoCarry, IfZero, IfNotZero}
@@ -31,7 +31,7 @@ compared ext e first second rel =
     Ends (branched (not (a == b)) rel (with_carry (nat_lt a b) e))))
 
 -- an operand, of a port its latch, is counted down, and the branch is taken where it is not 0
-unfoldable pub counted_down : Effect → Place → ℕ → Reads Effect
+unfoldable pub counted_down : Effect → Addressing → ℕ → Reads Effect
 counted_down e place rel =
     then_read (location_of e.cpu place) (λ at.
     then_read (latch_at e.cpu at) (λ v.

@@ -1,9 +1,9 @@
 //! What instructions do, by the classes of their operands.
 use m51_isa::{Address11, Pointer, Register};
 
-/// A place that an operand names.
+/// The addressing mode of an operand that names a byte.
 #[derive(Clone, Copy)]
-pub(crate) enum Place {
+pub(crate) enum Addressing {
     /// The accumulator.
     Accumulator,
     /// A direct address: internal RAM below 80H, else a special function register.
@@ -20,7 +20,7 @@ pub(crate) enum ByteOperand {
     /// The instruction itself.
     Immediate(u8),
     /// A place.
-    At(Place),
+    At(Addressing),
 }
 
 /// A place, once the register that it goes by is read.
@@ -174,13 +174,13 @@ pub(crate) enum Action {
     /// NOP.
     Skip,
     /// MOV of a byte.
-    Assign(Place, ByteOperand),
+    Assign(Addressing, ByteOperand),
     /// ADD, ADDC and SUBB to A.
     Accumulate(Addition, ByteOperand),
     /// ANL, ORL and XRL of two bytes.
-    Combine(Logic, Place, ByteOperand),
+    Combine(Logic, Addressing, ByteOperand),
     /// INC and DEC of a byte.
-    Change(Count, Place),
+    Change(Count, Addressing),
     /// RR, RRC, RL, RLC, SWAP, CPL and DA of A.
     Turn(Turning),
     /// MUL AB.
@@ -188,9 +188,9 @@ pub(crate) enum Action {
     /// DIV AB.
     Divide,
     /// XCH.
-    Exchange(Place),
+    Exchange(Addressing),
     /// XCHD.
-    ExchangeDigit(Place),
+    ExchangeDigit(Addressing),
     /// MOV DPTR,#data16.
     LoadDptr(u16),
     /// INC DPTR.
@@ -202,9 +202,9 @@ pub(crate) enum Action {
     /// MOVC.
     LoadCode(CodeBase),
     /// PUSH.
-    Push(Place),
+    Push(Addressing),
     /// POP.
-    Pop(Place),
+    Pop(Addressing),
     /// CLR, SETB and CPL of C.
     ChangeCarry(CarryChange),
     /// MOV, ANL and ORL to C from a bit address.
@@ -230,7 +230,7 @@ pub(crate) enum Action {
     /// CJNE.
     Compare(ByteOperand, ByteOperand, u8),
     /// DJNZ.
-    CountDown(Place, u8),
+    CountDown(Addressing, u8),
     /// LCALL.
     CallTo(u16),
     /// ACALL.

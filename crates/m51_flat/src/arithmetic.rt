@@ -5,7 +5,7 @@ ghost use Rattle.m51_flat.specs.Arithmetic.{assigned, summed, combined, changed,
 ghost use Rattle.m51_flat.specs.Arithmetic.{digits_exchanged, sum_by, logic_of, stepped, turned};
 ghost use Rattle.m51_flat.specs.Reads.{answer, with_effect};
 
-use crate::actions::{Addition, ByteOperand, Count, Logic, Place, Turning};
+use crate::actions::{Addition, Addressing, ByteOperand, Count, Logic, Turning};
 use crate::operands::{find_at, locate, read_latch_at, read_operand, write_location};
 use crate::sfr::write_sfr;
 use crate::state::{Effect, Missing, Pins};
@@ -69,7 +69,7 @@ pub(crate) fn assign<M: CellStore>(
     store: &M,
     ext: &Pins,
     effect: &mut Effect,
-    place: Place,
+    place: Addressing,
     from: ByteOperand,
 ) -> Result<(), Missing>
     ensures value { with_effect result effect.new ≡ answer (M.cells store.now)
@@ -109,7 +109,7 @@ pub(crate) fn combine<M: CellStore>(
     ext: &Pins,
     effect: &mut Effect,
     op: Logic,
-    place: Place,
+    place: Addressing,
     from: ByteOperand,
 ) -> Result<(), Missing>
     ensures value { with_effect result effect.new ≡ answer (M.cells store.now)
@@ -130,7 +130,7 @@ pub(crate) fn change<M: CellStore>(
     store: &M,
     effect: &mut Effect,
     count: Count,
-    place: Place,
+    place: Addressing,
 ) -> Result<(), Missing>
     ensures value { with_effect result effect.new ≡ answer (M.cells store.now) (changed effect.old count place) }
     ensures missing { IfErr result (IsMissing (M.cells store.now)) }
@@ -162,7 +162,7 @@ pub(crate) fn exchange<M: CellStore>(
     store: &M,
     ext: &Pins,
     effect: &mut Effect,
-    place: Place,
+    place: Addressing,
 ) -> Result<(), Missing>
     ensures value { with_effect result effect.new ≡ answer (M.cells store.now) (exchanged ext.now effect.old place) }
     ensures missing { IfErr result (IsMissing (M.cells store.now)) }
@@ -188,7 +188,7 @@ pub(crate) fn exchange_digit<M: CellStore>(
     store: &M,
     ext: &Pins,
     effect: &mut Effect,
-    place: Place,
+    place: Addressing,
 ) -> Result<(), Missing>
     ensures value { with_effect result effect.new ≡ answer (M.cells store.now)
         (digits_exchanged ext.now effect.old place) }

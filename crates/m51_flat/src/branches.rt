@@ -4,7 +4,7 @@ ghost use Rattle.m51_flat.specs.Causes.{IsMissing};
 ghost use Rattle.m51_flat.specs.Reads.{answer, with_effect};
 ghost use Rattle.m51_flat.specs.Transfers.{compared, counted_down, is_met};
 
-use crate::actions::{ByteOperand, Condition, Place};
+use crate::actions::{Addressing, ByteOperand, Condition};
 use crate::operands::{locate, read_latch_at, read_operand, write_location};
 use crate::state::{Cpu, Effect, Missing, Pins};
 use crate::store::CellStore;
@@ -52,7 +52,7 @@ pub(crate) fn compare<M: CellStore>(
 pub(crate) fn count_down<M: CellStore>(
     store: &M,
     effect: &mut Effect,
-    place: Place,
+    place: Addressing,
     rel: u8,
 ) -> Result<(), Missing>
     ensures value { with_effect result effect.new ≡ answer (M.cells store.now) (counted_down effect.old place rel) }

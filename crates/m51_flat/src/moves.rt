@@ -5,7 +5,7 @@ ghost use Rattle.m51_flat.specs.Moves.{external_address, code_base, external_loa
 ghost use Rattle.m51_flat.specs.Moves.{pushed, popped};
 ghost use Rattle.m51_flat.specs.Reads.{answer, with_effect};
 
-use crate::actions::{ByteOperand, CodeBase, ExternalAt, Location, Place};
+use crate::actions::{Addressing, ByteOperand, CodeBase, ExternalAt, Location};
 use crate::operands::{bank_base, locate, read_byte, read_operand, read_xbyte, write_location};
 use crate::sfr::write_sfr;
 use crate::state::{Cpu, Effect, Missing, Pins, Put};
@@ -86,7 +86,7 @@ pub(crate) fn push<M: CellStore>(
     store: &M,
     ext: &Pins,
     effect: &mut Effect,
-    place: Place,
+    place: Addressing,
 ) -> Result<(), Missing>
     ensures value { with_effect result effect.new ≡ answer (M.cells store.now) (pushed ext.now effect.old place) }
     ensures missing { IfErr result (IsMissing (M.cells store.now)) }
@@ -100,7 +100,11 @@ pub(crate) fn push<M: CellStore>(
 
 /// POP: the stack is read and SP lowered, then the operand is written.
 #[tactic(auto, using(crate::proofs::Readings::answer_then), unfolding(crate::specs::Moves::popped))]
-pub(crate) fn pop<M: CellStore>(store: &M, effect: &mut Effect, place: Place) -> Result<(), Missing>
+pub(crate) fn pop<M: CellStore>(
+    store: &M,
+    effect: &mut Effect,
+    place: Addressing,
+) -> Result<(), Missing>
     ensures value { with_effect result effect.new ≡ answer (M.cells store.now) (popped effect.old place) }
     ensures missing { IfErr result (IsMissing (M.cells store.now)) }
 {

@@ -5,7 +5,7 @@ ghost use Rattle.m51_flat.specs.Operands.{bank, location_of, latch_at, found_at,
 ghost use Rattle.m51_flat.specs.Reads.{answer, value_or_missing};
 ghost use Rattle.m51_flat.specs.States.{byte_seen, bit_seen, xbyte_seen};
 
-use crate::actions::{ByteOperand, Location, Place};
+use crate::actions::{Addressing, ByteOperand, Location};
 use crate::sfr::write_sfr;
 use crate::state::{Cpu, Effect, Missing, Pins, Put, Seen};
 use crate::store::CellStore;
@@ -53,24 +53,28 @@ pub(crate) fn bank_base(cpu: &Cpu) -> u8
 /// Where a place is: for an indirect one its register is read.
 #[tactic(auto, unfolding(crate::specs::Operands::location_of))]
 #[inline(always)]
-pub(crate) fn locate<M: CellStore>(store: &M, cpu: &Cpu, place: Place) -> Result<Location, Missing>
+pub(crate) fn locate<M: CellStore>(
+    store: &M,
+    cpu: &Cpu,
+    place: Addressing,
+) -> Result<Location, Missing>
     ensures value { result ≡ answer (M.cells store.now) (location_of cpu.now place) }
     ensures missing { IfErr result (IsMissing (M.cells store.now)) }
 {
     match place {
-        Place::Accumulator => Ok(Location::Sfr(ACC)),
-        Place::Direct(address) => {
+        Addressing::Accumulator => Ok(Location::Sfr(ACC)),
+        Addressing::Direct(address) => {
             if address < 128 {
                 Ok(Location::Ram(address))
             } else {
                 Ok(Location::Sfr(address))
             }
         }
-        Place::Indirect(pointer) => {
+        Addressing::Indirect(pointer) => {
             let address = read_byte(store, bank_base(cpu) + pointer.number())?;
             Ok(Location::Ram(address))
         }
-        Place::Bank(register) => Ok(Location::Ram(bank_base(cpu) + register.number())),
+        Addressing::Bank(register) => Ok(Location::Ram(bank_base(cpu) + register.number())),
     }
 }
 

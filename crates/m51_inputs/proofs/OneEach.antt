@@ -12,19 +12,24 @@ use Rattle.m51_inputs.specs.Laws.{OneAnswer}
 -- the answers of sources
 answers_of : OneForText → List SourceFile → List SourceFile → List AnswerTree
 answers_of one includes [] = []
-answers_of one includes (source ∷ sources) = (one source.name (text_of source includes)).answer ∷ answers_of one includes sources
+answers_of one includes (source ∷ sources) = (one source.name (text_of source includes)).answer
+    ∷ answers_of one includes sources
 
-are_answers : (one : OneForText) (includes sources : List SourceFile) → AreAnswers includes sources (answers_of one includes sources)
+are_answers : (one : OneForText) (includes sources : List SourceFile)
+    → AreAnswers includes sources (answers_of one includes sources)
 unfolding answers_of
 are_answers one includes [] = tt
-are_answers one includes (source ∷ sources) = ((one source.name (text_of source includes)).is, are_answers one includes sources)
+are_answers one includes (source ∷ sources) =
+    ((one source.name (text_of source includes)).is, are_answers one includes sources)
 
-only_answers : (one : OneForText) (includes sources : List SourceFile) (others : List AnswerTree) → AreAnswers includes sources others → others ≡ answers_of one includes sources
+only_answers : (one : OneForText) (includes sources : List SourceFile) (others : List AnswerTree)
+    → AreAnswers includes sources others → others ≡ answers_of one includes sources
 unfolding answers_of
 only_answers one includes [] [] are = refl
 only_answers one includes (source ∷ sources) (other ∷ others) are =
     ap (λ (x : AnswerTree). x ∷ others) ((one source.name (text_of source includes)).only other (are.0))
-    ∙ ap (λ (xs : List AnswerTree). (one source.name (text_of source includes)).answer ∷ xs) (only_answers one includes sources others (are.1))
+    ∙ ap (λ (xs : List AnswerTree). (one source.name (text_of source includes)).answer ∷ xs)
+    (only_answers one includes sources others (are.1))
 only_answers one includes [] (other ∷ others) are = absurd are
 only_answers one includes (source ∷ sources) [] are = absurd are
 
@@ -36,5 +41,6 @@ one_answer one files contents control script =
     record {
       answer = inputs_of files contents control script (answers_of one includes sources);
       is = record { answers = answers_of one includes sources; are = are_answers one includes sources; is = refl };
-      only = λ other given. given.is ∙ ap (inputs_of files contents control script) (only_answers one includes sources given.answers given.are);
+      only = λ other given. given.is
+          ∙ ap (inputs_of files contents control script) (only_answers one includes sources given.answers given.are);
     }

@@ -14,14 +14,16 @@ use Rattle.m51_inputs.specs.declared.sorting.Sorted.{Sorted}
 use Rattle.m51_inputs.specs.declared.sources.Answered.{Answered}
 use Rattle.m51_inputs.specs.Answered.{answers_of, words_of}
 use Rattle.m51_inputs.specs.Files.{source_words, sources_of}
-use Rattle.m51_inputs.specs.Inputs.{Answers, InputsTree, IsTold, controls_in, inputs_of, inputs_tree, refusal_of, script_in}
+use Rattle.m51_inputs.specs.Inputs.{Answers, InputsTree, IsTold, controls_in, inputs_of, inputs_tree, refusal_of}
+use Rattle.m51_inputs.specs.Inputs.{script_in}
 use Rattle.m51_inputs.specs.Objects.{Linked, linked_from}
 use Rattle.m51_inputs.specs.Sorting.{IsSorted, files_in, words_in}
 use Rattle.m51_inputs.specs.Sources.{AreAnswers, faults_in, modules_in, unless_faults}
 use Rattle.m51_inputs.specs.Steps.{inputs_by, linked_kinds}
 use Rattle.m51_inputs.proofs.LinkedLists.{kinds_linked}
 
-same_then : {A B E : Type 0} (found : Result A E) (one two : A → Result B E) → ((a : A) → one a ≡ two a) → and_then found one ≡ and_then found two
+same_then : {A B E : Type 0} (found : Result A E) (one two : A → Result B E) → ((a : A) → one a ≡ two a)
+    → and_then found one ≡ and_then found two
 same_then (Ok value) one two h = h value
 same_then (Err error) one two h = refl
 
@@ -33,7 +35,8 @@ rest_of control script linked = do
   Ok (record { modules = linked.modules; libraries = linked.libraries; controls = controls; script = script })
 
 by_names : (files contents : List (List ℕ)) (control script : Option (List ℕ)) (answers : List AnswerTree)
-    → inputs_by (map ending_of files) contents control script (source_words 0 files) answers ≡ inputs_of files contents control script answers
+    → inputs_by (map ending_of files) contents control script (source_words 0 files) answers
+    ≡ inputs_of files contents control script answers
 unfolding inputs_by inputs_of rest_of
 by_names files contents control script answers =
     same_then (unless_faults (faults_in (source_words 0 files) answers) (modules_in answers))
@@ -42,27 +45,42 @@ by_names files contents control script answers =
     (λ sources. ap (λ linked. and_then linked (rest_of control script)) (kinds_linked files contents 0 sources))
 
 -- the answer, from that of each source
-answered : (files contents : List (List ℕ)) (control script : Option (List ℕ)) (sorted : Sorted) (all : List Answered) (answer : Result InputsTree InputError)
-    → IsSorted files contents sorted → AreAnswers sorted.includes (files_in sorted.sources) (answers_of all) → words_of all ≡ words_in sorted.sources
-    → inputs_by sorted.endings contents control script (words_of all) (answers_of all) ≡ answer → Answers files contents control script answer
+answered : (files contents : List (List ℕ)) (control script : Option (List ℕ)) (sorted : Sorted) (all : List Answered)
+    (answer : Result InputsTree InputError)
+    → IsSorted files contents sorted → AreAnswers sorted.includes (files_in sorted.sources) (answers_of all)
+    → words_of all ≡ words_in sorted.sources
+    → inputs_by sorted.endings contents control script (words_of all) (answers_of all) ≡ answer
+    → Answers files contents control script answer
 answered files contents control script sorted all answer is are words given = record {
   answers = answers_of all;
-  are = subst (λ (includes : List SourceFile). AreAnswers includes (sources_of files contents) (answers_of all)) is.includes
+  are = subst (λ (includes : List SourceFile). AreAnswers includes (sources_of files contents) (answers_of all))
+      is.includes
       (subst (λ (sources : List SourceFile). AreAnswers sorted.includes sources (answers_of all)) is.sources are);
   is = sym given
-      ∙ ap (λ (kinds : List (Option Ending)). inputs_by kinds contents control script (words_of all) (answers_of all)) is.endings
-      ∙ ap (λ (at : List ℕ). inputs_by (map ending_of files) contents control script at (answers_of all)) (words ∙ is.words)
+      ∙ ap (λ (kinds : List (Option Ending)). inputs_by kinds contents control script (words_of all) (answers_of all))
+      is.endings
+      ∙ ap (λ (at : List ℕ). inputs_by (map ending_of files) contents control script at (answers_of all))
+      (words ∙ is.words)
       ∙ by_names files contents control script (answers_of all);
 }
 
-pub told_inputs : (files contents : List (List ℕ)) (control script : Option (List ℕ)) (sorted : Sorted) (all : List Answered) (result : Result Inputs InputError)
-    → IsSorted files contents sorted → AreAnswers sorted.includes (files_in sorted.sources) (answers_of all) → words_of all ≡ words_in sorted.sources
-    → Gives inputs_tree refusal_of result (inputs_by sorted.endings contents control script (words_of all) (answers_of all))
+pub told_inputs : (files contents : List (List ℕ)) (control script : Option (List ℕ)) (sorted : Sorted)
+    (all : List Answered) (result : Result Inputs InputError)
+    → IsSorted files contents sorted → AreAnswers sorted.includes (files_in sorted.sources) (answers_of all)
+    → words_of all ≡ words_in sorted.sources
+    → Gives inputs_tree refusal_of result
+    (inputs_by sorted.endings contents control script (words_of all) (answers_of all))
     → IsTold files contents control script result
-told_inputs files contents control script sorted all (Ok inputs) is are words given = answered files contents control script sorted all _ is are words given
-told_inputs files contents control script sorted all (Err (error.Sources faults)) is are words given = answered files contents control script sorted all _ is are words given
-told_inputs files contents control script sorted all (Err (error.Object file why)) is are words given = answered files contents control script sorted all _ is are words given
-told_inputs files contents control script sorted all (Err (error.Library file why)) is are words given = answered files contents control script sorted all _ is are words given
-told_inputs files contents control script sorted all (Err (error.Control why)) is are words given = answered files contents control script sorted all _ is are words given
-told_inputs files contents control script sorted all (Err (error.Script why)) is are words given = answered files contents control script sorted all _ is are words given
+told_inputs files contents control script sorted all (Ok inputs) is are words given =
+    answered files contents control script sorted all _ is are words given
+told_inputs files contents control script sorted all (Err (error.Sources faults)) is are words given =
+    answered files contents control script sorted all _ is are words given
+told_inputs files contents control script sorted all (Err (error.Object file why)) is are words given =
+    answered files contents control script sorted all _ is are words given
+told_inputs files contents control script sorted all (Err (error.Library file why)) is are words given =
+    answered files contents control script sorted all _ is are words given
+told_inputs files contents control script sorted all (Err (error.Control why)) is are words given =
+    answered files contents control script sorted all _ is are words given
+told_inputs files contents control script sorted all (Err (error.Script why)) is are words given =
+    answered files contents control script sorted all _ is are words given
 told_inputs files contents control script sorted all (Err error.Memory) is are words given = tt

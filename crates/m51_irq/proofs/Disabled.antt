@@ -1,5 +1,6 @@
 -- Where EA is 0 no source asks, so none is chosen.
-use Rattle.std.proofs.Common.{◌≡◌, Bool, true, false, ◌&&◌, cond, if◌then◌else◌, List, [], ◌∷◌, Option, Some, None, refl, ap, ◌∙◌}
+use Rattle.std.proofs.Common.{◌≡◌, Bool, true, false, ◌&&◌, cond, if◌then◌else◌, List, [], ◌∷◌, Option, Some, None}
+use Rattle.std.proofs.Common.{refl, ap, ◌∙◌}
 use Rattle.std.specs.List.{find}
 use Rattle.m51_flat.specs.declared.state.Cpu.{Cpu}
 use Rattle.m51_flat.specs.declared.state.Source.{Source}
@@ -23,7 +24,8 @@ none_found : (p : Source → Bool) → ((s : Source) → p s ≡ false) → (xs 
 none_found p h [] = refl
 none_found p h (x ∷ xs) = ap (λ b. if b then Some x else find p xs) (h x) ∙ none_found p h xs
 
-none_left : (held high low : Bool) (a b : Option Source) → a ≡ None → b ≡ None → (if held then None else if high then None else or_else a (if low then None else b)) ≡ None
+none_left : (held high low : Bool) (a b : Option Source) → a ≡ None → b ≡ None
+    → (if held then None else if high then None else or_else a (if low then None else b)) ≡ None
 none_left true high low a b h k = refl
 none_left false true low a b h k = refl
 none_left false false true a b h k = ap (λ x. or_else x None) h

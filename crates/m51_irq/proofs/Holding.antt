@@ -29,23 +29,29 @@ always_so : (P Q : Effect → Type 0) (r : Reads Effect) → ((e : Effect) → P
 always_so P Q (Ends e) so h = so e h
 always_so P Q (Read x more) so h = λ v. always_so P Q (more v) so (h v)
 
-after_reti : (flow : Flow) (writes : Bool) (cpu : Cpu) (e : Effect) → flow ≡ FlowReti → LevelsFollow flow writes cpu e → TakesNone e
+after_reti : (flow : Flow) (writes : Bool) (cpu : Cpu) (e : Effect) → flow ≡ FlowReti → LevelsFollow flow writes cpu e
+    → TakesNone e
 after_reti flow writes cpu e is h =
     let ends : LevelsFollow FlowReti writes cpu e = subst (λ f. LevelsFollow f writes cpu e) is h in
     held_none e.cpu ends.held
 
-reti_none : (cpu : Cpu) (instr : Instr) (image : List ℕ) (ext : Pins) → flow_of instr ≡ FlowReti → Always TakesNone (plan_of cpu instr image ext)
+reti_none : (cpu : Cpu) (instr : Instr) (image : List ℕ) (ext : Pins) → flow_of instr ≡ FlowReti
+    → Always TakesNone (plan_of cpu instr image ext)
 reti_none cpu instr image ext is =
-    always_so (λ e. LevelsFollow (flow_of instr) (writes_ie_or_ip cpu instr) cpu e) TakesNone (plan_of cpu instr image ext)
+    always_so (λ e. LevelsFollow (flow_of instr) (writes_ie_or_ip cpu instr) cpu e) TakesNone
+    (plan_of cpu instr image ext)
     (λ e h. after_reti (flow_of instr) (writes_ie_or_ip cpu instr) cpu e is h) (levels_are_kept cpu instr image ext)
 
-after_write : (flow : Flow) (writes : Bool) (cpu : Cpu) (e : Effect) → writes ≡ true → LevelsFollow flow writes cpu e → TakesNone e
+after_write : (flow : Flow) (writes : Bool) (cpu : Cpu) (e : Effect) → writes ≡ true → LevelsFollow flow writes cpu e
+    → TakesNone e
 after_write FlowReti writes cpu e is h = held_none e.cpu h.held
 after_write other writes cpu e is h = held_none e.cpu (h.held ∙ is)
 
-written_none : (cpu : Cpu) (instr : Instr) (image : List ℕ) (ext : Pins) → writes_ie_or_ip cpu instr ≡ true → Always TakesNone (plan_of cpu instr image ext)
+written_none : (cpu : Cpu) (instr : Instr) (image : List ℕ) (ext : Pins) → writes_ie_or_ip cpu instr ≡ true
+    → Always TakesNone (plan_of cpu instr image ext)
 written_none cpu instr image ext is =
-    always_so (λ e. LevelsFollow (flow_of instr) (writes_ie_or_ip cpu instr) cpu e) TakesNone (plan_of cpu instr image ext)
+    always_so (λ e. LevelsFollow (flow_of instr) (writes_ie_or_ip cpu instr) cpu e) TakesNone
+    (plan_of cpu instr image ext)
     (λ e h. after_write (flow_of instr) (writes_ie_or_ip cpu instr) cpu e is h) (levels_are_kept cpu instr image ext)
 
 pub none_at_once : NoneIsTakenAtOnce

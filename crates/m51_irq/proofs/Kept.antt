@@ -31,7 +31,9 @@ shape_or false old x y h k = k
 
 flag_shape : (a k : ℕ) (b : Bool) (cpu : Cpu) → HasShape cpu (with_flag cpu a k b)
 unfolding with_flag with_latch
-flag_shape a k b cpu = shape_or (has_register a) cpu _ cpu (record { low = refl; high = refl; len = length-set cpu.regs _ _ }) (shape_itself cpu)
+flag_shape a k b cpu =
+    shape_or (has_register a) cpu _ cpu (record { low = refl; high = refl; len = length-set cpu.regs _ _ })
+    (shape_itself cpu)
 
 edge_shape : (k edge : ℕ) (cpu : Cpu) → HasShape cpu (edge_cleared k edge cpu)
 edge_shape k edge cpu = shape_or (flag cpu tcon edge) cpu _ cpu (flag_shape tcon k false cpu) (shape_itself cpu)
@@ -80,7 +82,8 @@ written_or_not true old x y h k = h
 written_or_not false old x y h k = k
 
 -- a register that is none of PSW, ACC and SP
-flag_kept : (a k : ℕ) (b : Bool) (cpu : Cpu) → length cpu.regs ≡ 128 → 128 ≤ a → a ≢ psw → a ≢ acc → sp ≢ a → IsKept cpu (with_flag cpu a k b)
+flag_kept : (a k : ℕ) (b : Bool) (cpu : Cpu) → length cpu.regs ≡ 128 → 128 ≤ a → a ≢ psw → a ≢ acc → sp ≢ a
+    → IsKept cpu (with_flag cpu a k b)
 flag_kept a k b cpu len low p q r =
     let rest : KeepsTheRest a cpu (with_flag cpu a k b) = flags_keep_the_rest cpu a k b len low in
     record {
@@ -91,13 +94,16 @@ flag_kept a k b cpu len low p q r =
     }
 
 tcon_kept : (k : ℕ) (b : Bool) (cpu : Cpu) → length cpu.regs ≡ 128 → IsKept cpu (with_flag cpu tcon k b)
-tcon_kept k b cpu len = flag_kept tcon k b cpu len (lit≤ tt) (λ e. omega (arith, e)) (λ e. omega (arith, e)) (λ e. omega (arith, e))
+tcon_kept k b cpu len = flag_kept tcon k b cpu len (lit≤ tt) (λ e. omega (arith, e)) (λ e. omega (arith, e))
+    (λ e. omega (arith, e))
 
 pcon_kept : (k : ℕ) (b : Bool) (cpu : Cpu) → length cpu.regs ≡ 128 → IsKept cpu (with_flag cpu pcon k b)
-pcon_kept k b cpu len = flag_kept pcon k b cpu len (lit≤ tt) (λ e. omega (arith, e)) (λ e. omega (arith, e)) (λ e. omega (arith, e))
+pcon_kept k b cpu len = flag_kept pcon k b cpu len (lit≤ tt) (λ e. omega (arith, e)) (λ e. omega (arith, e))
+    (λ e. omega (arith, e))
 
 edge_kept : (k edge : ℕ) (cpu : Cpu) → length cpu.regs ≡ 128 → IsKept cpu (edge_cleared k edge cpu)
-edge_kept k edge cpu len = written_or_not (flag cpu tcon edge) cpu _ cpu (tcon_kept k false cpu len) (kept_itself cpu len)
+edge_kept k edge cpu len =
+    written_or_not (flag cpu tcon edge) cpu _ cpu (tcon_kept k false cpu len) (kept_itself cpu len)
 
 cleared_kept : (s : Source) (cpu : Cpu) → length cpu.regs ≡ 128 → IsKept cpu (cleared s cpu)
 unfolding cleared
@@ -114,11 +120,13 @@ before_entry s cpu len =
     let one = cleared_kept s cpu len in
     kept_twice cpu (cleared s cpu) _ one (pcon_kept idl false (cleared s cpu) one.len)
 
-entered_kept : (l : Level) (old cpu : Cpu) (held : Bool) → IsKept old cpu → IsKept old (record (entered l cpu) { held = held })
+entered_kept : (l : Level) (old cpu : Cpu) (held : Bool) → IsKept old cpu
+    → IsKept old (record (entered l cpu) { held = held })
 unfolding latch
 entered_kept Low old cpu held k = record { pc = k.pc; stack = k.stack; len = k.len; parity = k.parity }
 entered_kept High old cpu held k = record { pc = k.pc; stack = k.stack; len = k.len; parity = k.parity }
 
 -- so does the whole of it
-pub acknowledged_kept : (s : Source) (cpu : Cpu) → length cpu.regs ≡ 128 → IsKept cpu (record (acknowledged s cpu) { held = false })
+pub acknowledged_kept : (s : Source) (cpu : Cpu) → length cpu.regs ≡ 128
+    → IsKept cpu (record (acknowledged s cpu) { held = false })
 acknowledged_kept s cpu len = entered_kept (level_of cpu s) cpu _ false (before_entry s cpu len)

@@ -21,7 +21,8 @@ pub same_allowed : (cpu : Cpu) (l : Level) → is_allowed cpu l ≡ allowed_over
 same_allowed cpu Low = refl
 same_allowed cpu High = refl
 
-one_more : (l : Level) (low high : Bool) (cpu : Cpu) → cpu.low ≡ low → cpu.high ≡ high → allowed_over low high l ≡ true → levels_of (entered l cpu) ≡ levels low high ++ l ∷ []
+one_more : (l : Level) (low high : Bool) (cpu : Cpu) → cpu.low ≡ low → cpu.high ≡ high → allowed_over low high l ≡ true
+    → levels_of (entered l cpu) ≡ levels low high ++ l ∷ []
 one_more Low false false cpu p q h = ap (levels true) q
 one_more Low false true cpu p q h = absurd (cc)
 one_more Low true high cpu p q h = absurd (cc)
@@ -33,7 +34,8 @@ pub levels_nested : LevelsAreNested
 levels_nested = λ cpu s h.
     let w = is_taken cpu s h in
     let k = shape_before s cpu in
-    one_more (level_of cpu s) cpu.low cpu.high (with_flag (cleared s cpu) pcon idl false) k.low k.high (sym (same_allowed cpu (level_of cpu s)) ∙ w.ready.allowed)
+    one_more (level_of cpu s) cpu.low cpu.high (with_flag (cleared s cpu) pcon idl false) k.low k.high
+    (sym (same_allowed cpu (level_of cpu s)) ∙ w.ready.allowed)
 
 top_ends : (low high : Bool) → levels (high && low) false ≡ take (length (levels low high) - 1) (levels low high)
 top_ends true true = refl

@@ -54,9 +54,12 @@ reserved_is_none : (first second third : ℕ) → first ≡ 0xA5 → None ≡ de
 reserved_is_none first second third e = subst (λ first. None ≡ decoded_at first second third) (sym e) refl
 
 -- an answer that is the row if one exists, and none only at the reserved opcode, is what is decoded
-pub decoded_is : (bytes : List ℕ) (answer : Option Instr) → length bytes ≡ 3 → IfSome answer (IsRowAt bytes) → (IsNone answer → slice_index bytes 0 ≡ 0xA5) → answer ≡ decoded bytes
+pub decoded_is : (bytes : List ℕ) (answer : Option Instr) → length bytes ≡ 3 → IfSome answer (IsRowAt bytes)
+    → (IsNone answer → slice_index bytes 0 ≡ 0xA5) → answer ≡ decoded bytes
 decoded_is bytes (Some i) n h none = sym (decoded_row bytes i n h)
-decoded_is bytes None n h none = reserved_is_none (slice_index bytes 0) (slice_index bytes 1) (slice_index bytes 2) (none refl)
+decoded_is bytes None n h none =
+    reserved_is_none (slice_index bytes 0) (slice_index bytes 1) (slice_index bytes 2) (none refl)
 
-pub only_row : (bytes : List ℕ) (answer : Option Instr) → length bytes ≡ 3 → answer ≡ decoded bytes → (i : Instr) → IsRowAt bytes i → answer ≡ Some i
+pub only_row : (bytes : List ℕ) (answer : Option Instr) → length bytes ≡ 3 → answer ≡ decoded bytes → (i : Instr)
+    → IsRowAt bytes i → answer ≡ Some i
 only_row bytes answer n e i h = e ∙ decoded_row bytes i n h

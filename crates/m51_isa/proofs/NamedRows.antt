@@ -102,7 +102,20 @@ all_named = (
                                                                               by row.SetbC,
                                                                               (
                                                                                 by (row.SjmpRel 0),
-                                                                                (by (row.SubbAData 0), (by row.SwapA, (by (row.XchADirect 0), (by (row.XchdAAtRi 0), (by (row.XrlAData 0), tt))))),
+                                                                                (
+                                                                                  by (row.SubbAData 0),
+                                                                                  (
+                                                                                    by row.SwapA,
+                                                                                    (
+                                                                                      by (row.XchADirect
+                                                                                          0),
+                                                                                      (
+                                                                                        by (row.XchdAAtRi 0),
+                                                                                        (by (row.XrlAData 0), tt),
+                                                                                      ),
+                                                                                    ),
+                                                                                  ),
+                                                                                ),
                                                                               ),
                                                                             ),
                                                                           ),
@@ -144,13 +157,16 @@ all_named = (
   ),
 )
 
-found : (w word : List ℕ) (b rest : Bool) → bytes_eq w word ≡ b → Named w → (rest ≡ true → Named word) → (b || rest) ≡ true → Named word
+found : (w word : List ℕ) (b rest : Bool) → bytes_eq w word ≡ b → Named w → (rest ≡ true → Named word)
+    → (b || rest) ≡ true → Named word
 found w word true rest e n go h = subst Named ((bytes_eq-Decides w word).0 e) n
 found w word false rest e n go h = go h
 
-among : (word : List ℕ) (words : List (List ℕ)) → AreNamed words → list_any (λ w. bytes_eq w word) words ≡ true → Named word
+among : (word : List ℕ) (words : List (List ℕ)) → AreNamed words → list_any (λ w. bytes_eq w word) words ≡ true
+    → Named word
 among word [] named h = absurd (cc h)
-among word (w ∷ words) named h = found w word (bytes_eq w word) (list_any (λ w. bytes_eq w word) words) refl named.0 (among word words named.1) h
+among word (w ∷ words) named h =
+    found w word (bytes_eq w word) (list_any (λ w. bytes_eq w word) words) refl named.0 (among word words named.1) h
 
 mnemonic_named : (word : List ℕ) → is_mnemonic word ≡ true → Named word
 unfolding is_mnemonic

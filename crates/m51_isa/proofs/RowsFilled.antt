@@ -22,11 +22,14 @@ rows_are_filled Nop a b c = record { same = refl; length = refl }
 rows_are_filled i a b c = record { same = refl; length = refl }
 
 -- no row is written as a generic jump
-pub rows_are_apart : (i : Instr) → generic (text_of i).mnemonic (look_of (text_of i).first) (look_of (text_of i).second) (look_of (text_of i).third) ≡ None
+pub rows_are_apart : (i : Instr)
+    → generic (text_of i).mnemonic (look_of (text_of i).first) (look_of (text_of i).second) (look_of (text_of i).third)
+    ≡ None
 rows_are_apart Nop = refl
 rows_are_apart i = refl
 
-jump_written : (verb : Verb) (form : Jump) → IsWritten (text_of (jump_row verb form)).mnemonic Plain Nothing Nothing (jump_row verb form)
+jump_written : (verb : Verb) (form : Jump)
+    → IsWritten (text_of (jump_row verb form)).mnemonic Plain Nothing Nothing (jump_row verb form)
 jump_written Jmp Short = as_is (jump_row Jmp Short)
 jump_written Jmp Block = as_is (jump_row Jmp Block)
 jump_written Jmp Long = as_is (jump_row Jmp Long)
@@ -34,16 +37,29 @@ jump_written Call Short = as_is (jump_row Call Short)
 jump_written Call Block = as_is (jump_row Call Block)
 jump_written Call Long = as_is (jump_row Call Long)
 
-by_verb : (word : List ℕ) (form : Jump) (a b c : Look) (v : Option Verb) (o : Option Instr) → IfSome o (IsWritten word a b c) → ((verb : Verb) → v ≡ Some verb → IsWritten (text_of (jump_row verb form)).mnemonic a b c (jump_row verb form)) → IfSome (row_or form v o) (IsWritten (meant_by word form v) a b c)
+by_verb : (word : List ℕ) (form : Jump) (a b c : Look) (v : Option Verb) (o : Option Instr)
+    → IfSome o (IsWritten word a b c)
+    → ((verb : Verb) → v ≡ Some verb → IsWritten (text_of (jump_row verb form)).mnemonic a b c (jump_row verb form))
+    → IfSome (row_or form v o) (IsWritten (meant_by word form v) a b c)
 by_verb word form a b c None o h go = h
 by_verb word form a b c (Some verb) o h go = go verb refl
 
-generic_written : (word : List ℕ) (form : Jump) (a b c : Look) (verb : Verb) → generic word a b c ≡ Some verb → IsWritten (text_of (jump_row verb form)).mnemonic a b c (jump_row verb form)
+generic_written : (word : List ℕ) (form : Jump) (a b c : Look) (verb : Verb) → generic word a b c ≡ Some verb
+    → IsWritten (text_of (jump_row verb form)).mnemonic a b c (jump_row verb form)
 generic_written word form Plain Nothing Nothing verb is = jump_written verb form
 generic_written word form a b c verb is = absurd (cc is)
 
-rows_are_meant : (word : List ℕ) (form : Jump) (a b c : Look) → IfSome (row_for word form a b c) (IsWritten (meant_by word form (generic word a b c)) a b c)
-rows_are_meant word form a b c = by_verb word form a b c (generic word a b c) (search word a b c) (found_rows_are_written word a b c) (generic_written word form a b c)
+rows_are_meant : (word : List ℕ) (form : Jump) (a b c : Look)
+    → IfSome (row_for word form a b c) (IsWritten (meant_by word form (generic word a b c)) a b c)
+rows_are_meant word form a b c =
+    by_verb word form a b c (generic word a b c) (search word a b c) (found_rows_are_written word a b c)
+    (generic_written word form a b c)
 
 pub texts_are_rows : TextsAreRows
-texts_are_rows = record { found = rows_are_found; written = found_rows_are_written; meant = rows_are_meant; apart = rows_are_apart; filled = rows_are_filled }
+texts_are_rows = record {
+  found = rows_are_found;
+  written = found_rows_are_written;
+  meant = rows_are_meant;
+  apart = rows_are_apart;
+  filled = rows_are_filled;
+}

@@ -15,8 +15,10 @@ use Rattle.m51_isa.specs.TextLaws.{number_in, HasNumbers, read_text}
 one : (f : ℕ → Instr) {s t : Slot} → s ≡ t → Some (f (number_in s)) ≡ Some (f (number_in t))
 one f e = ap (λ s. Some (f (number_in s))) e
 
-two : (f : ℕ → ℕ → Instr) {s t u v : Slot} → s ≡ t → u ≡ v → Some (f (number_in s) (number_in u)) ≡ Some (f (number_in t) (number_in v))
-two f {s} {t} {u} {v} e h = ap (λ n. Some (f (number_in n) (number_in u))) e ∙ ap (λ n. Some (f (number_in t) (number_in n))) h
+two : (f : ℕ → ℕ → Instr) {s t u v : Slot} → s ≡ t → u ≡ v
+    → Some (f (number_in s) (number_in u)) ≡ Some (f (number_in t) (number_in v))
+two f {s} {t} {u} {v} e h = ap (λ n. Some (f (number_in n) (number_in u))) e
+    ∙ ap (λ n. Some (f (number_in t) (number_in n))) h
 
 pub rows_are_found : (i : Instr) → HasNumbers (text_of i) → read_text (text_of i) ≡ Some i
 unfolding arithmetic logic moves branches jumps

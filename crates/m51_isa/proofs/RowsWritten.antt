@@ -7,7 +7,8 @@ use Rattle.std.proofs.lemmas.Slice.Eq.{bytes_eq-Decides}
 use Rattle.m51_isa.specs.declared.instr.Instr.{Instr}
 use Rattle.m51_isa.specs.declared.instr.Instr.TheVariants as row
 use Rattle.m51_isa.specs.declared.look.Look.{Look}
-use Rattle.m51_isa.specs.declared.look.Look.TheVariants.{Nothing, A, Ab, C, Dptr, APc, ADptr, AtDptr, R, AtR, Imm, Plain, NotBit}
+use Rattle.m51_isa.specs.declared.look.Look.TheVariants.{Nothing, A, Ab, C, Dptr, APc, ADptr, AtDptr, R, AtR, Imm}
+use Rattle.m51_isa.specs.declared.look.Look.TheVariants.{Plain, NotBit}
 use Rattle.m51_isa.specs.Looks.{alone, accumulator, both, address, bit_and_target}
 use Rattle.m51_isa.specs.Arithmetic.{add, addc, subb, inc, dec, arithmetic}
 use Rattle.m51_isa.specs.Logic.{anl, orl, xrl, clr, cpl, setb, logic}
@@ -23,7 +24,9 @@ abbrev Writes : List ℕ → (Look → Look → Look → Option Instr) → Type 
 Writes word row = (a b c : Look) → IfSome (row a b c) (IsWritten word a b c)
 
 -- a row is written as it is
-pub as_is : (i : Instr) → IsWritten (text_of i).mnemonic (look_of (text_of i).first) (look_of (text_of i).second) (look_of (text_of i).third) i
+pub as_is : (i : Instr)
+    → IsWritten (text_of i).mnemonic (look_of (text_of i).first) (look_of (text_of i).second)
+    (look_of (text_of i).third) i
 as_is i = record { mnemonic = refl; first = refl; second = refl; third = refl }
 
 alone_written : (word : List ℕ) (i : Instr) → IsWritten word Nothing Nothing Nothing i → Writes word (alone i)
@@ -42,7 +45,8 @@ address_written : (word : List ℕ) (i : Instr) → IsWritten word Plain Nothing
 address_written word i h Plain Nothing Nothing = h
 address_written word i h a b c = tt
 
-bit_and_target_written : (word : List ℕ) (i : Instr) → IsWritten word Plain Plain Nothing i → Writes word (bit_and_target i)
+bit_and_target_written : (word : List ℕ) (i : Instr) → IsWritten word Plain Plain Nothing i
+    → Writes word (bit_and_target i)
 bit_and_target_written word i h Plain Plain Nothing = h
 bit_and_target_written word i h a b c = tt
 
@@ -189,7 +193,8 @@ jmp_written : Writes (codes "JMP") jmp
 jmp_written ADptr Nothing Nothing = as_is row.JmpAtADptr
 jmp_written a b c = tt
 
-by_word : (w word : List ℕ) (P : List ℕ → Instr → Type 0) (x rest : Option Instr) (b : Bool) → bytes_eq word w ≡ b → IfSome x (P w) → IfSome rest (P word) → IfSome (cond b x rest) (P word)
+by_word : (w word : List ℕ) (P : List ℕ → Instr → Type 0) (x rest : Option Instr) (b : Bool) → bytes_eq word w ≡ b
+    → IfSome x (P w) → IfSome rest (P word) → IfSome (cond b x rest) (P word)
 by_word w word P x rest true is here more = subst (λ v. IfSome x (P v)) (sym ((bytes_eq-Decides word w).0 is)) here
 by_word w word P x rest false is here more = more
 
@@ -206,9 +211,12 @@ arithmetic_written word a b c =
     by_word (codes "SUBB") word P (subb a b c) _ (bytes_eq word (codes "SUBB")) refl (subb_written a b c) (
     by_word (codes "INC") word P (inc a b c) _ (bytes_eq word (codes "INC")) refl (inc_written a b c) (
     by_word (codes "DEC") word P (dec a b c) _ (bytes_eq word (codes "DEC")) refl (dec_written a b c) (
-    by_word (codes "MUL") word P (both row.MulAb a b c) _ (bytes_eq word (codes "MUL")) refl (both_written (codes "MUL") row.MulAb (as_is row.MulAb) a b c) (
-    by_word (codes "DIV") word P (both row.DivAb a b c) _ (bytes_eq word (codes "DIV")) refl (both_written (codes "DIV") row.DivAb (as_is row.DivAb) a b c) (
-    by_word (codes "DA") word P (accumulator row.DaA a b c) _ (bytes_eq word (codes "DA")) refl (accumulator_written (codes "DA") row.DaA (as_is row.DaA) a b c) (
+    by_word (codes "MUL") word P (both row.MulAb a b c) _ (bytes_eq word (codes "MUL")) refl
+    (both_written (codes "MUL") row.MulAb (as_is row.MulAb) a b c) (
+    by_word (codes "DIV") word P (both row.DivAb a b c) _ (bytes_eq word (codes "DIV")) refl
+    (both_written (codes "DIV") row.DivAb (as_is row.DivAb) a b c) (
+    by_word (codes "DA") word P (accumulator row.DaA a b c) _ (bytes_eq word (codes "DA")) refl
+    (accumulator_written (codes "DA") row.DaA (as_is row.DaA) a b c) (
     tt))))))))
 
 logic_written : (word : List ℕ) (a b c : Look) → IfSome (logic word a b c) (IsWritten word a b c)
@@ -221,11 +229,16 @@ logic_written word a b c =
     by_word (codes "CLR") word P (clr a b c) _ (bytes_eq word (codes "CLR")) refl (clr_written a b c) (
     by_word (codes "CPL") word P (cpl a b c) _ (bytes_eq word (codes "CPL")) refl (cpl_written a b c) (
     by_word (codes "SETB") word P (setb a b c) _ (bytes_eq word (codes "SETB")) refl (setb_written a b c) (
-    by_word (codes "RL") word P (accumulator row.RlA a b c) _ (bytes_eq word (codes "RL")) refl (accumulator_written (codes "RL") row.RlA (as_is row.RlA) a b c) (
-    by_word (codes "RLC") word P (accumulator row.RlcA a b c) _ (bytes_eq word (codes "RLC")) refl (accumulator_written (codes "RLC") row.RlcA (as_is row.RlcA) a b c) (
-    by_word (codes "RR") word P (accumulator row.RrA a b c) _ (bytes_eq word (codes "RR")) refl (accumulator_written (codes "RR") row.RrA (as_is row.RrA) a b c) (
-    by_word (codes "RRC") word P (accumulator row.RrcA a b c) _ (bytes_eq word (codes "RRC")) refl (accumulator_written (codes "RRC") row.RrcA (as_is row.RrcA) a b c) (
-    by_word (codes "SWAP") word P (accumulator row.SwapA a b c) _ (bytes_eq word (codes "SWAP")) refl (accumulator_written (codes "SWAP") row.SwapA (as_is row.SwapA) a b c) (
+    by_word (codes "RL") word P (accumulator row.RlA a b c) _ (bytes_eq word (codes "RL")) refl
+    (accumulator_written (codes "RL") row.RlA (as_is row.RlA) a b c) (
+    by_word (codes "RLC") word P (accumulator row.RlcA a b c) _ (bytes_eq word (codes "RLC")) refl
+    (accumulator_written (codes "RLC") row.RlcA (as_is row.RlcA) a b c) (
+    by_word (codes "RR") word P (accumulator row.RrA a b c) _ (bytes_eq word (codes "RR")) refl
+    (accumulator_written (codes "RR") row.RrA (as_is row.RrA) a b c) (
+    by_word (codes "RRC") word P (accumulator row.RrcA a b c) _ (bytes_eq word (codes "RRC")) refl
+    (accumulator_written (codes "RRC") row.RrcA (as_is row.RrcA) a b c) (
+    by_word (codes "SWAP") word P (accumulator row.SwapA a b c) _ (bytes_eq word (codes "SWAP")) refl
+    (accumulator_written (codes "SWAP") row.SwapA (as_is row.SwapA) a b c) (
     tt)))))))))))
 
 moves_written : (word : List ℕ) (a b c : Look) → IfSome (moves word a b c) (IsWritten word a b c)
@@ -237,8 +250,10 @@ moves_written word a b c =
     by_word (codes "MOVX") word P (movx a b c) _ (bytes_eq word (codes "MOVX")) refl (movx_written a b c) (
     by_word (codes "XCH") word P (xch a b c) _ (bytes_eq word (codes "XCH")) refl (xch_written a b c) (
     by_word (codes "XCHD") word P (xchd a b c) _ (bytes_eq word (codes "XCHD")) refl (xchd_written a b c) (
-    by_word (codes "PUSH") word P (address (row.PushDirect 0) a b c) _ (bytes_eq word (codes "PUSH")) refl (address_written (codes "PUSH") (row.PushDirect 0) (as_is (row.PushDirect 0)) a b c) (
-    by_word (codes "POP") word P (address (row.PopDirect 0) a b c) _ (bytes_eq word (codes "POP")) refl (address_written (codes "POP") (row.PopDirect 0) (as_is (row.PopDirect 0)) a b c) (
+    by_word (codes "PUSH") word P (address (row.PushDirect 0) a b c) _ (bytes_eq word (codes "PUSH")) refl
+    (address_written (codes "PUSH") (row.PushDirect 0) (as_is (row.PushDirect 0)) a b c) (
+    by_word (codes "POP") word P (address (row.PopDirect 0) a b c) _ (bytes_eq word (codes "POP")) refl
+    (address_written (codes "POP") (row.PopDirect 0) (as_is (row.PopDirect 0)) a b c) (
     tt)))))))
 
 branches_written : (word : List ℕ) (a b c : Look) → IfSome (branches word a b c) (IsWritten word a b c)
@@ -247,28 +262,43 @@ branches_written word a b c =
     let P : List ℕ → Instr → Type 0 = λ w. IsWritten w a b c in
     by_word (codes "CJNE") word P (cjne a b c) _ (bytes_eq word (codes "CJNE")) refl (cjne_written a b c) (
     by_word (codes "DJNZ") word P (djnz a b c) _ (bytes_eq word (codes "DJNZ")) refl (djnz_written a b c) (
-    by_word (codes "JB") word P (bit_and_target (row.JbBitRel 0 0) a b c) _ (bytes_eq word (codes "JB")) refl (bit_and_target_written (codes "JB") (row.JbBitRel 0 0) (as_is (row.JbBitRel 0 0)) a b c) (
-    by_word (codes "JBC") word P (bit_and_target (row.JbcBitRel 0 0) a b c) _ (bytes_eq word (codes "JBC")) refl (bit_and_target_written (codes "JBC") (row.JbcBitRel 0 0) (as_is (row.JbcBitRel 0 0)) a b c) (
-    by_word (codes "JNB") word P (bit_and_target (row.JnbBitRel 0 0) a b c) _ (bytes_eq word (codes "JNB")) refl (bit_and_target_written (codes "JNB") (row.JnbBitRel 0 0) (as_is (row.JnbBitRel 0 0)) a b c) (
-    by_word (codes "JC") word P (address (row.JcRel 0) a b c) _ (bytes_eq word (codes "JC")) refl (address_written (codes "JC") (row.JcRel 0) (as_is (row.JcRel 0)) a b c) (
-    by_word (codes "JNC") word P (address (row.JncRel 0) a b c) _ (bytes_eq word (codes "JNC")) refl (address_written (codes "JNC") (row.JncRel 0) (as_is (row.JncRel 0)) a b c) (
-    by_word (codes "JZ") word P (address (row.JzRel 0) a b c) _ (bytes_eq word (codes "JZ")) refl (address_written (codes "JZ") (row.JzRel 0) (as_is (row.JzRel 0)) a b c) (
-    by_word (codes "JNZ") word P (address (row.JnzRel 0) a b c) _ (bytes_eq word (codes "JNZ")) refl (address_written (codes "JNZ") (row.JnzRel 0) (as_is (row.JnzRel 0)) a b c) (
+    by_word (codes "JB") word P (bit_and_target (row.JbBitRel 0 0) a b c) _ (bytes_eq word (codes "JB")) refl
+    (bit_and_target_written (codes "JB") (row.JbBitRel 0 0) (as_is (row.JbBitRel 0 0)) a b c) (
+    by_word (codes "JBC") word P (bit_and_target (row.JbcBitRel 0 0) a b c) _ (bytes_eq word (codes "JBC")) refl
+    (bit_and_target_written (codes "JBC") (row.JbcBitRel 0 0) (as_is (row.JbcBitRel 0 0)) a b c) (
+    by_word (codes "JNB") word P (bit_and_target (row.JnbBitRel 0 0) a b c) _ (bytes_eq word (codes "JNB")) refl
+    (bit_and_target_written (codes "JNB") (row.JnbBitRel 0 0) (as_is (row.JnbBitRel 0 0)) a b c) (
+    by_word (codes "JC") word P (address (row.JcRel 0) a b c) _ (bytes_eq word (codes "JC")) refl
+    (address_written (codes "JC") (row.JcRel 0) (as_is (row.JcRel 0)) a b c) (
+    by_word (codes "JNC") word P (address (row.JncRel 0) a b c) _ (bytes_eq word (codes "JNC")) refl
+    (address_written (codes "JNC") (row.JncRel 0) (as_is (row.JncRel 0)) a b c) (
+    by_word (codes "JZ") word P (address (row.JzRel 0) a b c) _ (bytes_eq word (codes "JZ")) refl
+    (address_written (codes "JZ") (row.JzRel 0) (as_is (row.JzRel 0)) a b c) (
+    by_word (codes "JNZ") word P (address (row.JnzRel 0) a b c) _ (bytes_eq word (codes "JNZ")) refl
+    (address_written (codes "JNZ") (row.JnzRel 0) (as_is (row.JnzRel 0)) a b c) (
     tt)))))))))
 
 jumps_written : (word : List ℕ) (a b c : Look) → IfSome (jumps word a b c) (IsWritten word a b c)
 unfolding jumps
 jumps_written word a b c =
     let P : List ℕ → Instr → Type 0 = λ w. IsWritten w a b c in
-    by_word (codes "ACALL") word P (address (row.AcallAddr11 0) a b c) _ (bytes_eq word (codes "ACALL")) refl (address_written (codes "ACALL") (row.AcallAddr11 0) (as_is (row.AcallAddr11 0)) a b c) (
-    by_word (codes "AJMP") word P (address (row.AjmpAddr11 0) a b c) _ (bytes_eq word (codes "AJMP")) refl (address_written (codes "AJMP") (row.AjmpAddr11 0) (as_is (row.AjmpAddr11 0)) a b c) (
-    by_word (codes "LCALL") word P (address (row.LcallAddr16 0) a b c) _ (bytes_eq word (codes "LCALL")) refl (address_written (codes "LCALL") (row.LcallAddr16 0) (as_is (row.LcallAddr16 0)) a b c) (
-    by_word (codes "LJMP") word P (address (row.LjmpAddr16 0) a b c) _ (bytes_eq word (codes "LJMP")) refl (address_written (codes "LJMP") (row.LjmpAddr16 0) (as_is (row.LjmpAddr16 0)) a b c) (
-    by_word (codes "SJMP") word P (address (row.SjmpRel 0) a b c) _ (bytes_eq word (codes "SJMP")) refl (address_written (codes "SJMP") (row.SjmpRel 0) (as_is (row.SjmpRel 0)) a b c) (
+    by_word (codes "ACALL") word P (address (row.AcallAddr11 0) a b c) _ (bytes_eq word (codes "ACALL")) refl
+    (address_written (codes "ACALL") (row.AcallAddr11 0) (as_is (row.AcallAddr11 0)) a b c) (
+    by_word (codes "AJMP") word P (address (row.AjmpAddr11 0) a b c) _ (bytes_eq word (codes "AJMP")) refl
+    (address_written (codes "AJMP") (row.AjmpAddr11 0) (as_is (row.AjmpAddr11 0)) a b c) (
+    by_word (codes "LCALL") word P (address (row.LcallAddr16 0) a b c) _ (bytes_eq word (codes "LCALL")) refl
+    (address_written (codes "LCALL") (row.LcallAddr16 0) (as_is (row.LcallAddr16 0)) a b c) (
+    by_word (codes "LJMP") word P (address (row.LjmpAddr16 0) a b c) _ (bytes_eq word (codes "LJMP")) refl
+    (address_written (codes "LJMP") (row.LjmpAddr16 0) (as_is (row.LjmpAddr16 0)) a b c) (
+    by_word (codes "SJMP") word P (address (row.SjmpRel 0) a b c) _ (bytes_eq word (codes "SJMP")) refl
+    (address_written (codes "SJMP") (row.SjmpRel 0) (as_is (row.SjmpRel 0)) a b c) (
     by_word (codes "JMP") word P (jmp a b c) _ (bytes_eq word (codes "JMP")) refl (jmp_written a b c) (
-    by_word (codes "RET") word P (alone row.Ret a b c) _ (bytes_eq word (codes "RET")) refl (alone_written (codes "RET") row.Ret (as_is row.Ret) a b c) (
-    by_word (codes "RETI") word P (alone row.Reti a b c) _ (bytes_eq word (codes "RETI")) refl (alone_written (codes "RETI") row.Reti (as_is row.Reti) a b c) (
-    by_word (codes "NOP") word P (alone row.Nop a b c) _ (bytes_eq word (codes "NOP")) refl (alone_written (codes "NOP") row.Nop (as_is row.Nop) a b c) (
+    by_word (codes "RET") word P (alone row.Ret a b c) _ (bytes_eq word (codes "RET")) refl
+    (alone_written (codes "RET") row.Ret (as_is row.Ret) a b c) (
+    by_word (codes "RETI") word P (alone row.Reti a b c) _ (bytes_eq word (codes "RETI")) refl
+    (alone_written (codes "RETI") row.Reti (as_is row.Reti) a b c) (
+    by_word (codes "NOP") word P (alone row.Nop a b c) _ (bytes_eq word (codes "NOP")) refl
+    (alone_written (codes "NOP") row.Nop (as_is row.Nop) a b c) (
     tt)))))))))
 
 pub found_rows_are_written : (word : List ℕ) (a b c : Look) → IfSome (search word a b c) (IsWritten word a b c)

@@ -2,7 +2,6 @@
 ghost use Rattle.std.specs.Prelude.{◌≡◌, ◌≤◌};
 ghost use Rattle.m51_isa.specs.Table.{length_of, cycles_of, flow_of};
 
-use crate::encoding::encode;
 use crate::instr::{Flow, Instr};
 
 /// How many bytes an instruction has, 1 to 3.
@@ -11,7 +10,119 @@ use crate::instr::{Flow, Instr};
 pub fn length(instr: &Instr) -> u8
     ensures { result ≡ length_of instr.now }
 {
-    encode(instr).len
+    match instr {
+        Instr::JbcBitRel(..)
+        | Instr::JbBitRel(..)
+        | Instr::JnbBitRel(..)
+        | Instr::MovDptrData16(..)
+        | Instr::LjmpAddr16(..)
+        | Instr::LcallAddr16(..)
+        | Instr::OrlDirectData(..)
+        | Instr::AnlDirectData(..)
+        | Instr::XrlDirectData(..)
+        | Instr::CjneADataRel(..)
+        | Instr::MovDirectData(..)
+        | Instr::MovDirectDirect(..)
+        | Instr::CjneADirectRel(..)
+        | Instr::DjnzDirectRel(..)
+        | Instr::CjneAtRiDataRel(..)
+        | Instr::CjneRnDataRel(..) => 3,
+        Instr::SjmpRel(..)
+        | Instr::JcRel(..)
+        | Instr::JncRel(..)
+        | Instr::JzRel(..)
+        | Instr::JnzRel(..)
+        | Instr::OrlCNotBit(..)
+        | Instr::AnlCNotBit(..)
+        | Instr::PushDirect(..)
+        | Instr::PopDirect(..)
+        | Instr::AjmpAddr11(..)
+        | Instr::AcallAddr11(..)
+        | Instr::OrlDirectA(..)
+        | Instr::AnlDirectA(..)
+        | Instr::XrlDirectA(..)
+        | Instr::OrlCBit(..)
+        | Instr::AnlCBit(..)
+        | Instr::MovBitC(..)
+        | Instr::MovCBit(..)
+        | Instr::CplBit(..)
+        | Instr::ClrBit(..)
+        | Instr::SetbBit(..)
+        | Instr::AddAData(..)
+        | Instr::AddcAData(..)
+        | Instr::OrlAData(..)
+        | Instr::AnlAData(..)
+        | Instr::XrlAData(..)
+        | Instr::MovAData(..)
+        | Instr::SubbAData(..)
+        | Instr::IncDirect(..)
+        | Instr::DecDirect(..)
+        | Instr::AddADirect(..)
+        | Instr::AddcADirect(..)
+        | Instr::OrlADirect(..)
+        | Instr::AnlADirect(..)
+        | Instr::XrlADirect(..)
+        | Instr::SubbADirect(..)
+        | Instr::XchADirect(..)
+        | Instr::MovADirect(..)
+        | Instr::MovDirectA(..)
+        | Instr::MovAtRiData(..)
+        | Instr::MovDirectAtRi(..)
+        | Instr::MovAtRiDirect(..)
+        | Instr::MovRnData(..)
+        | Instr::MovDirectRn(..)
+        | Instr::MovRnDirect(..)
+        | Instr::DjnzRnRel(..) => 2,
+        Instr::Nop
+        | Instr::MovxAAtDptr
+        | Instr::MovxAtDptrA
+        | Instr::Ret
+        | Instr::Reti
+        | Instr::MovxAAtRi(..)
+        | Instr::MovxAtRiA(..)
+        | Instr::RrA
+        | Instr::RrcA
+        | Instr::RlA
+        | Instr::RlcA
+        | Instr::JmpAtADptr
+        | Instr::MovcAAtAPc
+        | Instr::MovcAAtADptr
+        | Instr::IncDptr
+        | Instr::CplC
+        | Instr::ClrC
+        | Instr::SetbC
+        | Instr::IncA
+        | Instr::DecA
+        | Instr::DivAb
+        | Instr::MulAb
+        | Instr::SwapA
+        | Instr::DaA
+        | Instr::ClrA
+        | Instr::CplA
+        | Instr::IncAtRi(..)
+        | Instr::DecAtRi(..)
+        | Instr::AddAAtRi(..)
+        | Instr::AddcAAtRi(..)
+        | Instr::OrlAAtRi(..)
+        | Instr::AnlAAtRi(..)
+        | Instr::XrlAAtRi(..)
+        | Instr::SubbAAtRi(..)
+        | Instr::XchAAtRi(..)
+        | Instr::XchdAAtRi(..)
+        | Instr::MovAAtRi(..)
+        | Instr::MovAtRiA(..)
+        | Instr::IncRn(..)
+        | Instr::DecRn(..)
+        | Instr::AddARn(..)
+        | Instr::AddcARn(..)
+        | Instr::OrlARn(..)
+        | Instr::AnlARn(..)
+        | Instr::XrlARn(..)
+        | Instr::SubbARn(..)
+        | Instr::XchARn(..)
+        | Instr::MovARn(..)
+        | Instr::MovRnA(..) => 1,
+    }
 }
 
 /// How many machine cycles an instruction takes: 1, 2 or 4.

@@ -1,5 +1,6 @@
 -- The layout of a program has a root at 0000H.
-use Rattle.std.proofs.Common.{◌≡◌, ℕ, ◌<◌, Bool, true, false, cond, nat_eq, List, length, Option, Some, None, Result, Ok, Err, refl, sym, ap, subst, ◌∙◌, arith}
+use Rattle.std.proofs.Common.{◌≡◌, ℕ, ◌<◌, Bool, true, false, cond, nat_eq, List, length, Option, Some, None, Result}
+use Rattle.std.proofs.Common.{Ok, Err, refl, sym, ap, subst, ◌∙◌, arith}
 use Rattle.std.specs.Prelude.{option_map, slice_get, slice_index}
 use Rattle.std.specs.List.{Contains, list_any}
 use Rattle.std.proofs.lemmas.Bool.Decides.{Decides-eqb}
@@ -16,7 +17,8 @@ use Rattle.m51_resolve.specs.declared.segment.JoinedSegment.{JoinedSegment}
 use Rattle.m51_resolve.specs.Joining.{segments_of}
 use Rattle.m51_graph.specs.declared.parts.GraphParts.{GraphParts}
 use Rattle.m51_graph.specs.Drawing.{edges_of, fixup_edges}
-use Rattle.m51_graph.specs.Graphs.{cyclic_from, first_under_two, graph_of, judged, lacks_reset, on_cycles, parts_of, unless}
+use Rattle.m51_graph.specs.Graphs.{cyclic_from, first_under_two, graph_of, judged, lacks_reset, on_cycles, parts_of}
+use Rattle.m51_graph.specs.Graphs.{unless}
 use Rattle.m51_graph.specs.Leading.{leads}
 use Rattle.m51_graph.specs.Units.{code_segments, unit_titles, units_of}
 use Rattle.m51_place.specs.declared.numbered.Numbered.{Numbered}
@@ -42,7 +44,8 @@ judged_reset titles p g h =
     let third = unless_none two (Ok p) g second.1 in
     ap (λ (x : GraphParts). lacks_reset x.roots) (sym (same_ok p g third.1)) ∙ first.0
 
-pub has_reset : (modules : List ModuleParts) (controls : List (ℕ × Control)) (g : GraphParts) → graph_of modules controls ≡ Ok g → lacks_reset g.roots ≡ None
+pub has_reset : (modules : List ModuleParts) (controls : List (ℕ × Control)) (g : GraphParts)
+    → graph_of modules controls ≡ Ok g → lacks_reset g.roots ≡ None
 has_reset modules controls g h =
     let segments = segments_of modules in
     let titles = unit_titles segments in
@@ -54,13 +57,20 @@ some_reset true h = refl
 some_reset false h = absurd (cc h)
 
 -- what placing answers has the extents of what was located
-pub record IsLocated (modules : List ModuleParts) (controls : List (ℕ × Control)) (g : GraphParts) (placing : Placing) : Type 0 where
+pub record IsLocated (modules : List ModuleParts) (controls : List (ℕ × Control)) (g : GraphParts)
+    (placing : Placing) : Type 0 where
   pub located : List Numbered
   pub is : placing ≡ placing_with g (length (segments_of modules)) located
 
-located_by : (modules : List ModuleParts) (controls : List (ℕ × Control)) (g : GraphParts) (placing : Placing) (r : Result (List Numbered) Refusal)
+located_by : (modules : List ModuleParts) (controls : List (ℕ × Control)) (g : GraphParts) (placing : Placing)
+    (r : Result (List Numbered) Refusal)
     → placing_from g (length (segments_of modules)) r ≡ Ok placing → IsLocated modules controls g placing
-located_by modules controls g placing (Ok located) h = record { located = located; is = let e : placing ≡ placing_with g (length (segments_of modules)) located = cc h in e }
+located_by modules controls g placing (Ok located) h =
+    record {
+      located = located;
+      is = let e : placing ≡ placing_with g (length (segments_of modules)) located = cc h in
+          e;
+    }
 located_by modules controls g placing (Err refusal) h = absurd (cc h)
 
 module _ (modules : List ModuleParts) (controls : List (ℕ × Control)) (g : GraphParts) (placing : Placing)
@@ -72,23 +82,28 @@ module _ (modules : List ModuleParts) (controls : List (ℕ × Control)) (g : Gr
   is_located = located_by modules controls g placing (located_of modules controls g) places
 
   -- the unit that is the joined segment of that number
-  unit_is : (unit n : ℕ) → slice_get g.units unit ≡ Some n → n < length segments → slice_get placing.layout.units unit ≡ Some (slice_index placing.places n)
+  unit_is : (unit n : ℕ) → slice_get g.units unit ≡ Some n → n < length segments
+      → slice_get placing.layout.units unit ≡ Some (slice_index placing.places n)
   unit_is unit n at below =
       let place : ℕ → ℕ = place_of is_located.located in
       let index : slice_index placing.places n ≡ place n =
-      ap (λ (p : Placing). slice_index p.places n) is_located.is ∙ get_or-map-range_with_len place 0 (length segments) n n 0 below (omega arith) in
-      ap (λ (p : Placing). slice_get p.layout.units unit) is_located.is ∙ slice_get-map place g.units unit ∙ ap (option_map place) at
+      ap (λ (p : Placing). slice_index p.places n) is_located.is
+      ∙ get_or-map-range_with_len place 0 (length segments) n n 0 below (omega arith) in
+      ap (λ (p : Placing). slice_get p.layout.units unit) is_located.is ∙ slice_get-map place g.units unit
+      ∙ ap (option_map place) at
       ∙ ap (λ (k : ℕ). Some k) (sym index)
 
   reset_at : ArePlaces segments placing → (unit : ℕ) → Contains g.roots (0, unit) → IsRootAt placing.layout 0 unit
   reset_at are unit h =
       let shape = graph_is modules controls g graph in
-      let root = root_found 0 (code_segments segments) 0 unit (subst (λ (rs : List (ℕ × ℕ)). Contains rs (0, unit)) shape.roots h) in
+      let root = root_found 0 (code_segments segments) 0 unit
+      (subst (λ (rs : List (ℕ × ℕ)). Contains rs (0, unit)) shape.roots h) in
       let number : root.k ≡ unit = omega (arith, root.number) in
       let of = unit_of_code segments 0 segments (from_start segments) root.k root.j root.segment in
       let n : ℕ = of.0 in
       let in_units : slice_get g.units unit ≡ Some n =
-      ap (λ (us : List ℕ). slice_get us unit) shape.units ∙ ap (slice_get (units_of segments)) (sym number) ∙ of.1.unit_is in
+      ap (λ (us : List ℕ). slice_get us unit) shape.units ∙ ap (slice_get (units_of segments)) (sym number)
+      ∙ of.1.unit_is in
       let at = are.each n root.j of.1.segment in
       let fixed = at.is.absolute (root_absolute root.j root.root) in
       record {
@@ -111,5 +126,6 @@ module _ (modules : List ModuleParts) (controls : List (ℕ × Control)) (g : Gr
       let k = Any-from_list_any p g.roots some in
       let root : ℕ × ℕ = k.1 in
       let zero_first : root.0 ≡ 0 = (Decides-eqb root.0 0).0 k.4 in
-      let there : Contains g.roots (0, root.1) = subst (λ (v : ℕ). Contains g.roots (v, root.1)) zero_first (k.0, k.2, k.3) in
+      let there : Contains g.roots (0, root.1) =
+      subst (λ (v : ℕ). Contains g.roots (v, root.1)) zero_first (k.0, k.2, k.3) in
       (root.1, reset_at are root.1 there)

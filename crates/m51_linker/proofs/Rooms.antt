@@ -53,14 +53,16 @@ record IsFieldIn (parts : ModuleParts) (f : Fixup) : Type 0 where
   pub code : segment.kind ≡ Code
   pub inside : f.offset + field_len f.form ≤ segment.size
 
-module _ (modules : List ModuleParts) (placing : Placing) (placed : ArePlaced modules placing) (m : ℕ) (parts : ModuleParts) (here : slice_get modules m ≡ Some parts) where
+module _ (modules : List ModuleParts) (placing : Placing) (placed : ArePlaced modules placing) (m : ℕ)
+    (parts : ModuleParts) (here : slice_get modules m ≡ Some parts) where
   valid : IsValid parts
   valid =
       subst (λ (x : ModuleParts). IsValid x) (get_or_from_slice_get modules m parts parts here)
       (All-get_or IsValid modules m parts (slice_get_within modules m parts here) placed.valid)
 
   -- a segment of program memory ends in it
-  segment_room : (s : ℕ) (segment : Segment) → numbered parts.segments s ≡ Some segment → segment.kind ≡ Code → start_of modules placing m s + segment.size ≤ 65536
+  segment_room : (s : ℕ) (segment : Segment) → numbered parts.segments s ≡ Some segment → segment.kind ≡ Code
+      → start_of modules placing m s + segment.size ≤ 65536
   segment_room s segment is code =
       let part : IsPartOf modules m s segment = part_inside modules placed.resolved m parts here s segment is in
       let at = placed.places.each (part_of modules m s).0 part.j part.at in
@@ -70,20 +72,27 @@ module _ (modules : List ModuleParts) (placing : Placing) (placed : ArePlaced mo
       omega (arith, base, room, at.is.size, part.inside)
 
   -- the piece of that index
-  module _ (pieces : List Piece) (are : pieces ≡ parts.pieces) (i : ℕ) (p : Piece) (below : i < length pieces) (is : p ≡ get_or pieces i p) where
+  module _ (pieces : List Piece) (are : pieces ≡ parts.pieces) (i : ℕ) (p : Piece) (below : i < length pieces)
+      (is : p ≡ get_or pieces i p) where
     valid_piece : IsPieceValid parts.segments p
     valid_piece =
         subst (λ (x : Piece). IsPieceValid parts.segments x) (sym is)
-        (All-get_or (IsPieceValid parts.segments) pieces i p below (subst (λ (ps : List Piece). All (IsPieceValid parts.segments) ps) (sym are) valid.pieces))
+        (All-get_or (IsPieceValid parts.segments) pieces i p below
+        (subst (λ (ps : List Piece). All (IsPieceValid parts.segments) ps) (sym are) valid.pieces))
 
     pub piece_room : address_of modules placing m p.segment p.offset + length p.bytes ≤ 65536
-    piece_room = omega (arith, segment_room p.segment valid_piece.segment valid_piece.is valid_piece.code, valid_piece.inside)
+    piece_room = omega (
+      arith,
+      segment_room p.segment valid_piece.segment valid_piece.is valid_piece.code,
+      valid_piece.inside,
+    )
 
   field_in : (f : Fixup) → IsFixupValid parts.segments parts.externals parts.pieces f → IsFieldIn parts f
   field_in f h =
       let end : IsLast f.form = last f.form in
       let held : IsHeld parts.pieces f.segment (f.offset + end.k) = h.held end.k (omega (arith, end.is)) in
-      let piece : IsPieceValid parts.segments held.piece = All-contains (IsPieceValid parts.segments) parts.pieces held.piece valid.pieces held.is in
+      let piece : IsPieceValid parts.segments held.piece =
+      All-contains (IsPieceValid parts.segments) parts.pieces held.piece valid.pieces held.is in
       record {
         segment = piece.segment;
         is = ap (numbered parts.segments) (sym held.same) ∙ piece.is;
@@ -98,12 +107,14 @@ module _ (modules : List ModuleParts) (placing : Placing) (placed : ArePlaced mo
 
     valid_fixup : IsFixupValid parts.segments parts.externals parts.pieces fixup
     valid_fixup = All-contains (IsFixupValid parts.segments parts.externals parts.pieces) fixups fixup
-        (subst (λ (fs : List Fixup). All (IsFixupValid parts.segments parts.externals parts.pieces) fs) (sym are) valid.fixups) (Contains-get_or fixups i d below)
+        (subst (λ (fs : List Fixup). All (IsFixupValid parts.segments parts.externals parts.pieces) fs) (sym are)
+        valid.fixups) (Contains-get_or fixups i d below)
 
     pub fixup_placed : IsFixupPlaced modules placing m fixup
     fixup_placed =
         let field : IsFieldIn parts fixup = field_in fixup valid_fixup in
-        let part : IsPartOf modules m fixup.segment field.segment = part_inside modules placed.resolved m parts here fixup.segment field.segment field.is in
+        let part : IsPartOf modules m fixup.segment field.segment =
+        part_inside modules placed.resolved m parts here fixup.segment field.segment field.is in
         let end : IsLast fixup.form = last fixup.form in
         record {
           segment = field_there modules m parts here valid fixups are i d below;

@@ -1,9 +1,11 @@
 -- Runs, when one more byte after them is filled.
-use Rattle.std.proofs.Common.{◌≡◌, ◌≢◌, ◌⊎◌, inl, inr, ℕ, ◌+◌, ◌<◌, ◌≤◌, pred, Bool, true, false, List, [], ◌∷◌, ◌++◌, length, get_or, Option, None, sym, ap, subst, ◌∙◌, arith}
+use Rattle.std.proofs.Common.{◌≡◌, ◌≢◌, ◌⊎◌, inl, inr, ℕ, ◌+◌, ◌<◌, ◌≤◌, pred, Bool, true, false, List, [], ◌∷◌, ◌++◌}
+use Rattle.std.proofs.Common.{length, get_or, Option, None, sym, ap, subst, ◌∙◌, arith}
 use Rattle.std.specs.Prelude.{is_some, slice_index_or}
 use Rattle.std.specs.List.{All, Contains}
 use Rattle.std.proofs.lemmas.Bool.{cases_lt}
-use Rattle.std.proofs.lemmas.List.Elements.{All-contains, All-push, Contains-append_left, Contains-push, Contains-push_cases}
+use Rattle.std.proofs.lemmas.List.Elements.{All-contains, All-push, Contains-append_left, Contains-push}
+use Rattle.std.proofs.lemmas.List.Elements.{Contains-push_cases}
 use Rattle.std.proofs.lemmas.List.Quantifiers.{all_pairs_push}
 use Rattle.m51_module.specs.declared.linked.Run.{Run}
 use Rattle.m51_cells.proofs.Small.{below_or_last}
@@ -25,7 +27,8 @@ pub record Grows (Old New : ℕ → Type 0) (at : ℕ) : Type 0 where
   pub either : (address : ℕ) → New address → (Old address) ⊎ (address ≡ at)
 
 -- a run of addresses below an end does not pass it
-pub ends_below : (Old : ℕ → Type 0) (at : ℕ) → ((address : ℕ) → Old address → address < at) → (r : Run) → IsWholeRun Old r → r.first + r.len ≤ at
+pub ends_below : (Old : ℕ → Type 0) (at : ℕ) → ((address : ℕ) → Old address → address < at) → (r : Run)
+    → IsWholeRun Old r → r.first + r.len ≤ at
 ends_below Old at below r h =
     let last = r.first + pred r.len in
     let some : 0 < r.len = h.some in
@@ -45,11 +48,13 @@ module _ (Old New : ℕ → Type 0) (at : ℕ) (g : Grows Old New at) where
       | inl old ↦ h.before address e old
       | inr new ↦ absurd (omega (arith, new, e, ends, some))
     ];
-    after = λ filled. elim (g.either (r.first + r.len) filled) as (λ _. ⊥) [ inl old ↦ h.after old | inr new ↦ other new ];
+    after = λ filled. elim (g.either (r.first + r.len) filled) as (λ _. ⊥)
+        [ inl old ↦ h.after old | inr new ↦ other new ];
   }
 
   -- the new address is a run, where no run ends at it
-  no_end : (runs : List Run) → AreRuns Old runs → All (λ r. r.first + r.len ≢ at) runs → (address : ℕ) → address + 1 ≡ at → Old address → ⊥
+  no_end : (runs : List Run) → AreRuns Old runs → All (λ r. r.first + r.len ≢ at) runs → (address : ℕ)
+      → address + 1 ≡ at → Old address → ⊥
   no_end runs h others address e old =
       let k = h.all address old in
       let whole : IsWholeRun Old k.0 = All-contains (IsWholeRun Old) runs k.0 h.whole k.1 in
@@ -76,15 +81,23 @@ module _ (Old New : ℕ → Type 0) (at : ℕ) (g : Grows Old New at) where
   }
 
   -- it is added as a run of its own
-  pub added_apart : (runs : List Run) → AreRuns Old runs → All (λ r. r.first + r.len ≢ at) runs → AreRuns New (runs ++ run_at at ∷ [])
+  pub added_apart : (runs : List Run) → AreRuns Old runs → All (λ r. r.first + r.len ≢ at) runs
+      → AreRuns New (runs ++ run_at at ∷ [])
   added_apart runs h others = record {
-    whole = All-push (IsWholeRun New) runs (run_at at) (λ k d below. kept (get_or runs k d) (h.whole k d below) (others k d below)) (new_run runs h others);
-    all = λ address filled. elim (g.either address filled) as (λ _. (run : Run) × Contains (runs ++ run_at at ∷ []) run × IsInRun run address) [
-      | inl old ↦ (let k = h.all address old in (k.0, Contains-append_left runs (run_at at ∷ []) k.0 k.1, k.2))
-      | inr new ↦ (run_at at, Contains-push runs (run_at at), record { from = omega (arith, new); below = omega (arith, new) })
-    ];
+    whole = All-push (IsWholeRun New) runs (run_at at)
+        (λ k d below. kept (get_or runs k d) (h.whole k d below) (others k d below)) (new_run runs h others);
+    all = λ address filled. elim (g.either address filled) as
+        (λ _. (run : Run) × Contains (runs ++ run_at at ∷ []) run × IsInRun run address) [
+          | inl old ↦ (let k = h.all address old in (k.0, Contains-append_left runs (run_at at ∷ []) k.0 k.1, k.2))
+          | inr new ↦ (
+            run_at at,
+            Contains-push runs (run_at at),
+            record { from = omega (arith, new); below = omega (arith, new) },
+          )
+        ];
     ascending = all_pairs_push EndsBefore runs (run_at at) h.ascending
-        (λ k d below. let ends : (get_or runs k d).first + (get_or runs k d).len ≤ at = run_end (get_or runs k d) (h.whole k d below) in
+        (λ k d below. let ends : (get_or runs k d).first + (get_or runs k d).len ≤ at =
+        run_end (get_or runs k d) (h.whole k d below) in
         let other : (get_or runs k d).first + (get_or runs k d).len ≢ at = others k d below in omega arith);
   }
 
@@ -109,15 +122,22 @@ module _ (Old New : ℕ → Type 0) (at : ℕ) (g : Grows Old New at) where
     ];
   }
 
-  in_longer : (front : List Run) (run r : Run) (address : ℕ) → Contains (front ++ run ∷ []) r → IsInRun r address → (k : Run) × Contains (front ++ longer run ∷ []) k × IsInRun k address
-  in_longer front run r address is inside = elim (Contains-push_cases front run r is) as (λ _. (k : Run) × Contains (front ++ longer run ∷ []) k × IsInRun k address) [
-    | inl before ↦ (r, Contains-append_left front (longer run ∷ []) r before, inside)
-    | inr last ↦ (
-        let here : IsInRun run address = subst (λ k. IsInRun k address) (sym last) inside in
-        (longer run, Contains-push front (longer run), record { from = here.from; below = let b : address < run.first + run.len = here.below in omega arith }))
-  ]
+  in_longer : (front : List Run) (run r : Run) (address : ℕ) → Contains (front ++ run ∷ []) r → IsInRun r address
+      → (k : Run) × Contains (front ++ longer run ∷ []) k × IsInRun k address
+  in_longer front run r address is inside =
+      elim (Contains-push_cases front run r is) as
+      (λ _. (k : Run) × Contains (front ++ longer run ∷ []) k × IsInRun k address) [
+        | inl before ↦ (r, Contains-append_left front (longer run ∷ []) r before, inside)
+        | inr last ↦ (
+            let here : IsInRun run address = subst (λ k. IsInRun k address) (sym last) inside in (
+              longer run,
+              Contains-push front (longer run),
+              record { from = here.from; below = let b : address < run.first + run.len = here.below in omega arith },
+            ))
+      ]
 
-  pub added_joined : (front : List Run) (run : Run) → AreRuns Old (front ++ run ∷ []) → run.first + run.len ≡ at → AreRuns New (front ++ longer run ∷ [])
+  pub added_joined : (front : List Run) (run : Run) → AreRuns Old (front ++ run ∷ []) → run.first + run.len ≡ at
+      → AreRuns New (front ++ longer run ∷ [])
   added_joined front run h ends =
       let last : IsWholeRun Old run = all_last (IsWholeRun Old) front run h.whole in
       let whole : All (IsWholeRun Old) front = all_front (IsWholeRun Old) front run h.whole in
@@ -125,34 +145,49 @@ module _ (Old New : ℕ → Type 0) (at : ℕ) (g : Grows Old New at) where
       let some : 0 < run.len = last.some in
       record {
         whole = All-push (IsWholeRun New) front (longer run)
-            (λ k d below. let before : (get_or front k d).first + (get_or front k d).len < run.first = apart k d below in kept (get_or front k d) (whole k d below) (λ e. absurd (omega arith)))
+            (λ k d below. let before : (get_or front k d).first + (get_or front k d).len < run.first =
+            apart k d below in kept (get_or front k d) (whole k d below) (λ e. absurd (omega arith)))
             (longer_run run last ends);
-        all = λ address filled. elim (g.either address filled) as (λ _. (k : Run) × Contains (front ++ longer run ∷ []) k × IsInRun k address) [
-          | inl old ↦ (let k = h.all address old in in_longer front run k.0 address k.1 k.2)
-          | inr new ↦ (longer run, Contains-push front (longer run), record { from = omega (arith, new, ends); below = omega (arith, new, ends) })
-        ];
-        ascending = all_pairs_push EndsBefore front (longer run) (pairs_front EndsBefore front run h.ascending) (λ k d below. apart k d below);
+        all = λ address filled. elim (g.either address filled) as
+            (λ _. (k : Run) × Contains (front ++ longer run ∷ []) k × IsInRun k address) [
+              | inl old ↦ (let k = h.all address old in in_longer front run k.0 address k.1 k.2)
+              | inr new ↦ (
+                longer run,
+                Contains-push front (longer run),
+                record { from = omega (arith, new, ends); below = omega (arith, new, ends) },
+              )
+            ];
+        ascending = all_pairs_push EndsBefore front (longer run) (pairs_front EndsBefore front run h.ascending)
+            (λ k d below. apart k d below);
       }
 
   -- where the last run does not end there, none does
-  no_others : (front : List Run) (run : Run) → AreRuns Old (front ++ run ∷ []) → run.first + run.len ≢ at → All (λ r. r.first + r.len ≢ at) (front ++ run ∷ [])
+  no_others : (front : List Run) (run : Run) → AreRuns Old (front ++ run ∷ []) → run.first + run.len ≢ at
+      → All (λ r. r.first + r.len ≢ at) (front ++ run ∷ [])
   no_others front run h other =
       let last : IsWholeRun Old run = all_last (IsWholeRun Old) front run h.whole in
       let some : 0 < run.len = last.some in
       let ends : run.first + run.len ≤ at = run_end run last in
       let apart : All (λ r. EndsBefore r run) front = pairs_last EndsBefore front run h.ascending in
       All-push (λ (r : Run). r.first + r.len ≢ at) front run
-      (λ k d below. let before : (get_or front k d).first + (get_or front k d).len < run.first = apart k d below in λ e. absurd (omega arith)) other
+      (λ k d below. let before : (get_or front k d).first + (get_or front k d).len < run.first = apart k d below in
+      λ e. absurd (omega arith)) other
 
   pub added : (old new : List Run) → AreRuns Old old → AddsByte at old new → AreRuns New new
-  added old new h (Joined front run is ends to) = rw to (added_joined front run (subst (λ runs. AreRuns Old runs) is h) ends)
+  added old new h (Joined front run is ends to) =
+      rw to (added_joined front run (subst (λ runs. AreRuns Old runs) is h) ends)
   added old new h (Apart front run is other to) =
-      rw to (added_apart old h (subst (λ runs. All (λ r. r.first + r.len ≢ at) runs) (sym is) (no_others front run (subst (λ runs. AreRuns Old runs) is h) other)))
+      rw to (added_apart old h
+      (subst (λ runs. All (λ r. r.first + r.len ≢ at) runs) (sym is)
+      (no_others front run (subst (λ runs. AreRuns Old runs) is h) other)))
   added old new h (First is to) =
-      rw (to) (subst (λ runs. AreRuns New (runs ++ run_at at ∷ [])) is (added_apart old h (subst (λ runs. All (λ r. r.first + r.len ≢ at) runs) (sym is) (λ k d below. absurd (omega (arith, below))))))
+      rw (to) (subst (λ runs. AreRuns New (runs ++ run_at at ∷ [])) is
+      (added_apart old h (subst (λ runs. All (λ r. r.first + r.len ≢ at) runs) (sym is)
+      (λ k d below. absurd (omega (arith, below))))))
 
 -- runs of the same addresses
-pub same_runs : (P Q : ℕ → Type 0) (runs : List Run) → ((address : ℕ) → P address → Q address) → ((address : ℕ) → Q address → P address) → AreRuns P runs → AreRuns Q runs
+pub same_runs : (P Q : ℕ → Type 0) (runs : List Run) → ((address : ℕ) → P address → Q address)
+    → ((address : ℕ) → Q address → P address) → AreRuns P runs → AreRuns Q runs
 same_runs P Q runs to from h = record {
   whole = λ k d below. let w = h.whole k d below in record {
     some = w.some;
@@ -192,17 +227,22 @@ module _ (content : List (Option ℕ)) (at : ℕ) where
   from_new : is_some (slice_index_or content at None) ≡ false → (address : ℕ) → New address → Old address
   from_new none address h = elim (below_or_last address at h.below) as (λ _. Old address) [
     | inl less ↦ record { below = less; held = h.held }
-    | inr last ↦ absurd (false_true (sym none ∙ ap (λ (a : ℕ). is_some (slice_index_or content a None)) (sym last) ∙ h.held))
+    | inr last ↦ absurd (false_true
+        (sym none ∙ ap (λ (a : ℕ). is_some (slice_index_or content a None)) (sym last) ∙ h.held))
   ] where
     false_true : false ≡ true → ⊥
     false_true e = cc
 
-  pub runs_before : (runs : List Run) → AreRuns Old runs → (k : ℕ) (d : Run) → k < length runs → (get_or runs k d).first + (get_or runs k d).len ≤ at
+  pub runs_before : (runs : List Run) → AreRuns Old runs → (k : ℕ) (d : Run) → k < length runs
+      → (get_or runs k d).first + (get_or runs k d).len ≤ at
   runs_before runs h k d less = ends_below Old at is_below (get_or runs k d) (h.whole k d less)
 
-  runs_by : (held : Bool) (old new : List Run) → AreRuns Old old → is_some (slice_index_or content at None) ≡ held → AddsIf held at old new → AreRuns New new
+  runs_by : (held : Bool) (old new : List Run) → AreRuns Old old → is_some (slice_index_or content at None) ≡ held
+      → AddsIf held at old new → AreRuns New new
   runs_by true old new h held adds = added Old New at (held_grows held) old new h adds
-  runs_by false old new h none same = subst (λ runs. AreRuns New runs) (sym same) (same_runs Old New old to_new (from_new none) h)
+  runs_by false old new h none same =
+      subst (λ runs. AreRuns New runs) (sym same) (same_runs Old New old to_new (from_new none) h)
 
-  pub runs_more : (held : Bool) (old new : List Run) → AreRuns Old old → held ≡ is_some (slice_index_or content at None) → AddsIf held at old new → AreRuns New new
+  pub runs_more : (held : Bool) (old new : List Run) → AreRuns Old old → held ≡ is_some (slice_index_or content at None)
+      → AddsIf held at old new → AreRuns New new
   runs_more held old new h is adds = runs_by held old new h (sym is) adds

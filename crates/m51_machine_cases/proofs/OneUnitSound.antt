@@ -17,23 +17,37 @@ module _ (unit byte : List ℕ) (size : ℕ) (some : 0 < size) (small : size < 6
   sample = one_unit unit byte size
 
   fit : (s : ℕ) (p : Placed) → IsPlaced sample s p → IsFit p
-  fit zero p h = subst IsFit (same_Some (unit_at_reset unit size) p h) (record { kind = λ e. cc e; inside = λ c h. omega (arith, h.below, small); absolute = λ e. some; code = λ e f. cc f })
-  fit (suc zero) p h = subst IsFit (same_Some (data_byte byte) p h) (record { kind = λ e. cc e; inside = λ c h. omega (arith, h.below); absolute = λ e. cc e; code = λ e. cc e })
+  fit zero p h = subst IsFit (same_Some (unit_at_reset unit size) p h)
+      (record {
+        kind = λ e. cc e;
+        inside = λ c h. omega (arith, h.below, small);
+        absolute = λ e. some;
+        code = λ e f. cc f;
+      })
+  fit (suc zero) p h = subst IsFit (same_Some (data_byte byte) p h)
+      (record { kind = λ e. cc e; inside = λ c h. omega (arith, h.below); absolute = λ e. cc e; code = λ e. cc e })
   fit (suc (suc s)) p h = absurd (cc h)
 
   -- neither is overlaid
   not_overlaid : (s : ℕ) → IsOverlaid sample s → ⊥
-  not_overlaid zero (p, at, mark) = let k = ap (λ (q : Placed). q.mark) (same_Some (unit_at_reset unit size) p at) in cc (k, mark)
-  not_overlaid (suc zero) (p, at, mark) = let k = ap (λ (q : Placed). q.mark) (same_Some (data_byte byte) p at) in cc (k, mark)
+  not_overlaid zero (p, at, mark) = let k = ap (λ (q : Placed). q.mark) (same_Some (unit_at_reset unit size) p at) in
+      cc (k, mark)
+  not_overlaid (suc zero) (p, at, mark) = let k = ap (λ (q : Placed). q.mark) (same_Some (data_byte byte) p at) in
+      cc (k, mark)
   not_overlaid (suc (suc s)) (p, at, mark) = absurd (cc at)
 
   is_code : (u s : ℕ) → slice_get sample.units u ≡ Some s → (p : Placed) × IsPlaced sample s p × IsCodeSegment p
-  is_code zero s h = let k : 0 ≡ s = cc h in (unit_at_reset unit size, subst (λ s. IsPlaced sample s (unit_at_reset unit size)) k refl, record { kind = refl; segment = tt })
+  is_code zero s h = let k : 0 ≡ s = cc h in (
+    unit_at_reset unit size,
+    subst (λ s. IsPlaced sample s (unit_at_reset unit size)) k refl,
+    record { kind = refl; segment = tt },
+  )
   is_code (suc u) s h = absurd (cc h)
 
   is_unit : (s : ℕ) (p : Placed) → IsPlaced sample s p → IsCodeSegment p → Contains sample.units s
   is_unit zero p h code = (0, omega arith, refl)
-  is_unit (suc zero) p h code = let k = ap (λ (q : Placed). q.kind) (same_Some (data_byte byte) p h) in let c = code.kind in cc (k, c)
+  is_unit (suc zero) p h code = let k = ap (λ (q : Placed). q.kind) (same_Some (data_byte byte) p h) in
+      let c = code.kind in cc (k, c)
   is_unit (suc (suc s)) p h code = absurd (cc h)
 
   once : (u v s : ℕ) → slice_get sample.units u ≡ Some s → slice_get sample.units v ≡ Some s → u ≡ v
@@ -51,7 +65,8 @@ module _ (unit byte : List ℕ) (size : ℕ) (some : 0 < size) (small : size < 6
   no_owner u s (k, below, e) = absurd (omega (arith, below))
 
   -- they are of two memories
-  apart : (s t : ℕ) (p q : Placed) → IsPlaced sample s p → IsPlaced sample t q → s ≢ t → ExtentsConflict sample s t → Meet (extent_at p) (extent_at q) → ⊥
+  apart : (s t : ℕ) (p q : Placed) → IsPlaced sample s p → IsPlaced sample t q → s ≢ t → ExtentsConflict sample s t
+      → Meet (extent_at p) (extent_at q) → ⊥
   apart s t p q at_s at_t differ conflict meet = cases s t at_s at_t differ meet where
     of_two : Meet (extent_at (unit_at_reset unit size)) (extent_at (data_byte byte)) → ⊥
     of_two (c, one, two) = let a = one.space in let b = two.space in cc (a, b)
@@ -62,9 +77,13 @@ module _ (unit byte : List ℕ) (size : ℕ) (some : 0 < size) (small : size < 6
     cases : (s t : ℕ) → IsPlaced sample s p → IsPlaced sample t q → s ≢ t → Meet (extent_at p) (extent_at q) → ⊥
     cases zero zero h k ne m = ne refl
     cases zero (suc zero) h k ne m =
-        of_two (subst (λ p. Meet (extent_at p) (extent_at (data_byte byte))) (sym (same_Some (unit_at_reset unit size) p h)) (subst (λ q. Meet (extent_at p) (extent_at q)) (sym (same_Some (data_byte byte) q k)) m))
+        of_two (subst (λ p. Meet (extent_at p) (extent_at (data_byte byte)))
+        (sym (same_Some (unit_at_reset unit size) p h))
+        (subst (λ q. Meet (extent_at p) (extent_at q)) (sym (same_Some (data_byte byte) q k)) m))
     cases (suc zero) zero h k ne m =
-        swapped (subst (λ p. Meet (extent_at p) (extent_at (unit_at_reset unit size))) (sym (same_Some (data_byte byte) p h)) (subst (λ q. Meet (extent_at p) (extent_at q)) (sym (same_Some (unit_at_reset unit size) q k)) m))
+        swapped (subst (λ p. Meet (extent_at p) (extent_at (unit_at_reset unit size)))
+        (sym (same_Some (data_byte byte) p h))
+        (subst (λ q. Meet (extent_at p) (extent_at q)) (sym (same_Some (unit_at_reset unit size) q k)) m))
     cases (suc zero) (suc zero) h k ne m = ne refl
     cases zero (suc (suc t)) h k ne m = absurd (cc k)
     cases (suc zero) (suc (suc t)) h k ne m = absurd (cc k)
@@ -87,7 +106,14 @@ module _ (unit byte : List ℕ) (size : ℕ) (some : 0 < size) (small : size < 6
   }
 
   root : IsRootAt sample 0 0
-  root = record { vector_is = (0, omega arith, refl); is = unit_at_reset unit size; unit_is = record { segment = 0; unit_is = refl; placed = refl }; code = refl; absolute = refl; base = refl }
+  root = record {
+    vector_is = (0, omega arith, refl);
+    is = unit_at_reset unit size;
+    unit_is = record { segment = 0; unit_is = refl; placed = refl };
+    code = refl;
+    absolute = refl;
+    base = refl;
+  }
 
   pub sample_is_sound : (l : LayoutParts) → l ≡ sample → IsSound l
   sample_is_sound l is = subst IsSound (sym is) sound

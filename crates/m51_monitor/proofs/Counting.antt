@@ -1,5 +1,6 @@
 -- How many units the records name, and how often each.
-use Rattle.std.proofs.Common.{◌≡◌, ◌≢◌, ◌⊎◌, inl, inr, ℕ, suc, ◌+◌, ◌*◌, ◌<◌, ◌≤◌, Bool, true, false, List, [], ◌∷◌, ◌++◌, refl, sym, ap, subst, ◌∙◌, ⊎_elim, arith, length, length-append, eqb, nat_eq}
+use Rattle.std.proofs.Common.{◌≡◌, ◌≢◌, ◌⊎◌, inl, inr, ℕ, suc, ◌+◌, ◌*◌, ◌<◌, ◌≤◌, Bool, true, false, List, [], ◌∷◌}
+use Rattle.std.proofs.Common.{◌++◌, refl, sym, ap, subst, ◌∙◌, ⊎_elim, arith, length, length-append, eqb, nat_eq}
 use Rattle.std.specs.List.{Contains, list_any, IsDistinct, AllByRecursion}
 use Rattle.std.proofs.lemmas.Bool.Decides.{eqb_tells}
 use Rattle.std.proofs.lemmas.List.Elements.{Contains-append_cases}
@@ -16,12 +17,15 @@ use Rattle.m51_monitor.specs.declared.cause.Cause.{Cause}
 use Rattle.m51_monitor.specs.declared.cause.Cause.TheVariants.{Call, Interrupt}
 use Rattle.m51_monitor.specs.Activity.{times, MayEnter}
 use Rattle.m51_monitor.specs.Monitored.{AreActivations}
-use Rattle.m51_monitor.specs.Records.{ReturnRecord, Records, one_more_where, is_among, naming, naming_over, units_named, named_over, first_or, running, BeginsAt, WalksOn, IsWalkAbove, AreWalksOver, AreWalks}
+use Rattle.m51_monitor.specs.Records.{ReturnRecord, Records, one_more_where, is_among, naming, naming_over, units_named}
+use Rattle.m51_monitor.specs.Records.{named_over, first_or, running, BeginsAt, WalksOn, IsWalkAbove, AreWalksOver}
+use Rattle.m51_monitor.specs.Records.{AreWalks}
 use Rattle.m51_monitor.specs.Related.{AreRelatedAll}
 use Rattle.m51_monitor.specs.Rising.{one_more, interrupts}
 use Rattle.m51_flat.specs.Vectors.{vector_of}
 use Rattle.m51_monitor.proofs.Entering.{times_same}
-use Rattle.m51_monitor.proofs.Lists.{Differ, contains_tail, contains_cases, differ_times, first_append, among_tells, most_one, no_plus}
+use Rattle.m51_monitor.proofs.Lists.{Differ, contains_tail, contains_cases, differ_times, first_append, among_tells}
+use Rattle.m51_monitor.proofs.Lists.{most_one, no_plus}
 use Rattle.m51_monitor.proofs.Standing.{all_related}
 
 where_plus : (b : Bool) (n k : ℕ) → one_more_where b n + k ≡ one_more_where b (n + k)
@@ -30,9 +34,11 @@ where_plus false n k = refl
 
 times_append : (us vs : List ℕ) (u : ℕ) → times (us ++ vs) u ≡ times us u + times vs u
 times_append [] vs u = omega arith
-times_append (x ∷ us) vs u = ap (one_more_where (nat_eq x u)) (times_append us vs u) ∙ sym (where_plus (nat_eq x u) (times us u) (times vs u))
+times_append (x ∷ us) vs u = ap (one_more_where (nat_eq x u)) (times_append us vs u)
+    ∙ sym (where_plus (nat_eq x u) (times us u) (times vs u))
 
--- The walk that runs, and what is below it: at most a thousand units, and each at most once, for each of the other roots.
+-- The walk that runs, and what is below it: at most a thousand units, and each at most once, for each of the other
+-- roots.
 record Walked (l : LayoutParts) (c others : ℕ) (us : List ℕ) : Type 0 where
   top : List ℕ
   below : List ℕ
@@ -47,14 +53,17 @@ few_more : (n k : ℕ) → k ≤ 1000 * (n + 1) → k ≤ 1000 * suc n
 few_more n k h = omega (arith, h)
 
 module _ (l : LayoutParts) (sound : IsSound l) where
-  walked_root : (v r others : ℕ) (us : List ℕ) → IsRootAt l v r → length us ≤ 1000 * others → ((u : ℕ) → times us u ≤ others) → Walked l r others (r ∷ us)
+  walked_root : (v r others : ℕ) (us : List ℕ) → IsRootAt l v r → length us ≤ 1000 * others
+      → ((u : ℕ) → times us u ≤ others) → Walked l r others (r ∷ us)
   walked_root v r others us h few rare = record {
     top = r ∷ [];
     below = us;
     is = refl;
     differ = (none_in_empty r, tt);
-    leads = λ a k. ⊎_elim (λ (e : a ≡ r). inl e) (λ (k : Contains [] a). absurd (none_in_empty a k)) (contains_cases a r [] k);
-    units = λ a k. ⊎_elim (λ (e : a ≡ r). subst (λ a. a < length l.units) (sym e) (root_below l v r h)) (λ (k : Contains [] a). absurd (none_in_empty a k)) (contains_cases a r [] k);
+    leads = λ a k. ⊎_elim (λ (e : a ≡ r). inl e) (λ (k : Contains [] a). absurd (none_in_empty a k))
+        (contains_cases a r [] k);
+    units = λ a k. ⊎_elim (λ (e : a ≡ r). subst (λ a. a < length l.units) (sym e) (root_below l v r h))
+        (λ (k : Contains [] a). absurd (none_in_empty a k)) (contains_cases a r [] k);
     few = few;
     rare = rare;
   }
@@ -65,8 +74,10 @@ module _ (l : LayoutParts) (sound : IsSound l) where
     below = w.below;
     is = ap (λ us. v ∷ us) w.is;
     differ = (λ k. sound.no_cycle v (lead_on l.edges v c v (w.leads v k) h), w.differ);
-    leads = λ a k. ⊎_elim (λ (e : a ≡ v). inl e) (λ (k : Contains w.top a). inr (lead_on l.edges a c v (w.leads a k) h)) (contains_cases a v w.top k);
-    units = λ a k. ⊎_elim (λ (e : a ≡ v). subst (λ a. a < length l.units) (sym e) (sound.edges c v h).1) (λ (k : Contains w.top a). w.units a k) (contains_cases a v w.top k);
+    leads = λ a k. ⊎_elim (λ (e : a ≡ v). inl e) (λ (k : Contains w.top a). inr (lead_on l.edges a c v (w.leads a k) h))
+        (contains_cases a v w.top k);
+    units = λ a k. ⊎_elim (λ (e : a ≡ v). subst (λ a. a < length l.units) (sym e) (sound.edges c v h).1)
+        (λ (k : Contains w.top a). w.units a k) (contains_cases a v w.top k);
     few = w.few;
     rare = w.rare;
   }
@@ -75,7 +86,8 @@ module _ (l : LayoutParts) (sound : IsSound l) where
   none_equal u [] h = tt
   none_equal u (y ∷ ys) h = (
     ⊎_elim
-        (λ (t : (eqb u y ≡ true) × (u ≡ y)). absurd (h (subst (λ x. Contains (y ∷ ys) x) (sym t.1) (contains_first y ys))))
+        (λ (t : (eqb u y ≡ true) × (u ≡ y)). absurd
+        (h (subst (λ x. Contains (y ∷ ys) x) (sym t.1) (contains_first y ys))))
         (λ (t : (eqb u y ≡ false) × (u ≢ y)). t.0)
         (eqb_tells u y),
     none_equal u ys (λ k. h (contains_tail u y ys k)),
@@ -88,7 +100,8 @@ module _ (l : LayoutParts) (sound : IsSound l) where
 
   walked_few : (c others : ℕ) (us : List ℕ) → Walked l c others us → length us ≤ 1000 * (others + 1)
   walked_few c others us w =
-      let top : length w.top ≤ length l.units = length-le_from_distinct_below w.top (length l.units) (differ_is w.top w.differ) (λ q e. ⊎_elim
+      let top : length w.top ≤ length l.units =
+      length-le_from_distinct_below w.top (length l.units) (differ_is w.top w.differ) (λ q e. ⊎_elim
       (λ (t : (list_any (eqb q) w.top ≡ true) × Contains w.top q). w.units q t.1)
       (λ (t : (list_any (eqb q) w.top ≡ false) × (Contains w.top q → ⊥)). absurd (cc (e, t.0)))
       (among_tells w.top q)) in
@@ -99,60 +112,82 @@ module _ (l : LayoutParts) (sound : IsSound l) where
 
   walked_rare : (c others : ℕ) (us : List ℕ) → Walked l c others us → (u : ℕ) → times us u ≤ others + 1
   walked_rare c others us w u =
-      let all : times us u ≡ times w.top u + times w.below u = ap (λ us. times us u) w.is ∙ times_append w.top w.below u in
+      let all : times us u ≡ times w.top u + times w.below u =
+      ap (λ us. times us u) w.is ∙ times_append w.top w.below u in
       let top : times w.top u ≡ one_more_where (is_among w.top u) 0 = differ_times w.top u w.differ in
       omega (arith, all, top, most_one (is_among w.top u), w.rare u)
 
-  begin_few : (v others : ℕ) (below us : List ℕ) → length below ≤ 1000 * others → ((u : ℕ) → times below u ≤ others) → BeginsAt l v us → Walked l (first_or (us ++ below) 0) others (us ++ below)
+  begin_few : (v others : ℕ) (below us : List ℕ) → length below ≤ 1000 * others → ((u : ℕ) → times below u ≤ others)
+      → BeginsAt l v us → Walked l (first_or (us ++ below) 0) others (us ++ below)
   begin_few v others below [] few rare h = absurd h
   begin_few v others below (u ∷ []) few rare h = walked_root v u others below h few rare
-  begin_few v others below (t ∷ u ∷ us) few rare h = walked_on u t others (u ∷ us ++ below) (begin_few v others below (u ∷ us) few rare h.1) h.0
+  begin_few v others below (t ∷ u ∷ us) few rare h =
+      walked_on u t others (u ∷ us ++ below) (begin_few v others below (u ∷ us) few rare h.1) h.0
 
-  go_few : (others : ℕ) (below us : List ℕ) → Walked l (first_or below 0) others below → WalksOn l.edges (first_or below 0) us → Walked l (first_or (us ++ below) 0) others (us ++ below)
+  go_few : (others : ℕ) (below us : List ℕ) → Walked l (first_or below 0) others below
+      → WalksOn l.edges (first_or below 0) us → Walked l (first_or (us ++ below) 0) others (us ++ below)
   go_few others below [] w h = w
-  go_few others below (v ∷ vs) w h = walked_on (first_or (vs ++ below) 0) v others (vs ++ below) (go_few others below vs w h.1) (subst (λ u. HasEdge l.edges u v) (sym (first_append vs below 0)) h.0)
+  go_few others below (v ∷ vs) w h =
+      walked_on (first_or (vs ++ below) 0) v others (vs ++ below) (go_few others below vs w h.1)
+      (subst (λ u. HasEdge l.edges u v) (sym (first_append vs below 0)) h.0)
 
   begin_first_few : (reset : List ℕ) → BeginsAt l 0 reset → Walked l (first_or reset 0) 0 reset
   begin_first_few [] h = absurd h
   begin_first_few (u ∷ []) h = walked_root 0 u 0 [] h (omega arith) (λ u. omega arith)
   begin_first_few (t ∷ u ∷ us) h = walked_on u t 0 (u ∷ us) (begin_first_few (u ∷ us) h.1) h.0
 
-  above_few : (busy below : List ℕ) (others : ℕ) (cause : Cause) (us : List ℕ) → IsWalkAbove l below busy cause us → Walked l (first_or below 0) others below → Walked l (first_or (us ++ below) 0) (one_more cause others) (us ++ below)
+  above_few : (busy below : List ℕ) (others : ℕ) (cause : Cause) (us : List ℕ) → IsWalkAbove l below busy cause us
+      → Walked l (first_or below 0) others below
+      → Walked l (first_or (us ++ below) 0) (one_more cause others) (us ++ below)
   above_few busy below others Call us h w = go_few others below us w h
-  above_few busy below others (Interrupt source) us h w = begin_few (vector_of source) (others + 1) below us (walked_few (first_or below 0) others below w) (walked_rare (first_or below 0) others below w) h.0
+  above_few busy below others (Interrupt source) us h w =
+      begin_few (vector_of source) (others + 1) below us (walked_few (first_or below 0) others below w)
+      (walked_rare (first_or below 0) others below w) h.0
 
-  over_few : (reset : List ℕ) (rs : List ReturnRecord) → AreWalksOver l reset rs → Walked l (first_or (named_over reset rs) 0) (interrupts rs) (named_over reset rs)
+  over_few : (reset : List ℕ) (rs : List ReturnRecord) → AreWalksOver l reset rs
+      → Walked l (first_or (named_over reset rs) 0) (interrupts rs) (named_over reset rs)
   over_few reset [] h = begin_first_few reset h
-  over_few reset (r ∷ rs) h = above_few (running rs) (named_over reset rs) (interrupts rs) r.cause r.units h.0 (over_few reset rs h.1)
+  over_few reset (r ∷ rs) h =
+      above_few (running rs) (named_over reset rs) (interrupts rs) r.cause r.units h.0 (over_few reset rs h.1)
 
   -- units of a record are different
-  walk_differs : (c : ℕ) (us : List ℕ) → WalksOn l.edges c us → Differ us × ((a : ℕ) → Contains us a → (a ≡ first_or us c) ⊎ Reaches l.edges a (first_or us c))
+  walk_differs : (c : ℕ) (us : List ℕ) → WalksOn l.edges c us
+      → Differ us × ((a : ℕ) → Contains us a → (a ≡ first_or us c) ⊎ Reaches l.edges a (first_or us c))
   walk_differs c [] h = (tt, λ a k. absurd (none_in_empty a k))
   walk_differs c (v ∷ vs) h =
       let w = walk_differs c vs h.1 in (
         (λ k. sound.no_cycle v (lead_on l.edges v (first_or vs c) v (w.1 v k) h.0), w.0),
-        λ a k. ⊎_elim (λ (e : a ≡ v). inl e) (λ (q : Contains vs a). inr (lead_on l.edges a (first_or vs c) v (w.1 a q) h.0)) (contains_cases a v vs k),
+        λ a k. ⊎_elim (λ (e : a ≡ v). inl e)
+            (λ (q : Contains vs a). inr (lead_on l.edges a (first_or vs c) v (w.1 a q) h.0)) (contains_cases a v vs k),
       )
 
-  root_differs : (v : ℕ) (us : List ℕ) → BeginsAt l v us → Differ us × ((a : ℕ) → Contains us a → (a ≡ first_or us 0) ⊎ Reaches l.edges a (first_or us 0))
+  root_differs : (v : ℕ) (us : List ℕ) → BeginsAt l v us
+      → Differ us × ((a : ℕ) → Contains us a → (a ≡ first_or us 0) ⊎ Reaches l.edges a (first_or us 0))
   root_differs v [] h = absurd h
-  root_differs v (u ∷ []) h = ((none_in_empty u, tt), λ a k. ⊎_elim (λ (e : a ≡ u). inl e) (λ (q : Contains [] a). absurd (none_in_empty a q)) (contains_cases a u [] k))
+  root_differs v (u ∷ []) h = (
+    (none_in_empty u, tt),
+    λ a k. ⊎_elim (λ (e : a ≡ u). inl e) (λ (q : Contains [] a). absurd (none_in_empty a q))
+        (contains_cases a u [] k),
+  )
   root_differs v (t ∷ u ∷ us) h =
       let w = root_differs v (u ∷ us) h.1 in (
         (λ k. sound.no_cycle t (lead_on l.edges t u t (w.1 t k) h.0), w.0),
-        λ a k. ⊎_elim (λ (e : a ≡ t). inl e) (λ (q : Contains (u ∷ us) a). inr (lead_on l.edges a u t (w.1 a q) h.0)) (contains_cases a t (u ∷ us) k),
+        λ a k. ⊎_elim (λ (e : a ≡ t). inl e) (λ (q : Contains (u ∷ us) a). inr (lead_on l.edges a u t (w.1 a q) h.0))
+            (contains_cases a t (u ∷ us) k),
       )
 
   record_differs : (below busy : List ℕ) (cause : Cause) (us : List ℕ) → IsWalkAbove l below busy cause us → Differ us
   record_differs below busy Call us h = (walk_differs (first_or below 0) us h).0
   record_differs below busy (Interrupt source) us h = (root_differs (vector_of source) us h.0).0
 
-  naming_is : (reset : List ℕ) (rs : List ReturnRecord) (u : ℕ) → AreWalksOver l reset rs → naming_over reset rs u ≡ times (named_over reset rs) u
+  naming_is : (reset : List ℕ) (rs : List ReturnRecord) (u : ℕ) → AreWalksOver l reset rs
+      → naming_over reset rs u ≡ times (named_over reset rs) u
   naming_is reset [] u h = sym (differ_times reset u (root_differs 0 reset h).0)
   naming_is reset (r ∷ rs) u h =
       ap (one_more_where (is_among r.units u)) (naming_is reset rs u h.1)
       ∙ no_plus (is_among r.units u) (times (named_over reset rs) u)
-      ∙ ap (λ n. n + times (named_over reset rs) u) (sym (differ_times r.units u (record_differs (named_over reset rs) (running rs) r.cause r.units h.0)))
+      ∙ ap (λ n. n + times (named_over reset rs) u)
+      (sym (differ_times r.units u (record_differs (named_over reset rs) (running rs) r.cause r.units h.0)))
       ∙ sym (times_append r.units (named_over reset rs) u)
 
   -- the number of records that name a unit is how often it is named
@@ -161,12 +196,14 @@ module _ (l : LayoutParts) (sound : IsSound l) where
 
   pub named_few : (a : Records) → AreActivations l a → length (units_named a) ≤ 3000
   named_few a h =
-      let few = walked_few (first_or (units_named a) 0) (interrupts a.returns) (units_named a) (over_few a.reset a.returns h.stand.over) in
+      let few = walked_few (first_or (units_named a) 0) (interrupts a.returns) (units_named a)
+      (over_few a.reset a.returns h.stand.over) in
       omega (arith, few, h.levels)
 
   pub named_rare : (a : Records) (u : ℕ) → AreActivations l a → times (units_named a) u ≤ 3
   named_rare a u h =
-      let rare = walked_rare (first_or (units_named a) 0) (interrupts a.returns) (units_named a) (over_few a.reset a.returns h.stand.over) u in
+      let rare = walked_rare (first_or (units_named a) 0) (interrupts a.returns) (units_named a)
+      (over_few a.reset a.returns h.stand.over) u in
       omega (arith, rare, h.levels)
 
   -- what is named is a unit
@@ -188,11 +225,13 @@ module _ (l : LayoutParts) (sound : IsSound l) where
       (λ (q : Contains (u ∷ us) a). root_units v (u ∷ us) h.1 a q)
       (contains_cases a t (u ∷ us) k)
 
-  record_below : (below busy : List ℕ) (cause : Cause) (us : List ℕ) → IsWalkAbove l below busy cause us → (a : ℕ) → Contains us a → a < length l.units
+  record_below : (below busy : List ℕ) (cause : Cause) (us : List ℕ) → IsWalkAbove l below busy cause us → (a : ℕ)
+      → Contains us a → a < length l.units
   record_below below busy Call us h = walk_below (first_or below 0) us h
   record_below below busy (Interrupt source) us h = root_units (vector_of source) us h.0
 
-  over_below : (reset : List ℕ) (rs : List ReturnRecord) → AreWalksOver l reset rs → (a : ℕ) → Contains (named_over reset rs) a → a < length l.units
+  over_below : (reset : List ℕ) (rs : List ReturnRecord) → AreWalksOver l reset rs → (a : ℕ)
+      → Contains (named_over reset rs) a → a < length l.units
   over_below reset [] h a k = root_units 0 reset h a k
   over_below reset (r ∷ rs) h a k = ⊎_elim
       (λ (q : Contains r.units a). record_below (named_over reset rs) (running rs) r.cause r.units h.0 a q)
@@ -211,9 +250,11 @@ module _ (l : LayoutParts) (sound : IsSound l) where
     related = subst (AreRelatedAll l) e (all_related l b h.stand);
   }
 
-  pub first_below : (b : Records) → AreActivations l b → 0 < length (units_named b) → first_or (units_named b) 0 < length l.units
+  pub first_below : (b : Records) → AreActivations l b → 0 < length (units_named b)
+      → first_or (units_named b) 0 < length l.units
   first_below b h some = first (units_named b) some (over_below b.reset b.returns h.stand.over)
     where
-      first : (us : List ℕ) → 0 < length us → ((a : ℕ) → Contains us a → a < length l.units) → first_or us 0 < length l.units
+      first : (us : List ℕ) → 0 < length us → ((a : ℕ) → Contains us a → a < length l.units)
+          → first_or us 0 < length l.units
       first [] some all = absurd (omega (arith, some))
       first (u ∷ us) some all = all u (contains_first u us)

@@ -1,5 +1,7 @@
 -- How many of the named units own each segment.
-use Rattle.std.proofs.Common.{◌≡◌, ◌≢◌, ◌⊎◌, inl, inr, ℕ, suc, ◌+◌, ◌-◌, ◌<◌, ◌≤◌, Bool, true, false, nat_eq, List, [], ◌∷◌, ◌++◌, length, drop, take, refl, sym, ap, subst, ◌∙◌, ⊎_elim, arith, get_or-set_same, get_or-set_other}
+use Rattle.std.proofs.Common.{◌≡◌, ◌≢◌, ◌⊎◌, inl, inr, ℕ, suc, ◌+◌, ◌-◌, ◌<◌, ◌≤◌, Bool, true, false, nat_eq, List, []}
+use Rattle.std.proofs.Common.{◌∷◌, ◌++◌, length, drop, take, refl, sym, ap, subst, ◌∙◌, ⊎_elim, arith, get_or-set_same}
+use Rattle.std.proofs.Common.{get_or-set_other}
 use Rattle.std.specs.Prelude.{slice_index, slice_set}
 use Rattle.std.specs.List.{Contains}
 use Rattle.std.proofs.Math.Seq.{take-append_seam}
@@ -12,16 +14,25 @@ use Rattle.m51_module.specs.Rising.{Rises}
 use Rattle.m51_module.proofs.Owning.{none_in_empty}
 use Rattle.m51_monitor.specs.Activity.{AreHolders, holding, times}
 use Rattle.m51_monitor.specs.Records.{is_among, one_more_where}
-use Rattle.m51_monitor.proofs.Lists.{Differ, among_tells, contains_cases, contains_tail, differ_times, most_one, no_plus}
+use Rattle.m51_monitor.proofs.Lists.{Differ, among_tells, contains_cases, contains_tail, differ_times, most_one}
+use Rattle.m51_monitor.proofs.Lists.{no_plus}
 
 -- no named unit owns the segment, or one does
-pub holding_tells : (l : LayoutParts) (us : List ℕ) (t : ℕ) → ((holding l us t ≡ 0) × ((u : ℕ) → Owns l u t → Contains us u → ⊥)) ⊎ ((0 < holding l us t) × ((u : ℕ) × Owns l u t × Contains us u))
+pub holding_tells : (l : LayoutParts) (us : List ℕ) (t : ℕ)
+    → ((holding l us t ≡ 0) × ((u : ℕ) → Owns l u t → Contains us u → ⊥)) ⊎
+    ((0 < holding l us t) × ((u : ℕ) × Owns l u t × Contains us u))
 holding_tells l [] t = inl (refl, λ u o k. none_in_empty u k)
 holding_tells l (v ∷ us) t = ⊎_elim
-    (λ (a : (is_among (owners_of l.owners t) v ≡ true) × Owns l v t). inr (rw a.0 (omega arith), (v, a.1, contains_first v us)))
+    (λ (a : (is_among (owners_of l.owners t) v ≡ true) × Owns l v t). inr
+    (rw a.0 (omega arith), (v, a.1, contains_first v us)))
     (λ (a : (is_among (owners_of l.owners t) v ≡ false) × (Owns l v t → ⊥)). ⊎_elim
-    (λ (q : (holding l us t ≡ 0) × ((u : ℕ) → Owns l u t → Contains us u → ⊥)). inl (rw a.0 q.0, λ u o k. ⊎_elim (λ (e : u ≡ v). a.1 (subst (λ u. Owns l u t) e o)) (λ (k : Contains us u). q.1 u o k) (contains_cases u v us k)))
-    (λ (q : (0 < holding l us t) × ((u : ℕ) × Owns l u t × Contains us u)). inr (rw a.0 q.0, (q.1.0, q.1.1, contains_tail q.1.0 v us q.1.2)))
+    (λ (q : (holding l us t ≡ 0) × ((u : ℕ) → Owns l u t → Contains us u → ⊥)). inl (
+      rw a.0 q.0,
+      λ u o k. ⊎_elim (λ (e : u ≡ v). a.1 (subst (λ u. Owns l u t) e o))
+          (λ (k : Contains us u). q.1 u o k) (contains_cases u v us k),
+    ))
+    (λ (q : (0 < holding l us t) × ((u : ℕ) × Owns l u t × Contains us u)). inr
+    (rw a.0 q.0, (q.1.0, q.1.1, contains_tail q.1.0 v us q.1.2)))
     (holding_tells l us t))
     (among_tells (owners_of l.owners t) v)
 
@@ -31,12 +42,15 @@ where_few false n k h = omega (arith, h)
 
 holding_few : (l : LayoutParts) (us : List ℕ) (t : ℕ) → holding l us t ≤ length us
 holding_few l [] t = omega arith
-holding_few l (u ∷ us) t = let few = where_few (is_among (owners_of l.owners t) u) (holding l us t) (length us) (holding_few l us t) in omega (arith, few)
+holding_few l (u ∷ us) t = let few =
+    where_few (is_among (owners_of l.owners t) u) (holding l us t) (length us) (holding_few l us t) in
+    omega (arith, few)
 
 rises_differ : (xs : List ℕ) → Rises xs → Differ xs
 rises_differ [] h = tt
 rises_differ (x ∷ xs) h = (
-  λ k. let less : x < x = subst (λ y. x < y) k.2 (h 0 (suc k.0) x (omega arith) (omega (arith, k.1))) in omega (arith, less),
+  λ k. let less : x < x = subst (λ y. x < y) k.2 (h 0 (suc k.0) x (omega arith) (omega (arith, k.1))) in
+      omega (arith, less),
   rises_differ xs (λ i j d before inside. h (suc i) (suc j) d (omega (arith, before)) (omega (arith, inside))),
 )
 
@@ -62,25 +76,29 @@ module _ (l : LayoutParts) (u : ℕ) (locals : List ℕ) (are : AreLocals l u lo
       ∙ ap (λ b. one_more_where b 0 + holding l us t) (sym (same_among t))
       ∙ ap (λ n. n + holding l us t) (sym (locals_times t))
 
-  pub held_more : (us old new : List ℕ) → AreHolders l us old → length new ≡ length old → ((t : ℕ) → slice_index new t ≡ slice_index old t + times locals t) → AreHolders l (u ∷ us) new
+  pub held_more : (us old new : List ℕ) → AreHolders l us old → length new ≡ length old
+      → ((t : ℕ) → slice_index new t ≡ slice_index old t + times locals t) → AreHolders l (u ∷ us) new
   held_more us old new are_old len each = record {
     len = len ∙ are_old.len;
     number = λ t h. let e = each t in let n = are_old.number t h in let o = one_holder us t in omega (arith, e, n, o);
   }
 
-  pub held_less : (us old new : List ℕ) → AreHolders l (u ∷ us) old → length new ≡ length old → ((t : ℕ) → slice_index new t + times locals t ≡ slice_index old t) → AreHolders l us new
+  pub held_less : (us old new : List ℕ) → AreHolders l (u ∷ us) old → length new ≡ length old
+      → ((t : ℕ) → slice_index new t + times locals t ≡ slice_index old t) → AreHolders l us new
   held_less us old new are_old len each = record {
     len = len ∙ are_old.len;
     number = λ t h. let e = each t in let n = are_old.number t h in let o = one_holder us t in omega (arith, e, n, o);
   }
 
-  pub room_for : (us old : List ℕ) → AreHolders l us old → length us < 3000 → (t : ℕ) → t < length old → slice_index old t + times locals t < 65536
+  pub room_for : (us old : List ℕ) → AreHolders l us old → length us < 3000 → (t : ℕ) → t < length old
+      → slice_index old t + times locals t < 65536
   room_for us old are_old few t h =
       let n = are_old.number t (omega (arith, h, are_old.len)) in
       let one = most_one (is_among locals t) in
       omega (arith, few, n, one, locals_times t, holding_few l us t)
 
-  pub some_held : (us old : List ℕ) → AreHolders l (u ∷ us) old → (t : ℕ) → t < length old → times locals t ≤ slice_index old t
+  pub some_held : (us old : List ℕ) → AreHolders l (u ∷ us) old → (t : ℕ) → t < length old
+      → times locals t ≤ slice_index old t
   some_held us old are_old t h =
       let n = are_old.number t (omega (arith, h, are_old.len)) in
       omega (arith, n, one_holder us t)
@@ -89,13 +107,17 @@ module _ (l : LayoutParts) (u : ℕ) (locals : List ℕ) (are : AreLocals l u lo
 abbrev pub left : List ℕ → ℕ → ℕ → ℕ
 left locals place t = times (drop place locals) t
 
-left_same : (locals : List ℕ) (place : ℕ) → place < length locals → left locals place (slice_index locals place) ≡ left locals (place + 1) (slice_index locals place) + 1
-left_same locals place inside = ap (λ xs. times xs (slice_index locals place)) (drop_more locals place 0 inside) ∙ here (slice_index locals place) (drop (place + 1) locals)
+left_same : (locals : List ℕ) (place : ℕ) → place < length locals
+    → left locals place (slice_index locals place) ≡ left locals (place + 1) (slice_index locals place) + 1
+left_same locals place inside = ap (λ xs. times xs (slice_index locals place)) (drop_more locals place 0 inside)
+    ∙ here (slice_index locals place) (drop (place + 1) locals)
   where
     here : (u : ℕ) (us : List ℕ) → times (u ∷ us) u ≡ times us u + 1
-    here u us = ⊎_elim (λ (t : (nat_eq u u ≡ true) × (u ≡ u)). rw t.0 refl) (λ (t : (nat_eq u u ≡ false) × (u ≢ u)). absurd (t.1 refl)) (eqb_tells u u)
+    here u us = ⊎_elim (λ (t : (nat_eq u u ≡ true) × (u ≡ u)). rw t.0 refl)
+        (λ (t : (nat_eq u u ≡ false) × (u ≢ u)). absurd (t.1 refl)) (eqb_tells u u)
 
-left_other : (locals : List ℕ) (place t : ℕ) → place < length locals → slice_index locals place ≢ t → left locals place t ≡ left locals (place + 1) t
+left_other : (locals : List ℕ) (place t : ℕ) → place < length locals → slice_index locals place ≢ t
+    → left locals place t ≡ left locals (place + 1) t
 left_other locals place t inside ne = ap (λ xs. times xs t) (drop_more locals place 0 inside) ∙ ⊎_elim
     (λ (e : (nat_eq (slice_index locals place) t ≡ true) × (slice_index locals place ≡ t)). absurd (ne e.1))
     (λ (e : (nat_eq (slice_index locals place) t ≡ false) × (slice_index locals place ≢ t)). rw e.0 refl)
@@ -104,27 +126,39 @@ left_other locals place t inside ne = ap (λ xs. times xs t) (drop_more locals p
 pub left_some : (locals : List ℕ) (place : ℕ) → place < length locals → 1 ≤ left locals place (slice_index locals place)
 left_some locals place inside = let e = left_same locals place inside in omega (arith, e)
 
-module _ (locals now old : List ℕ) (place : ℕ) (inside : place < length locals) (here : slice_index locals place < length now) where
+module _ (locals now old : List ℕ) (place : ℕ) (inside : place < length locals)
+    (here : slice_index locals place < length now) where
   pub one_more : ((t : ℕ) → slice_index now t + left locals place t ≡ slice_index old t + times locals t)
-      → (t : ℕ) → slice_index (slice_set now (slice_index locals place) (slice_index now (slice_index locals place) + 1)) t + left locals (place + 1) t ≡ slice_index old t + times locals t
+      → (t : ℕ) → slice_index
+      (slice_set now (slice_index locals place) (slice_index now (slice_index locals place) + 1)) t + left locals
+      (place + 1) t ≡ slice_index old t + times locals t
   one_more all t = ⊎_elim
       (λ (e : (nat_eq (slice_index locals place) t ≡ true) × (slice_index locals place ≡ t)). subst
-      (λ t. slice_index (slice_set now (slice_index locals place) (slice_index now (slice_index locals place) + 1)) t + left locals (place + 1) t ≡ slice_index old t + times locals t)
+      (λ t. slice_index (slice_set now (slice_index locals place) (slice_index now (slice_index locals place) + 1))
+      t + left locals (place + 1) t ≡ slice_index old t + times locals t)
       e.1
-      (let set = get_or-set_same now (slice_index locals place) (slice_index now (slice_index locals place) + 1) 0 here in omega (arith, set, left_same locals place inside, all (slice_index locals place))))
+      (let set = get_or-set_same now (slice_index locals place) (slice_index now (slice_index locals place) + 1) 0
+      here in omega (arith, set, left_same locals place inside, all (slice_index locals place))))
       (λ (e : (nat_eq (slice_index locals place) t ≡ false) × (slice_index locals place ≢ t)).
-      let set = get_or-set_other now (slice_index locals place) t (slice_index now (slice_index locals place) + 1) 0 (λ same. e.1 (sym same)) in omega (arith, set, left_other locals place t inside e.1, all t))
+      let set = get_or-set_other now (slice_index locals place) t (slice_index now (slice_index locals place) + 1) 0
+      (λ same. e.1 (sym same)) in omega (arith, set, left_other locals place t inside e.1, all t))
       (eqb_tells (slice_index locals place) t)
 
-  pub one_less : 1 ≤ slice_index now (slice_index locals place) → ((t : ℕ) → slice_index now t + times locals t ≡ slice_index old t + left locals place t)
-      → (t : ℕ) → slice_index (slice_set now (slice_index locals place) (slice_index now (slice_index locals place) - 1)) t + times locals t ≡ slice_index old t + left locals (place + 1) t
+  pub one_less : 1 ≤ slice_index now (slice_index locals place)
+      → ((t : ℕ) → slice_index now t + times locals t ≡ slice_index old t + left locals place t)
+      → (t : ℕ) → slice_index
+      (slice_set now (slice_index locals place) (slice_index now (slice_index locals place) - 1)) t + times locals t
+      ≡ slice_index old t + left locals (place + 1) t
   one_less some all t = ⊎_elim
       (λ (e : (nat_eq (slice_index locals place) t ≡ true) × (slice_index locals place ≡ t)). subst
-      (λ t. slice_index (slice_set now (slice_index locals place) (slice_index now (slice_index locals place) - 1)) t + times locals t ≡ slice_index old t + left locals (place + 1) t)
+      (λ t. slice_index (slice_set now (slice_index locals place) (slice_index now (slice_index locals place) - 1))
+      t + times locals t ≡ slice_index old t + left locals (place + 1) t)
       e.1
-      (let set = get_or-set_same now (slice_index locals place) (slice_index now (slice_index locals place) - 1) 0 here in omega (arith, some, set, left_same locals place inside, all (slice_index locals place))))
+      (let set = get_or-set_same now (slice_index locals place) (slice_index now (slice_index locals place) - 1) 0
+      here in omega (arith, some, set, left_same locals place inside, all (slice_index locals place))))
       (λ (e : (nat_eq (slice_index locals place) t ≡ false) × (slice_index locals place ≢ t)).
-      let set = get_or-set_other now (slice_index locals place) t (slice_index now (slice_index locals place) - 1) 0 (λ same. e.1 (sym same)) in omega (arith, set, left_other locals place t inside e.1, all t))
+      let set = get_or-set_other now (slice_index locals place) t (slice_index now (slice_index locals place) - 1) 0
+      (λ same. e.1 (sym same)) in omega (arith, set, left_other locals place t inside e.1, all t))
       (eqb_tells (slice_index locals place) t)
 
 -- at the end nothing is left
@@ -134,4 +168,5 @@ none_left (x ∷ locals) t = none_left locals t
 
 -- a list that is borrowed whole and given back as long is what was given back
 pub whole_row : (count : ℕ) (old new : List ℕ) → count ≡ length new → take count (new ++ drop (length new) old) ≡ new
-whole_row count old new e = ap (λ n. take n (new ++ drop (length new) old)) e ∙ take-append_seam new (drop (length new) old)
+whole_row count old new e = ap (λ n. take n (new ++ drop (length new) old)) e
+    ∙ take-append_seam new (drop (length new) old)

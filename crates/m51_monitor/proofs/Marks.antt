@@ -1,5 +1,6 @@
 -- Masks after the cells of an extent are marked.
-use Rattle.std.proofs.Common.{◌≡◌, ◌≢◌, ◌⊎◌, inl, inr, ℕ, ◌+◌, ◌<◌, ◌≤◌, Bool, false, List, refl, sym, subst, ◌∙◌, ⊎_elim, arith}
+use Rattle.std.proofs.Common.{◌≡◌, ◌≢◌, ◌⊎◌, inl, inr, ℕ, ◌+◌, ◌<◌, ◌≤◌, Bool, false, List, refl, sym, subst, ◌∙◌}
+use Rattle.std.proofs.Common.{⊎_elim, arith}
 use Rattle.std.specs.Prelude.{slice_index_or}
 use Rattle.std.proofs.lemmas.Bool.{cases_lt}
 use Rattle.m51_cells.specs.declared.cell.Cell.{Cell}
@@ -15,20 +16,24 @@ use Rattle.m51_monitor.specs.Rows.{AreSet}
 
 -- a number is one of consecutive ones, or beside them
 pub between_or_beside : (first count i : ℕ) → ((first ≤ i) × (i < first + count)) ⊎ ((i < first) ⊎ (first + count ≤ i))
-between_or_beside first count i = elim (cases_lt i first) as (λ d. ((first ≤ i) × (i < first + count)) ⊎ ((i < first) ⊎ (first + count ≤ i))) [
-  | inl p ↦ inr (inl p)
-  | inr p ↦ elim (cases_lt i (first + count)) as (λ d. ((first ≤ i) × (i < first + count)) ⊎ ((i < first) ⊎ (first + count ≤ i))) [
-    | inl q ↦ inl (p, q)
-    | inr q ↦ inr (inr q)
-  ]
-]
+between_or_beside first count i =
+    elim (cases_lt i first) as (λ d. ((first ≤ i) × (i < first + count)) ⊎ ((i < first) ⊎ (first + count ≤ i))) [
+      | inl p ↦ inr (inl p)
+      | inr p ↦ elim (cases_lt i (first + count)) as
+          (λ d. ((first ≤ i) × (i < first + count)) ⊎ ((i < first) ⊎ (first + count ≤ i))) [
+            | inl q ↦ inl (p, q)
+            | inr q ↦ inr (inr q)
+          ]
+    ]
 
 -- all flags are set so
-pub all_set : (ram xram : List Bool) (value : Bool) → ((n : ℕ) → n < 2048 → slice_index_or ram n false ≡ value) → ((n : ℕ) → n < 65536 → slice_index_or xram n false ≡ value)
+pub all_set : (ram xram : List Bool) (value : Bool) → ((n : ℕ) → n < 2048 → slice_index_or ram n false ≡ value)
+    → ((n : ℕ) → n < 65536 → slice_index_or xram n false ≡ value)
     → (c : Cell) → IsDataCell c → flag_of (record { ram = ram; xram = xram }) c ≡ value
 all_set ram xram value r x c h = by_space c.space c.at h
   where
-    by_space : (space : Space) (at : ℕ) → IsCellAt space at → flag_in (record { ram = ram; xram = xram }) space at ≡ value
+    by_space : (space : Space) (at : ℕ) → IsCellAt space at
+        → flag_in (record { ram = ram; xram = xram }) space at ≡ value
     by_space Ram at h = r at h.1
     by_space Xram at h = x at h.1
     by_space Code at h = absurd h.0
@@ -40,14 +45,17 @@ ends_inside e inside some = inside_end e inside (omega (arith, some))
 -- the cell is before or after those of the extent
 beside : (e : Extent) (c : Cell) → c.space ≡ e.space → (Covers e c → ⊥) → (c.at < e.first) ⊎ (e.first + e.len ≤ c.at)
 beside e c same out = ⊎_elim
-    (λ (h : (e.first ≤ c.at) × (c.at < e.first + e.len)). absurd (out (record { space = same; from = h.0; below = h.1 })))
+    (λ (h : (e.first ≤ c.at) × (c.at < e.first + e.len)). absurd
+    (out (record { space = same; from = h.0; below = h.1 })))
     (λ (h : (c.at < e.first) ⊎ (e.first + e.len ≤ c.at)). h)
     (between_or_beside e.first e.len c.at)
 
-pub on_ram : (e : Extent) (value : Bool) (ram xram new : List Bool) → e.space ≡ Ram → AreSet e.first (e.first + e.len) value ram new
+pub on_ram : (e : Extent) (value : Bool) (ram xram new : List Bool) → e.space ≡ Ram
+    → AreSet e.first (e.first + e.len) value ram new
     → IsMarked e value (record { ram = ram; xram = xram }) (record { ram = new; xram = xram })
 on_ram e value ram xram new space set = record {
-  inside = λ c h covers. subst (λ (s : Space). flag_in (record { ram = new; xram = xram }) s c.at ≡ value) (sym (covers.space ∙ space)) (set.inside c.at covers.from covers.below);
+  inside = λ c h covers. subst (λ (s : Space). flag_in (record { ram = new; xram = xram }) s c.at ≡ value)
+      (sym (covers.space ∙ space)) (set.inside c.at covers.from covers.below);
   outside = λ c out. by_space c.space c.at (λ same. set.outside c.at (beside e c (same ∙ sym space) out));
 }
   where
@@ -57,10 +65,12 @@ on_ram e value ram xram new space set = record {
     by_space Xram at h = refl
     by_space Code at h = refl
 
-pub on_xram : (e : Extent) (value : Bool) (ram xram new : List Bool) → e.space ≡ Xram → AreSet e.first (e.first + e.len) value xram new
+pub on_xram : (e : Extent) (value : Bool) (ram xram new : List Bool) → e.space ≡ Xram
+    → AreSet e.first (e.first + e.len) value xram new
     → IsMarked e value (record { ram = ram; xram = xram }) (record { ram = ram; xram = new })
 on_xram e value ram xram new space set = record {
-  inside = λ c h covers. subst (λ (s : Space). flag_in (record { ram = ram; xram = new }) s c.at ≡ value) (sym (covers.space ∙ space)) (set.inside c.at covers.from covers.below);
+  inside = λ c h covers. subst (λ (s : Space). flag_in (record { ram = ram; xram = new }) s c.at ≡ value)
+      (sym (covers.space ∙ space)) (set.inside c.at covers.from covers.below);
   outside = λ c out. by_space c.space c.at (λ same. set.outside c.at (beside e c (same ∙ sym space) out));
 }
   where

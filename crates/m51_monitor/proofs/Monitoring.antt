@@ -1,5 +1,6 @@
 -- A monitor is frames and the activity of units.
-use Rattle.std.proofs.Common.{◌≡◌, true, false, IfSome, IfNone, Option, Some, None, ℕ, ◌<◌, ◌≤◌, List, [], ◌∷◌, ◌++◌, length, refl, sym, ap, subst, ◌∙◌, arith}
+use Rattle.std.proofs.Common.{◌≡◌, true, false, IfSome, IfNone, Option, Some, None, ℕ, ◌<◌, ◌≤◌, List, [], ◌∷◌, ◌++◌}
+use Rattle.std.proofs.Common.{length, refl, sym, ap, subst, ◌∙◌, arith}
 use Rattle.std.specs.Prelude.{slice_index}
 use Rattle.std.proofs.lemmas.Option.{slice_get_within}
 use Rattle.std.proofs.lemmas.Bool.{and_parts}
@@ -11,10 +12,11 @@ use Rattle.m51_module.specs.Sound.{IsSound}
 use Rattle.m51_flat.specs.declared.state.Effect.{Effect}
 use Rattle.m51_flat.specs.declared.state.Put.{Put}
 use Rattle.m51_monitor.specs.declared.cause.Cause.{Cause}
-use Rattle.m51_monitor.specs.declared.cause.Frame.{Frame}
+use Rattle.m51_monitor.specs.declared.cause.ReturnFrame.{ReturnFrame}
 use Rattle.m51_monitor.specs.Activity.{Activity, AreTimes, KeepsStores, MayEnter, answers_in, times}
 use Rattle.m51_monitor.specs.Frames.{AreFrames, records_of}
-use Rattle.m51_monitor.specs.Monitored.{AnswersAt, AreNumbers, IsStart, started, Monitored, AreActivations, StandsAfter, MonitorStandsFor, live_in, stores_after, stores_changed}
+use Rattle.m51_monitor.specs.Monitored.{AnswersAt, AreNumbers, IsStart, started, Monitored, AreActivations, StandsAfter}
+use Rattle.m51_monitor.specs.Monitored.{MonitorStandsFor, live_in, stores_after, stores_changed}
 use Rattle.m51_monitor.specs.Records.{Records, units_named}
 use Rattle.m51_monitor.specs.Resolved.{resolved_cells}
 use Rattle.m51_monitor.specs.Shared.{shared_cells}
@@ -31,41 +33,67 @@ use Rattle.m51_monitor.proofs.Resolving.{has_cell_data, has_cell_is, is_has_cell
 use Rattle.m51_monitor.proofs.Standing.{all_related}
 use Rattle.m51_monitor.proofs.Starting.{filled_unset}
 
-abbrev pub monitored : List Frame → Activity → Monitored
+abbrev pub monitored : List ReturnFrame → Activity → Monitored
 monitored frames a = record { layout = a.layout; records = records_of frames a.units; store = a.store }
 
 -- what is kept for the units is kept for the records
-pub kept : (frames frames' : List Frame) (old new : Activity) → KeepsStores old new → StandsAfter (stores_changed new.layout (records_of frames' new.units)) (monitored frames old) (monitored frames' new)
+pub kept : (frames frames' : List ReturnFrame) (old new : Activity) → KeepsStores old new
+    → StandsAfter (stores_changed new.layout (records_of frames' new.units)) (monitored frames old)
+    (monitored frames' new)
 kept frames frames' old new keeps s h =
-    subst (λ us. StandsFor new.layout (live_by new.layout us) new.store (unset_dead (live_by new.layout us) s)) (sym (units_are frames' new.units))
+    subst (λ us. StandsFor new.layout (live_by new.layout us) new.store (unset_dead (live_by new.layout us) s))
+    (sym (units_are frames' new.units))
     (keeps s (subst (λ us. StandsFor old.layout (live_by old.layout us) old.store s) (units_are frames old.units) h))
 
 -- the same units under other frames
-pub kept_same : (frames frames' : List Frame) (a : Activity) → StandsAfter (stores_changed a.layout (records_of frames' a.units)) (monitored frames a) (monitored frames' a)
-kept_same frames frames' a = kept frames frames' a a (λ s h. same_stands a.layout (live_by a.layout a.units) (live_by a.layout a.units) s a.store (plain_lives a.layout a.units) (λ t. refl) h)
+pub kept_same : (frames frames' : List ReturnFrame) (a : Activity)
+    → StandsAfter (stores_changed a.layout (records_of frames' a.units)) (monitored frames a) (monitored frames' a)
+kept_same frames frames' a =
+    kept frames frames' a a
+    (λ s h. same_stands a.layout (live_by a.layout a.units) (live_by a.layout a.units) s a.store
+    (plain_lives a.layout a.units) (λ t. refl) h)
 
 -- a put
-pub kept_put : (frames : List Frame) (old new : Activity) (put : Put) → new.layout ≡ old.layout → new.units ≡ old.units
-    → ((s : Stores) → StandsFor old.layout (live_by old.layout old.units) old.store s → StandsFor old.layout (live_by old.layout old.units) new.store (put_into old.layout (live_by old.layout old.units) put s))
-    → StandsAfter (put_into old.layout (live_in old.layout (records_of frames old.units)) put) (monitored frames old) (monitored frames new)
+pub kept_put : (frames : List ReturnFrame) (old new : Activity) (put : Put) → new.layout ≡ old.layout
+    → new.units ≡ old.units
+    → ((s : Stores) → StandsFor old.layout (live_by old.layout old.units) old.store s
+    → StandsFor old.layout (live_by old.layout old.units) new.store
+    (put_into old.layout (live_by old.layout old.units) put s))
+    → StandsAfter (put_into old.layout (live_in old.layout (records_of frames old.units)) put) (monitored frames old)
+    (monitored frames new)
 kept_put frames old new put layout units keeps s h =
     let named = units_are frames old.units in
     let first = keeps s (subst (λ us. StandsFor old.layout (live_by old.layout us) old.store s) named h) in
-    let again = subst (λ us. StandsFor old.layout (live_by old.layout us) new.store (put_into old.layout (live_by old.layout us) put s)) (sym named) first in
-    let there = subst (λ us. StandsFor old.layout (live_in old.layout (records_of frames us)) new.store (put_into old.layout (live_in old.layout (records_of frames old.units)) put s)) (sym units) again in
-    subst (λ (l : LayoutParts). StandsFor l (live_in l (records_of frames new.units)) new.store (put_into old.layout (live_in old.layout (records_of frames old.units)) put s)) (sym layout) there
+    let again = subst (λ us. StandsFor old.layout (live_by old.layout us) new.store
+    (put_into old.layout (live_by old.layout us) put s)) (sym named) first in
+    let there = subst (λ us. StandsFor old.layout (live_in old.layout (records_of frames us)) new.store
+    (put_into old.layout (live_in old.layout (records_of frames old.units)) put s)) (sym units) again in
+    subst (λ (l : LayoutParts). StandsFor l (live_in l (records_of frames new.units)) new.store
+    (put_into old.layout (live_in old.layout (records_of frames old.units)) put s)) (sym layout) there
 
-pub jump_enters : (l : LayoutParts) (frames : List Frame) (us : List ℕ) (u : ℕ) → IsSound l → AreFrames frames us → AreActivations l (jumped (records_of frames us).reset (records_of frames us).returns u) → MayEnter l us u
-jump_enters l frames us u sound are may = may_enter l sound (records_of frames (u ∷ us)) u us (units_are frames (u ∷ us)) (subst (AreActivations l) (sym (jumped_is frames us u are)) may)
+pub jump_enters : (l : LayoutParts) (frames : List ReturnFrame) (us : List ℕ) (u : ℕ) → IsSound l → AreFrames frames us
+    → AreActivations l (jumped (records_of frames us).reset (records_of frames us).returns u) → MayEnter l us u
+jump_enters l frames us u sound are may =
+    may_enter l sound (records_of frames (u ∷ us)) u us (units_are frames (u ∷ us))
+    (subst (AreActivations l) (sym (jumped_is frames us u are)) may)
 
-pub call_enters : (l : LayoutParts) (frames : List Frame) (us : List ℕ) (f : Frame) (u : ℕ) → IsSound l → f.start ≡ length us → AreActivations l (pushed (records_of frames us) f.cause f.return_address f.sp (u ∷ [])) → MayEnter l us u
-call_enters l frames us f u sound e may = may_enter l sound (records_of (frames ++ f ∷ []) (u ∷ us)) u us (units_are (frames ++ f ∷ []) (u ∷ us)) (subst (AreActivations l) (sym (call_is frames us f u e)) may)
+pub call_enters : (l : LayoutParts) (frames : List ReturnFrame) (us : List ℕ) (f : ReturnFrame) (u : ℕ) → IsSound l
+    → f.start ≡ length us → AreActivations l (pushed (records_of frames us) f.cause f.return_address f.sp (u ∷ []))
+    → MayEnter l us u
+call_enters l frames us f u sound e may =
+    may_enter l sound (records_of (frames ++ f ∷ []) (u ∷ us)) u us (units_are (frames ++ f ∷ []) (u ∷ us))
+    (subst (AreActivations l) (sym (call_is frames us f u e)) may)
 
-pub push_room : (l : LayoutParts) (frames : List Frame) (us : List ℕ) (cause : Cause) (return_address top : ℕ) (units : List ℕ) → AreActivations l (pushed (records_of frames us) cause return_address top units) → length frames < 128
-push_room l frames us cause return_address top units may = room_above l frames us (pushed (records_of frames us) cause return_address top units) (record { cause = cause; return_address = return_address; sp = top; units = units }) refl may
+pub push_room : (l : LayoutParts) (frames : List ReturnFrame) (us : List ℕ) (cause : Cause) (return_address top : ℕ)
+    (units : List ℕ) → AreActivations l (pushed (records_of frames us) cause return_address top units)
+    → length frames < 128
+push_room l frames us cause return_address top units may =
+    room_above l frames us (pushed (records_of frames us) cause return_address top units)
+    (record { cause = cause; return_address = return_address; sp = top; units = units }) refl may
 
 -- both puts, and a change of the records
-pub commit_keeps : (m0 m1 m2 m3 : Monitored) (e : Effect) → m1.layout ≡ m0.layout → m1.records ≡ m0.records → m3.layout ≡ m0.layout
+pub commit_keeps : (m0 m1 m2 m3 : Monitored) (e : Effect) → m1.layout ≡ m0.layout → m1.records ≡ m0.records
+    → m3.layout ≡ m0.layout
     → StandsAfter (put_into m0.layout (live_in m0.layout m0.records) e.first) m0 m1
     → StandsAfter (put_into m1.layout (live_in m1.layout m1.records) e.second) m1 m2
     → StandsAfter (stores_changed m3.layout m3.records) m2 m3
@@ -74,37 +102,54 @@ commit_keeps m0 m1 m2 m3 e layout records last first second change s h =
     let x = put_into m0.layout (live_in m0.layout m0.records) e.first s in
     let put : (l : LayoutParts) → Records → Stores = λ l a. put_into l (live_in l a) e.second x in
     let two = second x (first s h) in
-    let same : put m1.layout m1.records ≡ put m0.layout m0.records = ap (λ (l : LayoutParts). put l m1.records) layout ∙ ap (put m0.layout) records in
+    let same : put m1.layout m1.records ≡ put m0.layout m0.records = ap (λ (l : LayoutParts). put l m1.records) layout
+    ∙ ap (put m0.layout) records in
     let done = change (put m0.layout m0.records) (subst (MonitorStandsFor m2) same two) in
     subst (λ (l : LayoutParts). MonitorStandsFor m3 (stores_changed l m3.records (put m0.layout m0.records))) last done
 
 -- the segment that answers in a cell
-answers_are : (l : LayoutParts) (us : List ℕ) (c : Cell) (t : ℕ) → answers_in l us c t ≡ true → IsDataCell c × IsOver l t c × (live_by l us t ≡ true)
-answers_are l us c t e = let k = and_parts (live_by l us t) (has_cell l t c) e in (has_cell_data l t c k.1, has_cell_is l t c k.1, k.0)
+answers_are : (l : LayoutParts) (us : List ℕ) (c : Cell) (t : ℕ) → answers_in l us c t ≡ true
+    → IsDataCell c × IsOver l t c × (live_by l us t ≡ true)
+answers_are l us c t e = let k = and_parts (live_by l us t) (has_cell l t c) e in
+    (has_cell_data l t c k.1, has_cell_is l t c k.1, k.0)
 
-are_answers : (l : LayoutParts) (us : List ℕ) (c : Cell) (t : ℕ) → IsDataCell c → IsOver l t c → live_by l us t ≡ true → answers_in l us c t ≡ true
+are_answers : (l : LayoutParts) (us : List ℕ) (c : Cell) (t : ℕ) → IsDataCell c → IsOver l t c → live_by l us t ≡ true
+    → answers_in l us c t ≡ true
 are_answers l us c t is over live = rw live (is_has_cell l t c is over)
 
-pub segment_some : (frames : List Frame) (a : Activity) (c : Cell) (o : Option ℕ) → IfSome o (λ t. answers_in a.layout a.units c t ≡ true) → IfSome o (λ t. AnswersAt (monitored frames a) c t)
+pub segment_some : (frames : List ReturnFrame) (a : Activity) (c : Cell) (o : Option ℕ)
+    → IfSome o (λ t. answers_in a.layout a.units c t ≡ true) → IfSome o (λ t. AnswersAt (monitored frames a) c t)
 segment_some frames a c None h = h
 segment_some frames a c (Some t) h =
     let k = answers_are a.layout a.units c t h in
-    record { of_data = k.0; over = k.1; live = subst (λ us. live_by a.layout us t ≡ true) (sym (units_are frames a.units)) k.2 }
+    record {
+      of_data = k.0;
+      over = k.1;
+      live = subst (λ us. live_by a.layout us t ≡ true) (sym (units_are frames a.units)) k.2;
+    }
 
-pub segment_only : (frames : List Frame) (a : Activity) (c : Cell) (o : Option ℕ) → IsSound a.layout → AreActivations a.layout (records_of frames a.units)
-    → IfSome o (λ t. answers_in a.layout a.units c t ≡ true) → IfNone o ((t : ℕ) → t < length a.layout.placed → answers_in a.layout a.units c t ≡ false)
+pub segment_only : (frames : List ReturnFrame) (a : Activity) (c : Cell) (o : Option ℕ) → IsSound a.layout
+    → AreActivations a.layout (records_of frames a.units)
+    → IfSome o (λ t. answers_in a.layout a.units c t ≡ true)
+    → IfNone o ((t : ℕ) → t < length a.layout.placed → answers_in a.layout a.units c t ≡ false)
     → (t : ℕ) → AnswersAt (monitored frames a) c t → o ≡ Some t
 segment_only frames a c None sound may some none t h =
     let live = subst (λ us. live_by a.layout us t ≡ true) (units_are frames a.units) h.live in
-    cc (none t (slice_get_within a.layout.placed t h.over.is h.over.placed), are_answers a.layout a.units c t h.of_data h.over live)
+    cc (
+      none t (slice_get_within a.layout.placed t h.over.is h.over.placed),
+      are_answers a.layout a.units c t h.of_data h.over live,
+    )
 segment_only frames a c (Some u) sound may some none t h =
     let k = segment_some frames a c (Some u) some in
     let named = units_named (records_of frames a.units) in
-    let same : u ≡ t = one_live a.layout named sound (all_related a.layout (records_of frames a.units) may.stand) c u t k.over h.over k.live h.live in
+    let same : u ≡ t = one_live a.layout named sound (all_related a.layout (records_of frames a.units) may.stand) c u t
+    k.over h.over k.live h.live in
     ap Some same
 
 -- the numbers of records
-pub numbers_are : (frames : List Frame) (a : Activity) (numbers : List ℕ) → IsSound a.layout → AreActivations a.layout (records_of frames a.units) → AreTimes a.layout a.units numbers → AreNumbers (monitored frames a) numbers
+pub numbers_are : (frames : List ReturnFrame) (a : Activity) (numbers : List ℕ) → IsSound a.layout
+    → AreActivations a.layout (records_of frames a.units) → AreTimes a.layout a.units numbers
+    → AreNumbers (monitored frames a) numbers
 numbers_are frames a numbers sound may are =
     let named = units_are frames a.units in
     let b = records_of frames a.units in
@@ -112,7 +157,8 @@ numbers_are frames a numbers sound may are =
     record {
       len = are.len;
       number = λ u h. number u h ∙ sym (naming_times a.layout sound b u may.stand);
-      most = λ u h. let few : times (units_named b) u ≤ 3 = named_rare a.layout sound b u may in let e : slice_index numbers u ≡ times (units_named b) u = number u h in omega (arith, few, e);
+      most = λ u h. let few : times (units_named b) u ≤ 3 = named_rare a.layout sound b u may in
+          let e : slice_index numbers u ≡ times (units_named b) u = number u h in omega (arith, few, e);
     }
 
 -- the start
@@ -122,25 +168,34 @@ start_may_be l root h = record { stand = record { over = h }; heights = tt; leve
 pub start_enters : (l : LayoutParts) (root : ℕ) → IsSound l → IsRootAt l 0 root → MayEnter l [] root
 start_enters l root sound h = may_enter l sound (started root) root [] refl (start_may_be l root h)
 
-pub is_start : (l : LayoutParts) (fill root : ℕ) (old new : Activity) → IsRootAt l 0 root → old.layout ≡ l → old.units ≡ [] → StandsFor l (live_by l []) old.store (filled_stores l fill)
+pub is_start : (l : LayoutParts) (fill root : ℕ) (old new : Activity) → IsRootAt l 0 root → old.layout ≡ l
+    → old.units ≡ [] → StandsFor l (live_by l []) old.store (filled_stores l fill)
     → new.layout ≡ old.layout → new.units ≡ root ∷ old.units → KeepsStores old new → IsStart l fill (monitored [] new)
 is_start l fill root old new h layout units stands same entered keeps =
     let lay : new.layout ≡ l = same ∙ layout in
     let us : new.units ≡ root ∷ [] = entered ∙ ap (λ us. root ∷ us) units in
     let was = subst (λ us. StandsFor l (live_by l us) old.store (filled_stores l fill)) (sym units) stands in
-    let were = subst (λ (k : LayoutParts). StandsFor k (live_by k old.units) old.store (filled_stores l fill)) (sym layout) was in
+    let were = subst (λ (k : LayoutParts). StandsFor k (live_by k old.units) old.store (filled_stores l fill))
+    (sym layout) was in
     let now = keeps (filled_stores l fill) were in
     let there : Stores = filled_stores new.layout fill in
     let alike : filled_stores l fill ≡ there = ap (λ (k : LayoutParts). filled_stores k fill) (sym lay) in
-    let kept = subst (StandsFor new.layout (live_by new.layout new.units) new.store) (ap (unset_dead (live_by new.layout new.units)) alike ∙ filled_unset new.layout new.units fill ∙ sym alike) now in
+    let kept = subst (StandsFor new.layout (live_by new.layout new.units) new.store)
+    (ap (unset_dead (live_by new.layout new.units)) alike ∙ filled_unset new.layout new.units fill ∙ sym alike)
+    now in
     record { layout = lay; root = root; is_root = h; records = ap (λ us. records_of [] us) us; stores = kept }
 
 -- the memory represents some stores, and answers as they do
-pub stands_for : (frames : List Frame) (a : Activity) → (s : Stores) × StandsFor a.layout (live_by a.layout a.units) a.store s → (s : Stores) × MonitorStandsFor (monitored frames a) s
-stands_for frames a h = (h.0, subst (λ us. StandsFor a.layout (live_by a.layout us) a.store h.0) (sym (units_are frames a.units)) h.1)
+pub stands_for : (frames : List ReturnFrame) (a : Activity)
+    → (s : Stores) × StandsFor a.layout (live_by a.layout a.units) a.store s
+    → (s : Stores) × MonitorStandsFor (monitored frames a) s
+stands_for frames a h =
+    (h.0, subst (λ us. StandsFor a.layout (live_by a.layout us) a.store h.0) (sym (units_are frames a.units)) h.1)
 
-pub answers_by : (frames : List Frame) (a : Activity) → IsSound a.layout → AreActivations a.layout (records_of frames a.units) → (s : Stores) → MonitorStandsFor (monitored frames a) s
+pub answers_by : (frames : List ReturnFrame) (a : Activity) → IsSound a.layout
+    → AreActivations a.layout (records_of frames a.units) → (s : Stores) → MonitorStandsFor (monitored frames a) s
     → shared_cells a.store ≡ resolved_cells a.layout (live_in a.layout (records_of frames a.units)) s
 answers_by frames a sound may s h =
     let b = records_of frames a.units in
-    cells_resolved a.layout (live_in a.layout b) a.store s (one_live a.layout (units_named b) sound (all_related a.layout b may.stand)) h
+    cells_resolved a.layout (live_in a.layout b) a.store s
+    (one_live a.layout (units_named b) sound (all_related a.layout b may.stand)) h

@@ -1,5 +1,6 @@
 -- Segments of a sound layout turn live or outside.
-use Rattle.std.proofs.Common.{◌≡◌, ◌≢◌, ◌⊎◌, inl, inr, ℕ, Bool, zero, suc, ◌+◌, ◌<◌, ◌≤◌, false, Some, List, [], ◌∷◌, length, refl, sym, ap, subst, ◌∙◌, ⊎_elim, arith}
+use Rattle.std.proofs.Common.{◌≡◌, ◌≢◌, ◌⊎◌, inl, inr, ℕ, Bool, zero, suc, ◌+◌, ◌<◌, ◌≤◌, false, Some, List, [], ◌∷◌}
+use Rattle.std.proofs.Common.{length, refl, sym, ap, subst, ◌∙◌, ⊎_elim, arith}
 use Rattle.std.specs.Prelude.{slice_index, slice_index_or}
 use Rattle.std.specs.List.{Contains}
 use Rattle.std.proofs.lemmas.Option.{slice_get-get_or, slice_get_within}
@@ -17,41 +18,54 @@ use Rattle.m51_monitor.specs.Shared.{Shared, cell_state, IsTurned}
 use Rattle.m51_monitor.specs.Turning.{Turned, Under, Beside, AreTurned, IsLocalOf, IsLocalAmong}
 use Rattle.m51_monitor.proofs.Reading.{covers_or_not}
 
-pub placed_at : (l : LayoutParts) (t : ℕ) (p : Placed) → t < length l.placed → slice_index_or l.placed t p ≡ p → IsPlaced l t p
+pub placed_at : (l : LayoutParts) (t : ℕ) (p : Placed) → t < length l.placed → slice_index_or l.placed t p ≡ p
+    → IsPlaced l t p
 placed_at l t p h e = slice_get-get_or l.placed t p h ∙ ap Some e
 
 pub fit_at : (l : LayoutParts) (t : ℕ) (p : Placed) → IsSound l → IsPlaced l t p → IsFit p
 fit_at l t p sound at = sound.fit t p at
 
 -- nothing has turned yet
-pub none_among : (l : LayoutParts) (Is : ℕ → Type 0) (to : CellState) (m : Shared) → ((t : ℕ) → Is t → ⊥) → AreTurned l Is to m m
+pub none_among : (l : LayoutParts) (Is : ℕ → Type 0) (to : CellState) (m : Shared) → ((t : ℕ) → Is t → ⊥)
+    → AreTurned l Is to m m
 none_among l Is to m none = record { cell = λ c is. Beside (λ t h p at k. none t h) refl }
 
 -- the same of other words for the same segments
-pub turned_as : (l : LayoutParts) (Is As : ℕ → Type 0) (to : CellState) (m m' : Shared) → ((t : ℕ) → Is t → As t) → ((t : ℕ) → As t → Is t) → AreTurned l Is to m m' → AreTurned l As to m m'
-turned_as l Is As to m m' into from h = record { cell = λ c is. by_cell c (cell_state m c) (cell_state m' c) (h.cell c is) }
+pub turned_as : (l : LayoutParts) (Is As : ℕ → Type 0) (to : CellState) (m m' : Shared) → ((t : ℕ) → Is t → As t)
+    → ((t : ℕ) → As t → Is t) → AreTurned l Is to m m' → AreTurned l As to m m'
+turned_as l Is As to m m' into from h =
+    record { cell = λ c is. by_cell c (cell_state m c) (cell_state m' c) (h.cell c is) }
   where
     by_cell : (c : Cell) (old new : CellState) → Turned l Is to c old new → Turned l As to c old new
     by_cell c old new (Under t is p at k e) = Under t (into t is) p at k e
     by_cell c old new (Beside none e) = Beside (λ t is p at k. none t (from t is) p at k) e
 
-module _ (l : LayoutParts) (Is As : ℕ → Type 0) (to : CellState) (s : ℕ) (p : Placed) (at : IsPlaced l s p) (here : As s) (into : (t : ℕ) → Is t → As t) (from : (t : ℕ) → As t → (t ≡ s) ⊎ Is t) where
-  next_cell : (c : Cell) (old mid new : CellState) → (Covers (extent_at p) c → new ≡ to) → ((Covers (extent_at p) c → ⊥) → new ≡ mid) → Turned l Is to c old mid → Turned l As to c old new
+module _ (l : LayoutParts) (Is As : ℕ → Type 0) (to : CellState) (s : ℕ) (p : Placed) (at : IsPlaced l s p)
+    (here : As s) (into : (t : ℕ) → Is t → As t) (from : (t : ℕ) → As t → (t ≡ s) ⊎ Is t) where
+  next_cell : (c : Cell) (old mid new : CellState) → (Covers (extent_at p) c → new ≡ to)
+      → ((Covers (extent_at p) c → ⊥) → new ≡ mid) → Turned l Is to c old mid → Turned l As to c old new
   next_cell c old mid new inside outside h = ⊎_elim
       (λ (k : Covers (extent_at p) c). Under s here p at k (inside k))
       (λ (k : Covers (extent_at p) c → ⊥). beside c old mid new k (outside k) h)
       (covers_or_not (extent_at p) c)
     where
-      beside : (c : Cell) (old mid new : CellState) → (Covers (extent_at p) c → ⊥) → new ≡ mid → Turned l Is to c old mid → Turned l As to c old new
+      beside : (c : Cell) (old mid new : CellState) → (Covers (extent_at p) c → ⊥) → new ≡ mid
+          → Turned l Is to c old mid → Turned l As to c old new
       beside c old mid new out e (Under t is q at_t k f) = Under t (into t is) q at_t k (e ∙ f)
       beside c old mid new out e (Beside none f) = Beside (λ t is q at_t k. ⊎_elim
-          (λ (same : t ≡ s). let alike : q ≡ p = cc (subst (λ t. IsPlaced l t q) same at_t, at) in out (subst (λ (p : Placed). Covers (extent_at p) c) alike k))
+          (λ (same : t ≡ s). let alike : q ≡ p = cc (subst (λ t. IsPlaced l t q) same at_t, at) in
+          out (subst (λ (p : Placed). Covers (extent_at p) c) alike k))
           (λ (was : Is t). none t was q at_t k)
           (from t is)) (e ∙ f)
 
   -- one segment more has turned
-  pub next_turned : (old mid new : Shared) → IsTurned (extent_at p) to mid new → AreTurned l Is to old mid → AreTurned l As to old new
-  next_turned old mid new turn h = record { cell = λ c is. next_cell c (cell_state old c) (cell_state mid c) (cell_state new c) (λ k. turn.inside c is k) (λ k. turn.outside c k) (h.cell c is) }
+  pub next_turned : (old mid new : Shared) → IsTurned (extent_at p) to mid new → AreTurned l Is to old mid
+      → AreTurned l As to old new
+  next_turned old mid new turn h =
+      record {
+        cell = λ c is. next_cell c (cell_state old c) (cell_state mid c) (cell_state new c)
+            (λ k. turn.inside c is k) (λ k. turn.outside c k) (h.cell c is);
+      }
 
 -- inside a list the default does not matter
 pub get_or_same : (xs : List ℕ) (k d : ℕ) → k < length xs → slice_index xs k ≡ slice_index_or xs k d
@@ -66,23 +80,31 @@ module _ (l : LayoutParts) (holders locals : List ℕ) (place : ℕ) (to : CellS
   before : (t : ℕ) → IsLocalAmong holders locals place t → IsLocalAmong holders locals (place + 1) t
   before t k = record { place = k.place; below = omega (arith, k.below); inside = k.inside; is = k.is; free = k.free }
 
-  here_or_before : (t : ℕ) → IsLocalAmong holders locals (place + 1) t → (t ≡ slice_index locals place) ⊎ IsLocalAmong holders locals place t
+  here_or_before : (t : ℕ) → IsLocalAmong holders locals (place + 1) t
+      → (t ≡ slice_index locals place) ⊎ IsLocalAmong holders locals place t
   here_or_before t k = ⊎_elim
       (λ (e : k.place ≡ place). inl (sym k.is ∙ ap (slice_index locals) e))
-      (λ (h : k.place < place). inr (record { place = k.place; below = h; inside = k.inside; is = k.is; free = k.free }))
+      (λ (h : k.place < place). inr
+      (record { place = k.place; below = h; inside = k.inside; is = k.is; free = k.free }))
       (last_or_before k.place place k.below)
 
   -- the segment at this place has turned
-  pub turned : (p : Placed) (old mid new : Shared) → IsPlaced l (slice_index locals place) p → slice_index holders (slice_index locals place) ≡ 0 → IsTurned (extent_at p) to mid new
-      → AreTurned l (IsLocalAmong holders locals place) to old mid → AreTurned l (IsLocalAmong holders locals (place + 1)) to old new
+  pub turned : (p : Placed) (old mid new : Shared) → IsPlaced l (slice_index locals place) p
+      → slice_index holders (slice_index locals place) ≡ 0 → IsTurned (extent_at p) to mid new
+      → AreTurned l (IsLocalAmong holders locals place) to old mid
+      → AreTurned l (IsLocalAmong holders locals (place + 1)) to old new
   turned p old mid new at free turn h =
-      next_turned l (IsLocalAmong holders locals place) (IsLocalAmong holders locals (place + 1)) to (slice_index locals place) p at
+      next_turned l (IsLocalAmong holders locals place) (IsLocalAmong holders locals (place + 1)) to
+      (slice_index locals place) p at
       (record { place = place; below = omega arith; inside = below; is = refl; free = free })
       before here_or_before old mid new turn h
 
   -- it stays, as something holds it
-  pub stays : (old mid : Shared) → slice_index holders (slice_index locals place) ≢ 0 → AreTurned l (IsLocalAmong holders locals place) to old mid → AreTurned l (IsLocalAmong holders locals (place + 1)) to old mid
-  stays old mid held h = turned_as l (IsLocalAmong holders locals place) (IsLocalAmong holders locals (place + 1)) to old mid
+  pub stays : (old mid : Shared) → slice_index holders (slice_index locals place) ≢ 0
+      → AreTurned l (IsLocalAmong holders locals place) to old mid
+      → AreTurned l (IsLocalAmong holders locals (place + 1)) to old mid
+  stays old mid held h = turned_as l (IsLocalAmong holders locals place) (IsLocalAmong holders locals (place + 1)) to
+      old mid
       before
       (λ t k. ⊎_elim
       (λ (e : t ≡ slice_index locals place). absurd (held (subst (λ t. slice_index holders t ≡ 0) e k.free)))
@@ -90,23 +112,36 @@ module _ (l : LayoutParts) (holders locals : List ℕ) (place : ℕ) (to : CellS
       (here_or_before t k))
       h
 
-pub none : (l : LayoutParts) (holders locals : List ℕ) (to : CellState) (m : Shared) → AreTurned l (IsLocalAmong holders locals 0) to m m
+pub none : (l : LayoutParts) (holders locals : List ℕ) (to : CellState) (m : Shared)
+    → AreTurned l (IsLocalAmong holders locals 0) to m m
 none l holders locals to m = none_among l (IsLocalAmong holders locals 0) to m (λ t k. omega (arith, k.below))
 
-pub turned_all : (l : LayoutParts) (holders locals : List ℕ) (unit : ℕ) (to : CellState) (old new : Shared) → AreLocals l unit locals → AreTurned l (IsLocalAmong holders locals (length locals)) to old new → AreTurned l (IsLocalOf l holders unit) to old new
-turned_all l holders locals unit to old new are h = turned_as l (IsLocalAmong holders locals (length locals)) (IsLocalOf l holders unit) to old new
-    (λ t k. record { owns = (are.owned t).0 (subst (Contains locals) k.is (Contains-get_or locals k.place 0 k.inside)); free = k.free })
-    (λ t k. let c = (are.owned t).1 k.owns in record { place = c.0; below = c.1; inside = c.1; is = get_or_same locals c.0 t c.1 ∙ c.2; free = k.free })
+pub turned_all : (l : LayoutParts) (holders locals : List ℕ) (unit : ℕ) (to : CellState) (old new : Shared)
+    → AreLocals l unit locals → AreTurned l (IsLocalAmong holders locals (length locals)) to old new
+    → AreTurned l (IsLocalOf l holders unit) to old new
+turned_all l holders locals unit to old new are h =
+    turned_as l (IsLocalAmong holders locals (length locals)) (IsLocalOf l holders unit) to old new
+    (λ t k. record {
+      owns = (are.owned t).0 (subst (Contains locals) k.is (Contains-get_or locals k.place 0 k.inside));
+      free = k.free;
+    })
+    (λ t k. let c = (are.owned t).1 k.owns in
+    record { place = c.0; below = c.1; inside = c.1; is = get_or_same locals c.0 t c.1 ∙ c.2; free = k.free })
     h
 
 -- what a unit owns is placed
-pub below : (l : LayoutParts) (locals : List ℕ) (unit : ℕ) → IsSound l → AreLocals l unit locals → (t : ℕ) → Contains locals t → t < length l.placed
-below l locals unit sound are t h = let o = (sound.owned unit t ((are.owned t).0 h)).1 in slice_get_within l.placed t o.0 o.1
+pub below : (l : LayoutParts) (locals : List ℕ) (unit : ℕ) → IsSound l → AreLocals l unit locals → (t : ℕ)
+    → Contains locals t → t < length l.placed
+below l locals unit sound are t h = let o = (sound.owned unit t ((are.owned t).0 h)).1 in
+    slice_get_within l.placed t o.0 o.1
 
 -- an element of a list, by its place
-pub item_is : (locals : List ℕ) (bound place : ℕ) → ((t : ℕ) → Contains locals t → t < bound) → place < length locals → slice_index locals place < bound
+pub item_is : (locals : List ℕ) (bound place : ℕ) → ((t : ℕ) → Contains locals t → t < bound) → place < length locals
+    → slice_index locals place < bound
 item_is locals bound place all h = all (slice_index locals place) (Contains-get_or locals place 0 h)
 
 -- what fails below a number and at it fails up to it
-pub none_up_to : (P : ℕ → Bool) (k : ℕ) → ((t : ℕ) → t < k → P t ≡ false) → P k ≡ false → (t : ℕ) → t < k + 1 → P t ≡ false
-none_up_to P k below at t h = ⊎_elim (λ (e : t ≡ k). ap P e ∙ at) (λ (before : t < k). below t before) (last_or_before t k h)
+pub none_up_to : (P : ℕ → Bool) (k : ℕ) → ((t : ℕ) → t < k → P t ≡ false) → P k ≡ false → (t : ℕ) → t < k + 1
+    → P t ≡ false
+none_up_to P k below at t h =
+    ⊎_elim (λ (e : t ≡ k). ap P e ∙ at) (λ (before : t < k). below t before) (last_or_before t k h)

@@ -1,5 +1,6 @@
 -- A shared RAM after a put.
-use Rattle.std.proofs.Common.{◌≡◌, ◌≢◌, ℕ, zero, suc, ◌+◌, ◌*◌, ◌/◌, ◌%◌, ◌<◌, ◌≤◌, Bool, true, false, nat_eq, Option, Some, None, refl, sym, ap, subst, ◌∙◌, ⊎_elim, arith}
+use Rattle.std.proofs.Common.{◌≡◌, ◌≢◌, ℕ, zero, suc, ◌+◌, ◌*◌, ◌/◌, ◌%◌, ◌<◌, ◌≤◌, Bool, true, false, nat_eq, Option}
+use Rattle.std.proofs.Common.{Some, None, refl, sym, ap, subst, ◌∙◌, ⊎_elim, arith}
 use Rattle.std.specs.Prelude.{if◌then◌else◌}
 use Rattle.std.specs.Int.{bit_at}
 use Rattle.std.proofs.lemmas.Bool.Decides.{eqb_tells}
@@ -27,7 +28,8 @@ open_at true c rest e = cc e
 open_at false c rest e = (refl, e)
 
 -- where none of some cells is barred, each of them is not
-all_open : (barred : Cell → Bool) (k n : ℕ) → first_barred barred k n ≡ None → (i : ℕ) → n ≤ i → i < n + k → barred (ram_cell i) ≡ false
+all_open : (barred : Cell → Bool) (k n : ℕ) → first_barred barred k n ≡ None → (i : ℕ) → n ≤ i → i < n + k
+    → barred (ram_cell i) ≡ false
 all_open barred zero n e i low high = absurd (omega (arith, low, high))
 all_open barred (suc k) n e i low high =
     let h = open_at (barred (ram_cell n)) (ram_cell n) (first_barred barred k (n + 1)) e in
@@ -37,17 +39,25 @@ all_open barred (suc k) n e i low high =
     (cases_lt n i)
 
 -- the cells of a put that is not shut are live
-pub put_lives : (m : Shared) (put : Put) → shut_of (shared_barred m) put ≡ None → (c : Cell) → Covers (cells_put put) c → flag_of m.live c ≡ true
+pub put_lives : (m : Shared) (put : Put) → shut_of (shared_barred m) put ≡ None → (c : Cell) → Covers (cells_put put) c
+    → flag_of m.live c ≡ true
 unfolding shut_of
 put_lives m put e c h = by_put put e c.space c.at h.space h.from h.below
   where
-    by_put : (put : Put) → shut_of (shared_barred m) put ≡ None → (s : Space) (n : ℕ) → s ≡ (cells_put put).space → (cells_put put).first ≤ n → n < (cells_put put).first + (cells_put put).len → flag_in m.live s n ≡ true
+    by_put : (put : Put) → shut_of (shared_barred m) put ≡ None → (s : Space) (n : ℕ) → s ≡ (cells_put put).space
+        → (cells_put put).first ≤ n → n < (cells_put put).first + (cells_put put).len → flag_in m.live s n ≡ true
     by_put Nothing e s n same low high = absurd (omega (arith, low, high))
-    by_put (Byte a v) e s n same low high = subst (λ (s : Space). flag_in m.live s n ≡ true) (sym same) (not-false (flag_in m.live Ram n) (all_open (shared_barred m) 8 (8 * a) e n low high))
-    by_put (Bit a b) e s n same low high = subst (λ (s : Space). flag_in m.live s n ≡ true) (sym same) (not-false (flag_in m.live Ram n) (all_open (shared_barred m) 1 (256 + a) e n low high))
+    by_put (Byte a v) e s n same low high =
+        subst (λ (s : Space). flag_in m.live s n ≡ true) (sym same)
+        (not-false (flag_in m.live Ram n) (all_open (shared_barred m) 8 (8 * a) e n low high))
+    by_put (Bit a b) e s n same low high =
+        subst (λ (s : Space). flag_in m.live s n ≡ true) (sym same)
+        (not-false (flag_in m.live Ram n) (all_open (shared_barred m) 1 (256 + a) e n low high))
     by_put (Xbyte a v) e s n same low high =
         let here : n ≡ a = omega (arith, low, high) in
-        subst (λ (s : Space). flag_in m.live s n ≡ true) (sym same) (ap (λ n. flag_in m.live Xram n) here ∙ not-false (flag_in m.live Xram a) (open_at (shared_barred m (xram_cell a)) (xram_cell a) None e).0)
+        subst (λ (s : Space). flag_in m.live s n ≡ true) (sym same)
+        (ap (λ n. flag_in m.live Xram n) here
+        ∙ not-false (flag_in m.live Xram a) (open_at (shared_barred m (xram_cell a)) (xram_cell a) None e).0)
 
 -- a put writes a value into a cell that it covers, and into no other
 pub data Tells (put : Put) (c : Cell) (w : Option ℕ) : Type 0 where
@@ -59,50 +69,69 @@ put_tells Nothing Ram n = Beside (λ h. absurd (omega (arith, h.below))) refl
 put_tells Nothing Xram n = Beside (λ h. absurd (omega (arith, h.below))) refl
 put_tells Nothing Code n = Beside (λ h. absurd (omega (arith, h.below))) refl
 put_tells (Byte a v) Ram n = ⊎_elim
-    (λ (t : (nat_eq (n / 8) a ≡ true) × (n / 8 ≡ a)). Inside (record { space = refl; from = omega (arith, t.1); below = omega (arith, t.1) }) (bit_at v (n % 8)) (if_true (nat_eq (n / 8) a) (bit_at v (n % 8)) t.0))
-    (λ (t : (nat_eq (n / 8) a ≡ false) × (n / 8 ≢ a)). Beside (λ h. t.1 (let low : 8 * a ≤ n = h.from in let high : n < 8 * a + 8 = h.below in omega arith)) (if_false (nat_eq (n / 8) a) (bit_at v (n % 8)) t.0))
+    (λ (t : (nat_eq (n / 8) a ≡ true) × (n / 8 ≡ a)). Inside
+    (record { space = refl; from = omega (arith, t.1); below = omega (arith, t.1) }) (bit_at v (n % 8))
+    (if_true (nat_eq (n / 8) a) (bit_at v (n % 8)) t.0))
+    (λ (t : (nat_eq (n / 8) a ≡ false) × (n / 8 ≢ a)). Beside
+    (λ h. t.1 (let low : 8 * a ≤ n = h.from in let high : n < 8 * a + 8 = h.below in omega arith))
+    (if_false (nat_eq (n / 8) a) (bit_at v (n % 8)) t.0))
     (eqb_tells (n / 8) a)
 put_tells (Byte a v) Xram n = Beside (λ h. cc h.space) refl
 put_tells (Byte a v) Code n = Beside (λ h. cc h.space) refl
 put_tells (Bit a b) Ram n = ⊎_elim
-    (λ (t : (nat_eq n (256 + a) ≡ true) × (n ≡ 256 + a)). Inside (record { space = refl; from = omega (arith, t.1); below = omega (arith, t.1) }) (bit_of b) (if_true (nat_eq n (256 + a)) (bit_of b) t.0))
-    (λ (t : (nat_eq n (256 + a) ≡ false) × (n ≢ 256 + a)). Beside (λ h. t.1 (let low : 256 + a ≤ n = h.from in let high : n < 256 + a + 1 = h.below in omega arith)) (if_false (nat_eq n (256 + a)) (bit_of b) t.0))
+    (λ (t : (nat_eq n (256 + a) ≡ true) × (n ≡ 256 + a)). Inside
+    (record { space = refl; from = omega (arith, t.1); below = omega (arith, t.1) }) (bit_of b)
+    (if_true (nat_eq n (256 + a)) (bit_of b) t.0))
+    (λ (t : (nat_eq n (256 + a) ≡ false) × (n ≢ 256 + a)). Beside
+    (λ h. t.1 (let low : 256 + a ≤ n = h.from in let high : n < 256 + a + 1 = h.below in omega arith))
+    (if_false (nat_eq n (256 + a)) (bit_of b) t.0))
     (eqb_tells n (256 + a))
 put_tells (Bit a b) Xram n = Beside (λ h. cc h.space) refl
 put_tells (Bit a b) Code n = Beside (λ h. cc h.space) refl
 put_tells (Xbyte a v) Ram n = Beside (λ h. cc h.space) refl
 put_tells (Xbyte a v) Xram n = ⊎_elim
-    (λ (t : (nat_eq n a ≡ true) × (n ≡ a)). Inside (record { space = refl; from = omega (arith, t.1); below = omega (arith, t.1) }) v (if_true (nat_eq n a) v t.0))
-    (λ (t : (nat_eq n a ≡ false) × (n ≢ a)). Beside (λ h. t.1 (let low : a ≤ n = h.from in let high : n < a + 1 = h.below in omega arith)) (if_false (nat_eq n a) v t.0))
+    (λ (t : (nat_eq n a ≡ true) × (n ≡ a)). Inside
+    (record { space = refl; from = omega (arith, t.1); below = omega (arith, t.1) }) v (if_true (nat_eq n a) v t.0))
+    (λ (t : (nat_eq n a ≡ false) × (n ≢ a)). Beside
+    (λ h. t.1 (let low : a ≤ n = h.from in let high : n < a + 1 = h.below in omega arith))
+    (if_false (nat_eq n a) v t.0))
     (eqb_tells n a)
 put_tells (Xbyte a v) Code n = Beside (λ h. cc h.space) refl
 
 -- one cell: a put that covers it finds it live and leaves it written, any other leaves its flags
 over_masked : (put : Put) (c : Cell) (w : Option ℕ) (live written' written : Bool) (state : CellState) → Tells put c w
-    → (Covers (cells_put put) c → live ≡ true) → (Covers (cells_put put) c → written' ≡ true) → ((Covers (cells_put put) c → ⊥) → written' ≡ written)
+    → (Covers (cells_put put) c → live ≡ true) → (Covers (cells_put put) c → written' ≡ true)
+    → ((Covers (cells_put put) c → ⊥) → written' ≡ written)
     → masked live written' (state_over w state) ≡ state_over w (masked live written state)
 over_masked put c w live written' written state (Inside h v e) alive set kept = rw (e, alive h, set h) refl
 over_masked put c w live written' written state (Beside h e) alive set kept = rw (e, kept h) refl
 
-module _ (m : Shared) (put : Put) (memory' : FlatBytes) (written' : Mask) (open_ : shut_of (shared_barred m) put ≡ None) (mark : IsMarked (cells_put put) true m.written written') where
+module _ (m : Shared) (put : Put) (memory' : FlatBytes) (written' : Mask) (open_ : shut_of (shared_barred m) put ≡ None)
+    (mark : IsMarked (cells_put put) true m.written written') where
   abbrev new : Shared
   new = record { memory = memory'; live = m.live; written = written' }
 
   inside : (c : Cell) → IsDataCell c → Covers (cells_put put) c → flag_of written' c ≡ true
   inside c is h = mark.inside c is h
 
-  pub put_cells : flat_cells memory' ≡ states_after put (flat_cells m.memory) → ((c : Cell) → Covers (cells_put put) c → IsDataCell c) → shared_cells new ≡ states_after put (shared_cells m)
+  pub put_cells : flat_cells memory' ≡ states_after put (flat_cells m.memory)
+      → ((c : Cell) → Covers (cells_put put) c → IsDataCell c) → shared_cells new ≡ states_after put (shared_cells m)
   put_cells e are =
       same_states (shared_cells new) (states_after put (shared_cells m))
       (λ n. ap (λ (s : States). masked (flag_in m.live Ram n) (flag_in written' Ram n) (s.ram n)) e
-      ∙ over_masked put (ram_cell n) (ram_written put n) (flag_in m.live Ram n) (flag_in written' Ram n) (flag_in m.written Ram n) ((flat_cells m.memory).ram n) (put_tells put Ram n)
-      (λ h. put_lives m put open_ (ram_cell n) h) (λ h. inside (ram_cell n) (are (ram_cell n) h) h) (λ h. mark.outside (ram_cell n) h))
+      ∙ over_masked put (ram_cell n) (ram_written put n) (flag_in m.live Ram n) (flag_in written' Ram n)
+      (flag_in m.written Ram n) ((flat_cells m.memory).ram n) (put_tells put Ram n)
+      (λ h. put_lives m put open_ (ram_cell n) h) (λ h. inside (ram_cell n) (are (ram_cell n) h) h)
+      (λ h. mark.outside (ram_cell n) h))
       (λ n. ap (λ (s : States). masked (flag_in m.live Xram n) (flag_in written' Xram n) (s.xram n)) e
-      ∙ over_masked put (xram_cell n) (xram_written put n) (flag_in m.live Xram n) (flag_in written' Xram n) (flag_in m.written Xram n) ((flat_cells m.memory).xram n) (put_tells put Xram n)
-      (λ h. put_lives m put open_ (xram_cell n) h) (λ h. inside (xram_cell n) (are (xram_cell n) h) h) (λ h. mark.outside (xram_cell n) h))
+      ∙ over_masked put (xram_cell n) (xram_written put n) (flag_in m.live Xram n) (flag_in written' Xram n)
+      (flag_in m.written Xram n) ((flat_cells m.memory).xram n) (put_tells put Xram n)
+      (λ h. put_lives m put open_ (xram_cell n) h) (λ h. inside (xram_cell n) (are (xram_cell n) h) h)
+      (λ h. mark.outside (xram_cell n) h))
 
   -- only live cells were written
-  pub put_keeps_live : ((c : Cell) → flag_of m.written c ≡ true → flag_of m.live c ≡ true) → (c : Cell) → flag_of written' c ≡ true → flag_of m.live c ≡ true
+  pub put_keeps_live : ((c : Cell) → flag_of m.written c ≡ true → flag_of m.live c ≡ true) → (c : Cell)
+      → flag_of written' c ≡ true → flag_of m.live c ≡ true
   put_keeps_live only c h = ⊎_elim
       (λ (k : Covers (cells_put put) c). put_lives m put open_ c k)
       (λ (k : Covers (cells_put put) c → ⊥). only c (sym (mark.outside c k) ∙ h))

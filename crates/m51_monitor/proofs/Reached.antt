@@ -14,7 +14,8 @@ reached_are : (l : LayoutParts) (a : Records) → IsReached l a → AreActivatio
 reached_are l a (AtReset root h) = record { stand = record { over = h }; heights = tt; levels = omega arith }
 reached_are l a (AfterMove m cpu e step same before fits level j) =
     let were = subst (λ (l : LayoutParts). AreActivations l m.records) (sym same) (reached_are l m.records before) in
-    subst (λ (l : LayoutParts). AreActivations l (moved m.records e step)) same (moves_are_kept m cpu e step fits level j were)
+    subst (λ (l : LayoutParts). AreActivations l (moved m.records e step)) same
+    (moves_are_kept m cpu e step fits level j were)
 
 pub runs_are_bounded : RunsAreBounded
 runs_are_bounded l a sound reached =

@@ -20,7 +20,7 @@ use Rattle.m51_module.specs.Plan.{IsUnitAt, IsRootAt}
 use Rattle.m51_module.specs.Walks.{has_edge}
 use Rattle.m51_monitor.specs.declared.cause.Cause.{Cause}
 use Rattle.m51_monitor.specs.declared.cause.Cause.TheVariants.{Call as ByCall, Interrupt as ByInterrupt}
-use Rattle.m51_monitor.specs.declared.cause.Frame.{Frame}
+use Rattle.m51_monitor.specs.declared.cause.ReturnFrame.{ReturnFrame}
 use Rattle.m51_monitor.specs.declared.step.Move.{Move}
 use Rattle.m51_monitor.specs.declared.step.Move.TheVariants.{Stay, Local, Return, Jump as JumpTo, Call as CallTo}
 use Rattle.m51_monitor.specs.declared.step.Move.TheVariants.{Interrupt as InterruptTo}
@@ -80,7 +80,7 @@ return_move reset (r ∷ rs) call sp_before to at =
     (returns_to r.sp r.return_address sp_before to (is_at at (first_or (named_over reset rs) 0)))
 
 -- the same of a frame
-abbrev pub returns_from : Frame → Bool → ℕ → ℕ → Bool → Result Move Why
+abbrev pub returns_from : ReturnFrame → Bool → ℕ → ℕ → Bool → Result Move Why
 returns_from f call sp_before to inside =
     unless (not (is_by call f.cause)) NotCalled (returns_to f.sp f.return_address sp_before to inside)
 

@@ -11,11 +11,11 @@ use std::marker::Model;
 
 /// A row of flags, eight to a byte, the lowest bit's first.
 #[derive(Drop)]
-pub(crate) struct Bits {
+pub(crate) struct Flags {
     bytes: Vec<u8>,
 }
 
-impl Model for Bits {
+impl Model for Flags {
     ghost use Rattle.std.specs.Prelude.{List, Bool};
     ghost use Rattle.m51_monitor.specs.Masks as masks;
 
@@ -53,14 +53,27 @@ fn bytes(alloc: Global, byte: u8, count: usize) -> Result<Vec<u8>, NoMemory>
     Ok(vec![in alloc; byte; count]?)
 }
 
-impl Bits {
+// Replaces the bytes from an index to another.
+#[tactic(auto, using(std::proofs::lemmas::List::places))]
+fn fill_bytes(bytes: &mut Vec<u8>, from: usize, to: usize, byte: u8)
+    requires order { from ≤ to }
+    requires inside { to ≤ length bytes.old.items }
+    ensures len { length bytes.new.items ≡ length bytes.old.items }
+    ensures inside { (n : ℕ) → from ≤ n → n < to → slice_index bytes.new.items n ≡ byte }
+    ensures below { (n : ℕ) → n < from → slice_index bytes.new.items n ≡ slice_index bytes.old.items n }
+    ensures above { (n : ℕ) → to ≤ n → slice_index bytes.new.items n ≡ slice_index bytes.old.items n }
+{
+    bytes[from..to].fill(byte);
+}
+
+impl Flags {
     /// The flags of this number of bytes, all of them set so.
-    pub(crate) fn filled(alloc: Global, value: bool, count: usize) -> Result<Bits, NoMemory>
+    pub(crate) fn filled(alloc: Global, value: bool, count: usize) -> Result<Flags, NoMemory>
         ensures len { IfOk result (λ bits. length bits ≡ 8 * count) }
         ensures each { IfOk result (λ bits. (n : ℕ) → n < 8 * count → slice_index_or bits n false ≡ value) }
     {
         let bytes = bytes(alloc, whole_byte(value), count)?;
-        Ok(Bits { bytes })
+        Ok(Flags { bytes })
     }
 
     /// The flag at this place.
@@ -77,14 +90,6 @@ impl Bits {
         ensures { result ≡ true → (n : ℕ) → 8 * byte ≤ n → n < 8 * byte + 8 → slice_index_or self.now n false ≡ true }
     {
         self.bytes[byte] == 0xFF
-    }
-
-    // Sets the flags of a whole byte.
-    fn set_byte(&mut self, byte: usize, value: bool)
-        requires { 8 * byte < length self.old }
-        ensures { AreSet (8 * byte) (8 * (byte + 1)) value self.old self.new }
-    {
-        self.bytes[byte] = whole_byte(value);
     }
 
     // Sets one flag.
@@ -109,15 +114,12 @@ impl Bits {
     }
 
     // Sets the flags of whole bytes.
-    #[tactic(auto, using(crate::proofs::FlagBytes::none_set, crate::proofs::FlagBytes::then_set))]
     fn set_bytes(&mut self, from: usize, to: usize, value: bool)
         requires order { from ≤ to }
         requires inside { 8 * to ≤ length self.old }
         ensures { AreSet (8 * from) (8 * to) value self.old self.new }
     {
-        for byte in from..to {
-            self.set_byte(byte, value);
-        }
+        fill_bytes(&mut self.bytes, from, to, whole_byte(value));
     }
 
     /// Sets the flags from a place to another.

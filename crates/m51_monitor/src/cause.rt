@@ -16,7 +16,7 @@ pub(crate) enum Cause {
 ///
 /// Source: own choice ("Activations").
 #[derive(Clone, Copy, Debug, PartialEq, Eq)]
-pub(crate) struct Frame {
+pub(crate) struct ReturnFrame {
     pub cause: Cause,
     /// The return address.
     pub return_address: u16,

@@ -7,7 +7,7 @@ ghost use Rattle.m51_monitor.specs.Transfers.{IsFoundAt, IsRootWanted, jump_or_c
 ghost use Rattle.m51_monitor.specs.Transfers.{is_at, is_by, returns_from};
 ghost use Rattle.m51_monitor.specs.Transfers.{is_of_root};
 
-use crate::cause::{Cause, Frame};
+use crate::cause::{Cause, ReturnFrame};
 use crate::step::Move;
 use m51_cells::Why;
 use m51_flat::Transfer;
@@ -15,7 +15,7 @@ use m51_module::Layout;
 
 /// The topmost frame.
 #[tactic(auto, using(crate::proofs::Topping::no_top, crate::proofs::Topping::last_split))]
-pub(crate) fn topmost(frames: &[Frame]) -> Option<Frame>
+pub(crate) fn topmost(frames: &[ReturnFrame]) -> Option<ReturnFrame>
     ensures { IsTop frames.now result }
 {
     if frames.is_empty() {
@@ -35,7 +35,7 @@ fn is_of_root(cause: Cause, vector: u16) -> bool
 }
 
 /// Some frame is of an interrupt whose root is at the vector.
-pub(crate) fn any_of_root(frames: &[Frame], vector: u16) -> bool
+pub(crate) fn any_of_root(frames: &[ReturnFrame], vector: u16) -> bool
     ensures { result ≡ list_any (λ f. is_of_root vector f.cause) frames.now }
 {
     frames.iter().any(|frame| is_of_root(frame.cause, vector))
@@ -97,7 +97,7 @@ pub(crate) fn jump_or_call(
 
 /// A return to where the frame says.
 pub(crate) fn returns_from(
-    frame: &Frame,
+    frame: &ReturnFrame,
     call: bool,
     sp_before: u8,
     to: u16,

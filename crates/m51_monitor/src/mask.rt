@@ -6,7 +6,7 @@ ghost use Rattle.m51_cells.specs.Cells.{IsDataCell, cells_in};
 ghost use Rattle.m51_flat.specs.States.{ram_cell};
 ghost use Rattle.m51_monitor.specs.Masks.{IsMarked, IsMask, flag_of};
 
-use crate::bits::Bits;
+use crate::bits::Flags;
 use m51_cells::{Cell, Extent, NoMemory, Space};
 use std::alloc::Global;
 use std::marker::Model;
@@ -14,8 +14,8 @@ use std::marker::Model;
 /// A flag for each cell of data memory.
 #[derive(Drop)]
 pub(crate) struct Mask {
-    ram: Bits,
-    xram: Bits,
+    ram: Flags,
+    xram: Flags,
 }
 
 impl Model for Mask {
@@ -34,8 +34,8 @@ impl Mask {
     pub(crate) fn filled(alloc: Global, value: bool) -> Result<Mask, NoMemory>
         ensures { IfOk result (λ mask. (c : Cell) → IsDataCell c → flag_of mask c ≡ value) }
     {
-        let ram = Bits::filled(alloc, value, 256)?;
-        let xram = Bits::filled(alloc, value, 8192)?;
+        let ram = Flags::filled(alloc, value, 256)?;
+        let xram = Flags::filled(alloc, value, 8192)?;
         Ok(Mask { ram, xram })
     }
 

@@ -15,7 +15,7 @@ ghost use Rattle.m51_monitor.specs.Stores.{Stores, put_into};
 ghost use Rattle.m51_monitor.specs.Transfers.{byte_put, jumped, moved, pushed, return_address_of, without_top};
 
 use crate::activity::Activity;
-use crate::cause::{Cause, Frame};
+use crate::cause::{Cause, ReturnFrame};
 use crate::shared::SharedRam;
 use crate::step::Move;
 use m51_cells::{Cell, MOST_RETURN_RECORDS, NoMemory};
@@ -33,7 +33,7 @@ const SP: usize = 0x01;
 #[derive(Drop)]
 pub struct Monitor {
     pub(crate) activity: Activity,
-    pub(crate) frames: Vec<Frame>,
+    pub(crate) frames: Vec<ReturnFrame>,
 }
 
 impl Model for Monitor {
@@ -84,10 +84,10 @@ pub(crate) fn stack_pointer(cpu: &Cpu) -> u8
 }
 
 // The return record of these, but for its units.
-fn frame(cause: Cause, return_address: u16, sp_after: u8, start: usize) -> Frame
+fn frame(cause: Cause, return_address: u16, sp_after: u8, start: usize) -> ReturnFrame
     ensures { result ≡ record { cause = cause; return_address = return_address; sp = sp_after; start = start } }
 {
-    Frame {
+    ReturnFrame {
         cause,
         return_address,
         sp: sp_after,
@@ -96,7 +96,7 @@ fn frame(cause: Cause, return_address: u16, sp_after: u8, start: usize) -> Frame
 }
 
 // Puts a frame on top, for which there is room.
-fn add(frames: &mut Vec<Frame>, frame: Frame)
+fn add(frames: &mut Vec<ReturnFrame>, frame: ReturnFrame)
     requires { length frames.old.items < vec_capacity frames.old }
     ensures items { frames.new.items ≡ frames.old.items ++ frame ∷ [] }
     ensures capacity { vec_capacity frames.old ≤ vec_capacity frames.new }

@@ -231,6 +231,9 @@ impl CellStore for SharedRam {
 
     #[tactic(auto, using(m51_flat::proofs::Flat::open_to_puts))]
     fn put(&mut self, put: &Put) {
+        if let Put::Nothing = *put {
+            return;
+        }
         self.memory.put(put);
         self.written.mark(cells_put(put), true);
     }

@@ -1,5 +1,6 @@
 -- Records of a board, with frames that are the same before a cycle.
-use Rattle.std.proofs.Common.{◌≡◌, ℕ, zero, suc, ◌+◌, ◌≤◌, ◌<◌, inl, inr, List, [], ◌++◌, Option, Some, None, Result, Ok, Err, refl, sym, ap, subst, ◌∙◌, arith}
+use Rattle.std.proofs.Common.{◌≡◌, ℕ, zero, suc, ◌+◌, ◌≤◌, ◌<◌, inl, inr, List, [], ◌++◌, Option, Some, None, Result}
+use Rattle.std.proofs.Common.{Ok, Err, refl, sym, ap, subst, ◌∙◌, arith}
 use Rattle.std.specs.Option.{option_map}
 use Rattle.m51_cells.specs.declared.event.Entry.TheVariants.{Port}
 use Rattle.m51_cells.specs.declared.event.Event.{Event}
@@ -13,9 +14,11 @@ use Rattle.m51_sim.specs.SeparateMachine.{Separate, memory_after, separate_effec
 use Rattle.m51_party.specs.Family.{frames_sent}
 use Rattle.m51_party.proofs.Words.{Allowed, Entries, Passing}
 use Rattle.m51_party.proofs.Frames.{From, from_append, none_before, sent_frames, step_frames, step_sent}
-use Rattle.m51_party.proofs.Ticks.{AreAlike, SameBefore, next_later, next_no_less, ticks_alike, ticks_from, ticks_go, ticks_same, top}
+use Rattle.m51_party.proofs.Ticks.{AreAlike, SameBefore, next_later, next_no_less, ticks_alike, ticks_from, ticks_go}
+use Rattle.m51_party.proofs.Ticks.{ticks_same, top}
 
-port_sends : (least cycle : ℕ) (value : ℕ → ℕ) (port : Option ℕ) → From least (sent_frames (option_map (λ p. Port cycle p (value p)) port))
+port_sends : (least cycle : ℕ) (value : ℕ → ℕ) (port : Option ℕ)
+    → From least (sent_frames (option_map (λ p. Port cycle p (value p)) port))
 port_sends least cycle value None = tt
 port_sends least cycle value (Some p) = tt
 
@@ -28,26 +31,33 @@ module _ (l : LayoutParts) (image : List ℕ) where
   abbrev pub done_by : Inputs → State Separate → Allowed → Performed Separate
   done_by inputs s a = passed_into (memory_after l s.memory a) (port_entry s.cycle a.effect) (passed_by inputs s a)
 
-  late_from : (inputs : Inputs) (least n : ℕ) (s : State Separate) (r : Result Allowed Event) → s.cycle ≤ top → least ≤ next_cycle s.cycle + 4
-      → ((t : State Separate) → t.cycle ≤ top → least ≤ next_cycle t.cycle + 4 → From least (frames_sent (record_of (separate_machine l image inputs) n t)))
-      → From least (frames_sent (record_from s (record_of (separate_machine l image inputs) n) (separate_performs l inputs s r)))
+  late_from : (inputs : Inputs) (least n : ℕ) (s : State Separate) (r : Result Allowed Event) → s.cycle ≤ top
+      → least ≤ next_cycle s.cycle + 4
+      → ((t : State Separate) → t.cycle ≤ top → least ≤ next_cycle t.cycle + 4
+      → From least (frames_sent (record_of (separate_machine l image inputs) n t)))
+      → From least (frames_sent
+      (record_from s (record_of (separate_machine l image inputs) n) (separate_performs l inputs s r)))
   late_from inputs least n s (Err event) h k rest = tt
   late_from inputs least n s (Ok a) h k rest =
       let done = done_by inputs s a in
       let go = ticks_from inputs least a.effect.cycles (changed_by s.cycle s.periph a.effect) h k in
       subst (From least) (sym (step_sent done.told (record_of (separate_machine l image inputs) n done.state)))
       (from_append least (sent_frames done.told.port ++ sent_frames done.told.sent) _
-      (from_append least (sent_frames done.told.port) (sent_frames done.told.sent) (port_sends least s.cycle _ a.effect.port) (go.sent tt))
+      (from_append least (sent_frames done.told.port) (sent_frames done.told.sent)
+      (port_sends least s.cycle _ a.effect.port) (go.sent tt))
       (rest done.state go.most (omega (arith, k, next_no_less s.cycle done.state.cycle go.later))))
 
   -- nothing that a record sends arrives before
-  pub record_from_next : (inputs : Inputs) (least n : ℕ) (s : State Separate) → s.cycle ≤ top → least ≤ next_cycle s.cycle + 4 → From least (frames_sent (record_of (separate_machine l image inputs) n s))
+  pub record_from_next : (inputs : Inputs) (least n : ℕ) (s : State Separate) → s.cycle ≤ top
+      → least ≤ next_cycle s.cycle + 4 → From least (frames_sent (record_of (separate_machine l image inputs) n s))
   unfolding record_of
   record_from_next inputs least zero s h k = tt
   record_from_next inputs least (suc n) s h k =
-      late_from inputs least n s (separate_effect l image s.cpu s.memory (inputs.pins s.cycle) (attempt_of image s.cpu)) h k (λ t p q. record_from_next inputs least n t p q)
+      late_from inputs least n s (separate_effect l image s.cpu s.memory (inputs.pins s.cycle) (attempt_of image s.cpu))
+      h k (λ t p q. record_from_next inputs least n t p q)
 
-  pub record_late : (inputs : Inputs) (least n : ℕ) (s : State Separate) → s.cycle ≤ top → least ≤ s.cycle + 4 → From least (frames_sent (record_of (separate_machine l image inputs) n s))
+  pub record_late : (inputs : Inputs) (least n : ℕ) (s : State Separate) → s.cycle ≤ top → least ≤ s.cycle + 4
+      → From least (frames_sent (record_of (separate_machine l image inputs) n s))
   record_late inputs least n s h k = record_from_next inputs least n s h (omega (arith, k, next_later s.cycle h))
 
   module _ (inputs : Inputs) (xs ys : List Timed) (limit : ℕ) (same : SameBefore limit xs ys) where
@@ -58,15 +68,19 @@ module _ (l : LayoutParts) (image : List ℕ) where
     right = with_extra ys inputs
 
     -- where no cycle is as late, the records are one
-    performs_same : (s : State Separate) (r : Result Allowed Event) → top < limit → separate_performs l left s r ≡ separate_performs l right s r
+    performs_same : (s : State Separate) (r : Result Allowed Event) → top < limit
+        → separate_performs l left s r ≡ separate_performs l right s r
     performs_same s (Err event) over = refl
     performs_same s (Ok a) over =
-        ap (λ (p : Passing). Ok (passed_into (memory_after l s.memory a) (port_entry s.cycle a.effect) p)) (ticks_same inputs xs ys limit same a.effect.cycles (changed_by s.cycle s.periph a.effect) over)
+        ap (λ (p : Passing). Ok (passed_into (memory_after l s.memory a) (port_entry s.cycle a.effect) p))
+        (ticks_same inputs xs ys limit same a.effect.cycles (changed_by s.cycle s.periph a.effect) over)
 
     machines_same : top < limit → separate_machine l image left ≡ separate_machine l image right
-    machines_same over i s = performs_same s (separate_effect l image s.cpu s.memory (inputs.pins s.cycle) (attempt_of image s.cpu)) over i
+    machines_same over i s =
+        performs_same s (separate_effect l image s.cpu s.memory (inputs.pins s.cycle) (attempt_of image s.cpu)) over i
 
-    pub records_same : (n : ℕ) (s : State Separate) → top < limit → record_of (separate_machine l image left) n s ≡ record_of (separate_machine l image right) n s
+    pub records_same : (n : ℕ) (s : State Separate) → top < limit
+        → record_of (separate_machine l image left) n s ≡ record_of (separate_machine l image right) n s
     records_same n s over = ap (λ (m : Machine Separate). record_of m n s) (machines_same over)
 
     -- what both send arrives alike, one cycle longer
@@ -75,44 +89,61 @@ module _ (l : LayoutParts) (image : List ℕ) where
 
     abbrev with_passed : State Separate → Allowed → ℕ → Inputs → Passing → Record Separate
     with_passed s a n from p =
-        record_from s (record_of (separate_machine l image from) n) (Ok (passed_into (memory_after l s.memory a) (port_entry s.cycle a.effect) p))
+        record_from s (record_of (separate_machine l image from) n)
+        (Ok (passed_into (memory_after l s.memory a) (port_entry s.cycle a.effect) p))
 
     abbrev rest_after : State Separate → Allowed → ℕ → Inputs → Passing → Record Separate
-    rest_after s a n from p = record_of (separate_machine l image from) n (passed_into (memory_after l s.memory a) (port_entry s.cycle a.effect) p).state
+    rest_after s a n from p =
+        record_of (separate_machine l image from) n
+        (passed_into (memory_after l s.memory a) (port_entry s.cycle a.effect) p).state
 
     step_alike : (s : State Separate) (a : Allowed) (n : ℕ) (p q : Passing) → AreAlike inputs xs ys limit same p q
-        → ((t : State Separate) → t.cycle ≤ top → SendAlike (record_of (separate_machine l image left) n t) (record_of (separate_machine l image right) n t))
+        → ((t : State Separate) → t.cycle ≤ top
+        → SendAlike (record_of (separate_machine l image left) n t)
+        (record_of (separate_machine l image right) n t))
         → p.cycle ≤ top → SendAlike (with_passed s a n left p) (with_passed s a n right q)
     step_alike s a n p q (inl e) rest most =
         subst (λ (q : Passing). SendAlike (with_passed s a n left p) (with_passed s a n right q)) e
         (λ cycle below.
         let told : Entries = (passed_into (memory_after l s.memory a) (port_entry s.cycle a.effect) p).told in
         step_frames cycle told (rest_after s a n left p)
-        ∙ ap (λ (fs : List Frame). (frames_in cycle (sent_frames told.port) ++ frames_in cycle (sent_frames told.sent)) ++ fs) (rest (passed_into (memory_after l s.memory a) (port_entry s.cycle a.effect) p).state most cycle below)
+        ∙ ap (λ (fs : List Frame). (frames_in cycle (sent_frames told.port) ++ frames_in cycle (sent_frames told.sent))
+        ++ fs) (rest (passed_into (memory_after l s.memory a) (port_entry s.cycle a.effect) p).state most cycle
+        below)
         ∙ sym (step_frames cycle told (rest_after s a n right p)))
     step_alike s a n p q (inr h) rest most = λ cycle below.
         let port = port_entry s.cycle a.effect in
         let first = passed_into (memory_after l s.memory a) port p in
         let second = passed_into (memory_after l s.memory a) port q in
-        let one = none_before cycle (suc limit) (frames_sent (rest_after s a n left p)) below (record_late left (suc limit) n first.state h.left_top (omega (arith, h.left))) in
-        let two = none_before cycle (suc limit) (frames_sent (rest_after s a n right q)) below (record_late right (suc limit) n second.state h.right_top (omega (arith, h.right))) in
+        let one = none_before cycle (suc limit) (frames_sent (rest_after s a n left p)) below
+        (record_late left (suc limit) n first.state h.left_top (omega (arith, h.left))) in
+        let two = none_before cycle (suc limit) (frames_sent (rest_after s a n right q)) below
+        (record_late right (suc limit) n second.state h.right_top (omega (arith, h.right))) in
         step_frames cycle first.told (rest_after s a n left p)
-        ∙ ap (λ (fs : List Frame). (frames_in cycle (sent_frames port) ++ frames_in cycle (sent_frames p.sent)) ++ fs) one
+        ∙ ap (λ (fs : List Frame). (frames_in cycle (sent_frames port) ++ frames_in cycle (sent_frames p.sent)) ++ fs)
+        one
         ∙ ap (λ (fs : List Frame). (frames_in cycle (sent_frames port) ++ fs) ++ []) (h.sent cycle below)
-        ∙ ap (λ (fs : List Frame). (frames_in cycle (sent_frames port) ++ frames_in cycle (sent_frames q.sent)) ++ fs) (sym two)
+        ∙ ap (λ (fs : List Frame). (frames_in cycle (sent_frames port) ++ frames_in cycle (sent_frames q.sent)) ++ fs)
+        (sym two)
         ∙ sym (step_frames cycle second.told (rest_after s a n right q))
 
     judged_alike : (n : ℕ) (s : State Separate) (r : Result Allowed Event) → s.cycle ≤ top
-        → ((t : State Separate) → t.cycle ≤ top → SendAlike (record_of (separate_machine l image left) n t) (record_of (separate_machine l image right) n t))
-        → SendAlike (record_from s (record_of (separate_machine l image left) n) (separate_performs l left s r)) (record_from s (record_of (separate_machine l image right) n) (separate_performs l right s r))
+        → ((t : State Separate) → t.cycle ≤ top
+        → SendAlike (record_of (separate_machine l image left) n t)
+        (record_of (separate_machine l image right) n t))
+        → SendAlike (record_from s (record_of (separate_machine l image left) n) (separate_performs l left s r))
+        (record_from s (record_of (separate_machine l image right) n) (separate_performs l right s r))
     judged_alike n s (Err event) h rest = λ cycle below. refl
     judged_alike n s (Ok a) h rest =
         let start = changed_by s.cycle s.periph a.effect in
-        step_alike s a n (passed_by left s a) (passed_by right s a) (ticks_alike inputs xs ys limit same a.effect.cycles start) rest
+        step_alike s a n (passed_by left s a) (passed_by right s a)
+        (ticks_alike inputs xs ys limit same a.effect.cycles start) rest
         (ticks_go left 0 a.effect.cycles start h (omega arith)).most
 
-    pub records_alike : (n : ℕ) (s : State Separate) → s.cycle ≤ top → SendAlike (record_of (separate_machine l image left) n s) (record_of (separate_machine l image right) n s)
+    pub records_alike : (n : ℕ) (s : State Separate) → s.cycle ≤ top
+        → SendAlike (record_of (separate_machine l image left) n s) (record_of (separate_machine l image right) n s)
     unfolding record_of
     records_alike zero s h = λ cycle below. refl
     records_alike (suc n) s h =
-        judged_alike n s (separate_effect l image s.cpu s.memory (inputs.pins s.cycle) (attempt_of image s.cpu)) h (λ t k. records_alike n t k)
+        judged_alike n s (separate_effect l image s.cpu s.memory (inputs.pins s.cycle) (attempt_of image s.cpu)) h
+        (λ t k. records_alike n t k)

@@ -1,5 +1,7 @@
 -- Boards on the line: each is at most four cycles before one that is still to be stepped.
-use Rattle.std.proofs.Common.{◌≡◌, ℕ, zero, suc, ◌+◌, ◌-◌, ◌≤◌, ◌<◌, ◌⊎◌, inl, inr, ⊎_elim, Bool, true, false, List, [], ◌∷◌, ◌++◌, Option, Some, None, Result, Ok, Err, refl, sym, ap, subst, ◌∙◌, arith, append-nil}
+use Rattle.std.proofs.Common.{◌≡◌, ℕ, zero, suc, ◌+◌, ◌-◌, ◌≤◌, ◌<◌, ◌⊎◌, inl, inr, ⊎_elim, Bool, true, false, List, []}
+use Rattle.std.proofs.Common.{◌∷◌, ◌++◌, Option, Some, None, Result, Ok, Err, refl, sym, ap, subst, ◌∙◌, arith}
+use Rattle.std.proofs.Common.{append-nil}
 use Rattle.std.specs.Prelude.{◌&&◌, flat_map, option_to_list, is_none, nat_lt, if◌then◌else◌}
 use Rattle.std.proofs.lemmas.Bool.{ltb-false, ltb-true}
 use Rattle.std.proofs.lemmas.Grind.{flat_map-append}
@@ -30,7 +32,8 @@ use Rattle.m51_party.proofs.Spacing.{none_until}
 use Rattle.m51_party.proofs.UnderWay.{IsUnderWay, continued, nothing_added, rest_of, rest_record, step_text}
 
 -- what is still to come of a board that makes no more steps: nothing
-record_stops : (m : Machine Separate) (k : ℕ) (s : State Separate) (event : Event) → m s ≡ Err event → (record_of m k s).entries ≡ []
+record_stops : (m : Machine Separate) (k : ℕ) (s : State Separate) (event : Event) → m s ≡ Err event
+    → (record_of m k s).entries ≡ []
 unfolding record_of
 record_stops m zero s event e = refl
 record_stops m (suc k) s event e = ap (λ (r : Record Separate). r.entries) (ap (record_from s (record_of m k)) e)
@@ -52,7 +55,8 @@ record_none : (m : Machine Separate) (k : ℕ) (s : State Separate) → k ≡ 0 
 unfolding record_of
 record_none m k s e = ap (λ (j : ℕ). record_of m j s) e
 
-record_event : (m : Machine Separate) (k : ℕ) (s : State Separate) (event : Event) → 1 ≤ k → m s ≡ Err event → record_of m k s ≡ no_step (Some event) s
+record_event : (m : Machine Separate) (k : ℕ) (s : State Separate) (event : Event) → 1 ≤ k → m s ≡ Err event
+    → record_of m k s ≡ no_step (Some event) s
 unfolding record_of
 record_event m zero s event below e = absurd (omega (arith, below))
 record_event m (suc k) s event below e = ap (record_from s (record_of m k)) e
@@ -113,17 +117,23 @@ module _ (l : LayoutParts) (image : List ℕ) (inputs : Inputs) where
   steps_by n s (Err event) h rest = tt
   steps_by n s (Ok a) h rest =
       let done = done_by l image inputs s a in
-      let go = ticks_go inputs 0 a.effect.cycles (changed_by s.cycle s.periph a.effect) h (omega arith) in
-      (omega arith, steps_more s.cycle done.state.cycle (steps_of (separate_machine l image inputs) n done.state) go.later (rest done.state go.most))
+      let go = ticks_go inputs 0 a.effect.cycles (changed_by s.cycle s.periph a.effect) h (omega arith) in (
+        omega arith,
+        steps_more s.cycle done.state.cycle (steps_of (separate_machine l image inputs) n done.state)
+            go.later (rest done.state go.most),
+      )
 
   -- no step starts earlier than the first
-  steps_ascend : (n : ℕ) (s : State Separate) → s.cycle ≤ top → StepsFrom s.cycle (steps_of (separate_machine l image inputs) n s)
+  steps_ascend : (n : ℕ) (s : State Separate) → s.cycle ≤ top
+      → StepsFrom s.cycle (steps_of (separate_machine l image inputs) n s)
   unfolding steps_of
   steps_ascend zero s h = tt
   steps_ascend (suc n) s h =
-      steps_by n s (separate_effect l image s.cpu s.memory (inputs.pins s.cycle) (attempt_of image s.cpu)) h (λ t k. steps_ascend n t k)
+      steps_by n s (separate_effect l image s.cpu s.memory (inputs.pins s.cycle) (attempt_of image s.cpu)) h
+      (λ t k. steps_ascend n t k)
 
-module _ (n : ℕ) (few : n ≤ 10000000) (extra : List Timed) (r : Record Separate) (s : Seat) (way : IsUnderWay extra n r s) where
+module _ (n : ℕ) (few : n ≤ 10000000) (extra : List Timed) (r : Record Separate) (s : Seat)
+    (way : IsUnderWay extra n r s) where
   abbrev m : Machine Separate
   m = machine_with extra s.board
 
@@ -143,22 +153,27 @@ module _ (n : ℕ) (few : n ≤ 10000000) (extra : List Timed) (r : Record Separ
   rest_by least (Some cycle) e h =
       let is = starting n cycle s e in
       steps_more least s.board.chip.cycle (rest_of n extra s) (omega (arith, h, is.cycle_is))
-      (steps_ascend s.board.monitor.layout s.board.chip.image (with_extra extra (inputs_of s.board.chip.script)) (n - s.steps) (separate_of s.board) (omega (arith, cycle_few)))
+      (steps_ascend s.board.monitor.layout s.board.chip.image (with_extra extra (inputs_of s.board.chip.script))
+      (n - s.steps) (separate_of s.board) (omega (arith, cycle_few)))
 
   -- the steps to come start no earlier than the next one
   pub rest_late : (least : ℕ) → StartsFrom least (start_of n s) → StepsFrom least (rest_of n extra s)
   rest_late least h = rest_by least (start_of n s) refl h
 
-  frames_by : (least now : ℕ) (o : Option ℕ) → now < least + 5 → start_of n s ≡ o → StartsFrom least o → frames_in now (frames_sent (rest_record n extra s)) ≡ []
-  frames_by least now None below e h = ap (λ (es : List Entry). frames_in now (flat_map frames_of es)) (over_entries (over n s e))
+  frames_by : (least now : ℕ) (o : Option ℕ) → now < least + 5 → start_of n s ≡ o → StartsFrom least o
+      → frames_in now (frames_sent (rest_record n extra s)) ≡ []
+  frames_by least now None below e h =
+      ap (λ (es : List Entry). frames_in now (flat_map frames_of es)) (over_entries (over n s e))
   frames_by least now (Some cycle) below e h =
       let is = starting n cycle s e in
       none_before now (least + 5) (frames_sent (rest_record n extra s)) below
-      (record_from_next s.board.monitor.layout s.board.chip.image (with_extra extra (inputs_of s.board.chip.script)) (least + 5) (n - s.steps) (separate_of s.board)
+      (record_from_next s.board.monitor.layout s.board.chip.image (with_extra extra (inputs_of s.board.chip.script))
+      (least + 5) (n - s.steps) (separate_of s.board)
       (omega (arith, cycle_few)) (omega (arith, cycle_few, h, is.cycle_is)))
 
   -- of what it sends, only the frame that is kept arrives in the next four cycles of a board that starts then
-  pub sent_agrees : (least now : ℕ) → least < now → now ≤ least + 4 → s.board.chip.cycle ≤ least + 4 → StartsFrom least (start_of n s)
+  pub sent_agrees : (least now : ℕ) → least < now → now ≤ least + 4 → s.board.chip.cycle ≤ least + 4
+      → StartsFrom least (start_of n s)
       → frames_in now (option_to_list s.sent) ≡ frames_in now (frames_sent r)
   sent_agrees least now after below near h =
       let keeps = way.keeps in
@@ -180,7 +195,8 @@ module _ (n : ℕ) (few : n ≤ 10000000) (extra : List Timed) (r : Record Separ
   -- it has not come further than its record
   pub last_later : s.board.chip.cycle ≤ r.last.cycle
   last_later =
-      let later = (made s.board.monitor.layout s.board.chip.image (with_extra extra (inputs_of s.board.chip.script)) (n - s.steps) (separate_of s.board) (omega (arith, cycle_few))).later in
+      let later = (made s.board.monitor.layout s.board.chip.image (with_extra extra (inputs_of s.board.chip.script))
+      (n - s.steps) (separate_of s.board) (omega (arith, cycle_few))).later in
       omega (arith, later, made_later)
 
   -- the state of a board that makes no more steps is the end of its record
@@ -189,9 +205,11 @@ module _ (n : ℕ) (few : n ≤ 10000000) (extra : List Timed) (r : Record Separ
     pub steps : r.steps ≡ s.steps
     pub cycle : r.last.cycle ≡ s.board.chip.cycle
 
-  ends_as : (event : Option Event) → s.event ≡ event → rest_record n extra s ≡ no_step event (separate_of s.board) → IsEnd
+  ends_as : (event : Option Event) → s.event ≡ event → rest_record n extra s ≡ no_step event (separate_of s.board)
+      → IsEnd
   ends_as event e h =
-      let all : r ≡ continued way.told s.steps (no_step event (separate_of s.board)) = way.is ∙ ap (continued way.told s.steps) h in
+      let all : r ≡ continued way.told s.steps (no_step event (separate_of s.board)) =
+      way.is ∙ ap (continued way.told s.steps) h in
       record {
         event = ap (λ (r : Record Separate). r.event) all ∙ sym e;
         steps = ap (λ (r : Record Separate). r.steps) all ∙ nothing_added s.steps;
@@ -200,4 +218,6 @@ module _ (n : ℕ) (few : n ≤ 10000000) (extra : List Timed) (r : Record Separ
 
   pub over_end : IsOver n s → IsEnd
   over_end (inl x) = ends_as None x.1 (record_none m (n - s.steps) (separate_of s.board) x.0)
-  over_end (inr x) = ends_as (Some x.0) x.1 (record_event m (n - s.steps) (separate_of s.board) x.0 (omega (arith, way.unfinished x.0 x.1)) (way.stopped x.0 x.1))
+  over_end (inr x) = ends_as (Some x.0) x.1
+      (record_event m (n - s.steps) (separate_of s.board) x.0 (omega (arith, way.unfinished x.0 x.1))
+      (way.stopped x.0 x.1))

@@ -1,5 +1,6 @@
 -- The last lines, one after another.
-use Rattle.std.proofs.Common.{◌≡◌, ℕ, suc, ◌+◌, ◌<◌, List, ◌++◌, length, get_or, drop, Option, sym, ap, subst, ◌∙◌, append_assoc, add-one}
+use Rattle.std.proofs.Common.{◌≡◌, ℕ, suc, ◌+◌, ◌<◌, List, ◌++◌, length, get_or, drop, Option, sym, ap, subst, ◌∙◌}
+use Rattle.std.proofs.Common.{append_assoc, add-one}
 use Rattle.std.specs.Io.KnownBytes.{Appends}
 use Rattle.std.proofs.KnownBytes.{Appends-trans}
 use Rattle.std.proofs.lemmas.List.{drop_more}
@@ -21,17 +22,23 @@ ends_more seats index s below is =
     ∙ ap (λ (x : Seat). end_text index x ++ ends_text (suc index) (drop (index + 1) seats)) (sym is)
     ∙ ap (λ (k : ℕ). end_text index s ++ ends_text k (drop (index + 1) seats)) (sym (add-one index))
 
-pub ending_on : (before now later : Option (List ℕ)) (index : ℕ) (seats : List Seat) (s : Seat) → index < length seats → s ≡ get_or seats index s
+pub ending_on : (before now later : Option (List ℕ)) (index : ℕ) (seats : List Seat) (s : Seat) → index < length seats
+    → s ≡ get_or seats index s
     → IsEnding before now index seats → Appends now later (end_text index s) → IsEnding before later (index + 1) seats
 ending_on before now later index seats s below is h written = record {
   lines = h.lines ++ end_text index s;
   written = Appends-trans before now later h.lines (end_text index s) h.written written;
-  text = h.text ∙ ap (λ (text : List ℕ). h.lines ++ text) (ends_more seats index s below is) ∙ sym (append_assoc h.lines (end_text index s) (ends_text (index + 1) (drop (index + 1) seats)));
+  text = h.text ∙ ap (λ (text : List ℕ). h.lines ++ text) (ends_more seats index s below is)
+      ∙ sym (append_assoc h.lines (end_text index s) (ends_text (index + 1) (drop (index + 1) seats)));
 }
 
-pub ending_cut : (before now later : Option (List ℕ)) (index : ℕ) (seats : List Seat) (s : Seat) → index < length seats → s ≡ get_or seats index s
-    → IsEnding before now index seats → AppendsFront now later (end_text index s) → AppendsFront before later (ends_text 0 seats)
+pub ending_cut : (before now later : Option (List ℕ)) (index : ℕ) (seats : List Seat) (s : Seat) → index < length seats
+    → s ≡ get_or seats index s
+    → IsEnding before now index seats → AppendsFront now later (end_text index s)
+    → AppendsFront before later (ends_text 0 seats)
 ending_cut before now later index seats s below is h front =
     let rest = ends_text (index + 1) (drop (index + 1) seats) in
-    subst (AppendsFront before later) (sym (h.text ∙ ap (λ (text : List ℕ). h.lines ++ text) (ends_more seats index s below is)))
-    (front_at_end before now later h.lines (end_text index s ++ rest) h.written (front_more now later (end_text index s) rest front))
+    subst (AppendsFront before later)
+    (sym (h.text ∙ ap (λ (text : List ℕ). h.lines ++ text) (ends_more seats index s below is)))
+    (front_at_end before now later h.lines (end_text index s ++ rest) h.written
+    (front_more now later (end_text index s) rest front))

@@ -1,5 +1,6 @@
 -- The start and the end of a run of the boards on a line.
-use Rattle.std.proofs.Common.{◌≡◌, ℕ, zero, suc, ◌+◌, ◌-◌, ◌≤◌, List, [], ◌∷◌, ◌++◌, length, map, refl, sym, ap, subst, ◌∙◌, arith, append_assoc}
+use Rattle.std.proofs.Common.{◌≡◌, ℕ, zero, suc, ◌+◌, ◌-◌, ◌≤◌, List, [], ◌∷◌, ◌++◌, length, map, refl, sym, ap, subst}
+use Rattle.std.proofs.Common.{◌∙◌, arith, append_assoc}
 use Rattle.std.specs.Prelude.{All, flat_map, is_some, ◌||◌}
 use Rattle.std.specs.List.{list_any}
 use Rattle.std.proofs.lemmas.List.Elements.{All-cons, All-head, All-tail}
@@ -20,10 +21,13 @@ use Rattle.m51_party.proofs.Close.{over, over_end, start_in}
 use Rattle.m51_party.proofs.OnTheLine.{AllClose, AllUnderWay, all_over, rests_from}
 use Rattle.m51_party.proofs.Runs.{AreGoing, boards_of, both_texts, start_late, text_to_come}
 
-all_start : (at n : ℕ) (family : Family) (bs : List BoardState) → All IsFresh bs → AllUnderWay at n family (records_from at bs n family) (map new_seat bs)
+all_start : (at n : ℕ) (family : Family) (bs : List BoardState) → All IsFresh bs
+    → AllUnderWay at n family (records_from at bs n family) (map new_seat bs)
 all_start at n family [] fresh = tt
-all_start at n family (b ∷ bs) fresh =
-    (under_way_first n (frames_for at family) b (All-head IsFresh b bs fresh), all_start (suc at) n family bs (All-tail IsFresh b bs fresh))
+all_start at n family (b ∷ bs) fresh = (
+  under_way_first n (frames_for at family) b (All-head IsFresh b bs fresh),
+  all_start (suc at) n family bs (All-tail IsFresh b bs fresh),
+)
 
 close_start : (n : ℕ) (bs : List BoardState) → All IsFresh bs → AllClose n 0 (map new_seat bs)
 close_start n [] fresh = tt
@@ -32,21 +36,26 @@ close_start n (b ∷ bs) fresh =
     (omega (arith, is), start_late n 0 (new_seat b) (omega arith), close_start n bs (All-tail IsFresh b bs fresh))
 
 -- boards that were not stepped are at the start of their records
-pub going_start : (n : ℕ) (family : Family) (bs : List BoardState) → All IsFresh bs → IsFamily bs n family → AreGoing n family (map new_seat bs)
+pub going_start : (n : ℕ) (family : Family) (bs : List BoardState) → All IsFresh bs → IsFamily bs n family
+    → AreGoing n family (map new_seat bs)
 going_start n family bs fresh is = record {
   all = subst (λ (rs : Family). AllUnderWay 0 n family rs (map new_seat bs)) (sym is) (all_start 0 n family bs fresh);
   least = 0;
   close = close_start n bs fresh;
 }
 
-lines_same : (cycle at n : ℕ) (family : Family) (bs : List BoardState) → lines_at cycle at bs n family ≡ at_cycle start_in step_text cycle at (rests_from at n family (map new_seat bs))
+lines_same : (cycle at n : ℕ) (family : Family) (bs : List BoardState)
+    → lines_at cycle at bs n family ≡ at_cycle start_in step_text cycle at (rests_from at n family (map new_seat bs))
 lines_same cycle at n family [] = refl
 lines_same cycle at n family (b ∷ bs) =
     let all : n ≡ n - 0 = omega arith in
-    ap (λ (k : ℕ). flat_map (lines_of cycle (front_of at)) (steps_of (machine_with (frames_for at family) b) k (separate_of b)) ++ lines_at cycle (suc at) bs n family) all
-    ∙ ap (λ (text : List ℕ). flat_map (lines_of cycle (front_of at)) (rest_of n (frames_for at family) (new_seat b)) ++ text) (lines_same cycle (suc at) n family bs)
+    ap (λ (k : ℕ). flat_map (lines_of cycle (front_of at))
+    (steps_of (machine_with (frames_for at family) b) k (separate_of b)) ++ lines_at cycle (suc at) bs n family) all
+    ∙ ap (λ (text : List ℕ). flat_map (lines_of cycle (front_of at)) (rest_of n (frames_for at family) (new_seat b))
+    ++ text) (lines_same cycle (suc at) n family bs)
 
-before_same : (cycle n : ℕ) (family : Family) (bs : List BoardState) → lines_before cycle bs n family ≡ before start_in step_text cycle (rests_from 0 n family (map new_seat bs))
+before_same : (cycle n : ℕ) (family : Family) (bs : List BoardState)
+    → lines_before cycle bs n family ≡ before start_in step_text cycle (rests_from 0 n family (map new_seat bs))
 before_same zero n family bs = refl
 before_same (suc cycle) n family bs = λ i. before_same cycle n family bs i ++ lines_same cycle 0 n family bs i
 
@@ -55,30 +64,37 @@ boards_same [] = refl
 boards_same (b ∷ bs) = ap (λ (rest : List BoardState). b ∷ rest) (boards_same bs)
 
 -- their text is the first line, and what is to come
-pub text_start : (n : ℕ) (family : Family) (bs : List BoardState) → party_text bs n family ≡ head_text (length bs) ++ text_to_come n family (map new_seat bs)
+pub text_start : (n : ℕ) (family : Family) (bs : List BoardState)
+    → party_text bs n family ≡ head_text (length bs) ++ text_to_come n family (map new_seat bs)
 unfolding party_text
 text_start n family bs =
     append_assoc (head_text (length bs)) (lines_before (end_of family + 1) bs n family) (last_lines 0 bs family)
     ∙ ap (λ (text : List ℕ). head_text (length bs) ++ text)
-    (both_texts _ _ _ _ (before_same (end_of family + 1) n family bs) (ap (λ (all : List BoardState). last_lines 0 all family) (boards_same bs)))
+    (both_texts _ _ _ _ (before_same (end_of family + 1) n family bs)
+    (ap (λ (all : List BoardState). last_lines 0 all family) (boards_same bs)))
 
 -- at the end only the last lines are to come
-last_same : (at n : ℕ) (family rs : Family) (ss : List Seat) → n ≤ 10000000 → AllUnderWay at n family rs ss → NoneStarts n ss → last_lines at (boards_of ss) rs ≡ ends_text at ss
+last_same : (at n : ℕ) (family rs : Family) (ss : List Seat) → n ≤ 10000000 → AllUnderWay at n family rs ss
+    → NoneStarts n ss → last_lines at (boards_of ss) rs ≡ ends_text at ss
 last_same at n family [] [] few h none = refl
 last_same at n family [] (s ∷ ss) few h none = absurd h
 last_same at n family (r ∷ rs) [] few h none = absurd h
 last_same at n family (r ∷ rs) (s ∷ ss) few h none =
     let end = over_end n few (frames_for at family) r s h.0 (over n s none.0) in
     let rest = last_same (suc at) n family rs ss few h.1 none.1 in
-    λ i. front_of at ++ last_line (titles_of s.board.monitor.layout.placed) (end.event i) (end.steps i) (end.cycle i) ++ rest i
+    λ i. front_of at ++ last_line (titles_of s.board.monitor.layout.placed) (end.event i) (end.steps i) (end.cycle i)
+    ++ rest i
 
-pub text_end : (n : ℕ) (family : Family) (ss : List Seat) → n ≤ 10000000 → AreGoing n family ss → NoneStarts n ss → text_to_come n family ss ≡ ends_text 0 ss
+pub text_end : (n : ℕ) (family : Family) (ss : List Seat) → n ≤ 10000000 → AreGoing n family ss → NoneStarts n ss
+    → text_to_come n family ss ≡ ends_text 0 ss
 text_end n family ss few going none =
-    let over = merging.all_over start_in step_text (rests_from 0 n family ss) (all_over 0 n family family ss few going.all none) (end_of family + 1) in
+    let over = merging.all_over start_in step_text (rests_from 0 n family ss)
+    (all_over 0 n family family ss few going.all none) (end_of family + 1) in
     λ i. over i ++ last_same 0 n family family ss few going.all none i
 
 -- and a record has an event where its board was stopped
-events_same : (at n : ℕ) (family rs : Family) (ss : List Seat) → n ≤ 10000000 → AllUnderWay at n family rs ss → NoneStarts n ss
+events_same : (at n : ℕ) (family rs : Family) (ss : List Seat) → n ≤ 10000000 → AllUnderWay at n family rs ss
+    → NoneStarts n ss
     → list_any (λ (r : Record Separate). is_some r.event) rs ≡ list_any (λ (s : Seat). is_some s.event) ss
 events_same at n family [] [] few h none = refl
 events_same at n family [] (s ∷ ss) few h none = absurd h

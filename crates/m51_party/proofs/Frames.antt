@@ -1,5 +1,6 @@
 -- The frames of a cycle, in lists that come after one another.
-use Rattle.std.proofs.Common.{◌≡◌, ℕ, ◌+◌, ◌≤◌, ◌<◌, Bool, true, false, List, [], ◌∷◌, ◌++◌, Option, Some, None, refl, sym, ap, ◌∙◌, arith}
+use Rattle.std.proofs.Common.{◌≡◌, ℕ, ◌+◌, ◌≤◌, ◌<◌, Bool, true, false, List, [], ◌∷◌, ◌++◌, Option, Some, None, refl}
+use Rattle.std.proofs.Common.{sym, ap, ◌∙◌, arith}
 use Rattle.std.specs.Prelude.{◌==◌, if◌then◌else◌, flat_map, option_to_list}
 use Rattle.std.proofs.lemmas.Bool.{ne_eqb}
 use Rattle.std.proofs.lemmas.Grind.{flat_map-append}
@@ -14,9 +15,11 @@ use Rattle.m51_sim.specs.Cycles.{first_sent, frames_in, sent_in}
 use Rattle.m51_sim.specs.Runs.{Record, entries_of, with_step}
 use Rattle.m51_party.specs.Family.{frames_of, frames_sent}
 
-pub joined_same : (cycle : ℕ) (a b c d : List Timed) → frames_in cycle a ≡ frames_in cycle c → frames_in cycle b ≡ frames_in cycle d → frames_in cycle (a ++ b) ≡ frames_in cycle (c ++ d)
+pub joined_same : (cycle : ℕ) (a b c d : List Timed) → frames_in cycle a ≡ frames_in cycle c
+    → frames_in cycle b ≡ frames_in cycle d → frames_in cycle (a ++ b) ≡ frames_in cycle (c ++ d)
 joined_same cycle a b c d h k =
-    frames_join cycle a b ∙ ap (λ (fs : List Frame). fs ++ frames_in cycle b) h ∙ ap (λ (fs : List Frame). frames_in cycle c ++ fs) k ∙ sym (frames_join cycle c d)
+    frames_join cycle a b ∙ ap (λ (fs : List Frame). fs ++ frames_in cycle b) h
+    ∙ ap (λ (fs : List Frame). frames_in cycle c ++ fs) k ∙ sym (frames_join cycle c d)
 
 -- none of the frames arrives before this cycle
 abbrev pub From : ℕ → List Timed → Type 0
@@ -34,35 +37,46 @@ passed_over false f fs e h = h
 pub none_before : (cycle least : ℕ) (ts : List Timed) → cycle < least → From least ts → frames_in cycle ts ≡ []
 none_before cycle least [] below h = refl
 none_before cycle least (t ∷ ts) below h =
-    passed_over (t.cycle == cycle) t.frame (frames_in cycle ts) (ne_eqb t.cycle cycle (λ e. omega (arith, e, h.0, below))) (none_before cycle least ts below h.1)
+    passed_over (t.cycle == cycle) t.frame (frames_in cycle ts)
+    (ne_eqb t.cycle cycle (λ e. omega (arith, e, h.0, below))) (none_before cycle least ts below h.1)
 
 -- the frames of an entry, if there is one
 abbrev pub sent_frames : Option Entry → List Timed
 sent_frames o = flat_map frames_of (option_to_list o)
 
-byte_from : (cycle least byte : ℕ) (ninth : Option Bool) → least ≤ cycle + 4 → From least (sent_frames (Some (SentByte cycle byte ninth)))
+byte_from : (cycle least byte : ℕ) (ninth : Option Bool) → least ≤ cycle + 4
+    → From least (sent_frames (Some (SentByte cycle byte ninth)))
 byte_from cycle least byte None h = tt
 byte_from cycle least byte (Some b) h = (h, tt)
 
-pub sent_from : (cycle least : ℕ) (sent : Option Sent) → least ≤ cycle + 4 → From least (sent_frames (sent_in cycle sent))
+pub sent_from : (cycle least : ℕ) (sent : Option Sent) → least ≤ cycle + 4
+    → From least (sent_frames (sent_in cycle sent))
 sent_from cycle least None h = tt
 sent_from cycle least (Some s) h = byte_from cycle least s.byte s.ninth h
 
-pub first_from : (least : ℕ) (a b : Option Entry) → From least (sent_frames a) → From least (sent_frames b) → From least (sent_frames (first_sent a b))
+pub first_from : (least : ℕ) (a b : Option Entry) → From least (sent_frames a) → From least (sent_frames b)
+    → From least (sent_frames (first_sent a b))
 first_from least None b h k = k
 first_from least (Some e) b h k = h
 
 -- what is sent after a cycle adds nothing to it
-pub first_same : (cycle least : ℕ) (a b : Option Entry) → cycle < least → From least (sent_frames b) → frames_in cycle (sent_frames (first_sent a b)) ≡ frames_in cycle (sent_frames a)
+pub first_same : (cycle least : ℕ) (a b : Option Entry) → cycle < least → From least (sent_frames b)
+    → frames_in cycle (sent_frames (first_sent a b)) ≡ frames_in cycle (sent_frames a)
 first_same cycle least None b below h = none_before cycle least (sent_frames b) below h
 first_same cycle least (Some e) b below h = refl
 
 -- the frames of a step and of the steps after it
-pub step_sent : {M : Type 0} (told : Entries) (r : Record M) → frames_sent (with_step told r) ≡ (sent_frames told.port ++ sent_frames told.sent) ++ frames_sent r
-step_sent told r = flat_map-append frames_of (entries_of told) r.entries ∙ ap (λ ts. ts ++ frames_sent r) (flat_map-append frames_of (option_to_list told.port) (option_to_list told.sent))
+pub step_sent : {M : Type 0} (told : Entries) (r : Record M)
+    → frames_sent (with_step told r) ≡ (sent_frames told.port ++ sent_frames told.sent) ++ frames_sent r
+step_sent told r = flat_map-append frames_of (entries_of told) r.entries
+    ∙ ap (λ ts. ts ++ frames_sent r) (flat_map-append frames_of (option_to_list told.port) (option_to_list told.sent))
 
 pub step_frames : {M : Type 0} (cycle : ℕ) (told : Entries) (r : Record M)
-    → frames_in cycle (frames_sent (with_step told r)) ≡ (frames_in cycle (sent_frames told.port) ++ frames_in cycle (sent_frames told.sent)) ++ frames_in cycle (frames_sent r)
+    → frames_in cycle (frames_sent (with_step told r))
+    ≡ (frames_in cycle (sent_frames told.port) ++ frames_in cycle (sent_frames told.sent))
+    ++ frames_in cycle (frames_sent r)
 step_frames cycle told r =
-    ap (frames_in cycle) (step_sent told r) ∙ frames_join cycle (sent_frames told.port ++ sent_frames told.sent) (frames_sent r)
-    ∙ ap (λ fs. fs ++ frames_in cycle (frames_sent r)) (frames_join cycle (sent_frames told.port) (sent_frames told.sent))
+    ap (frames_in cycle) (step_sent told r) ∙ frames_join cycle (sent_frames told.port ++ sent_frames told.sent)
+    (frames_sent r)
+    ∙ ap (λ fs. fs ++ frames_in cycle (frames_sent r))
+    (frames_join cycle (sent_frames told.port) (sent_frames told.sent))

@@ -1,5 +1,6 @@
 -- What is written, one piece after another, where the last write may have failed.
-use Rattle.std.proofs.Common.{◌≡◌, ℕ, ◌+◌, ◌≤◌, ◌<◌, List, [], ◌∷◌, ◌++◌, Option, Some, Result, Ok, Err, ap, ◌∙◌, arith, append-nil}
+use Rattle.std.proofs.Common.{◌≡◌, ℕ, ◌+◌, ◌≤◌, ◌<◌, List, [], ◌∷◌, ◌++◌, Option, Some, Result, Ok, Err, ap, ◌∙◌, arith}
+use Rattle.std.proofs.Common.{append-nil}
 use Rattle.std.specs.Prelude.{OnErr, codes}
 use Rattle.std.specs.Io.KnownBytes.{Appends}
 use Rattle.std.proofs.lemmas.Fmt.{decimal_digit}
@@ -14,15 +15,18 @@ use Rattle.m51_party.specs.Steps.{head_text}
 use Rattle.m51_party.specs.Text.{front_of}
 
 -- the same of what a call answers
-pub stop_front : {T E : Type 0} (r : Result T E) (a b : Option (List ℕ)) (xs : List ℕ) → OnErr r (StopsWithin a b xs) → OnErr r (AppendsFront a b xs)
+pub stop_front : {T E : Type 0} (r : Result T E) (a b : Option (List ℕ)) (xs : List ℕ) → OnErr r (StopsWithin a b xs)
+    → OnErr r (AppendsFront a b xs)
 stop_front (Ok x) a b xs q = tt
 stop_front (Err e) a b xs q = front_of_stop a b xs q
 
-pub front_then : {T E : Type 0} (r : Result T E) (a b c : Option (List ℕ)) (xs ys : List ℕ) → Appends a b xs → OnErr r (AppendsFront b c ys) → OnErr r (AppendsFront a c (xs ++ ys))
+pub front_then : {T E : Type 0} (r : Result T E) (a b c : Option (List ℕ)) (xs ys : List ℕ) → Appends a b xs
+    → OnErr r (AppendsFront b c ys) → OnErr r (AppendsFront a c (xs ++ ys))
 front_then (Ok x) a b c xs ys p q = tt
 front_then (Err e) a b c xs ys p q = front_at_end a b c xs ys p q
 
-pub stop_then : {T E : Type 0} (r : Result T E) (a b c : Option (List ℕ)) (xs ys : List ℕ) → Appends a b xs → OnErr r (StopsWithin b c ys) → OnErr r (AppendsFront a c (xs ++ ys))
+pub stop_then : {T E : Type 0} (r : Result T E) (a b c : Option (List ℕ)) (xs ys : List ℕ) → Appends a b xs
+    → OnErr r (StopsWithin b c ys) → OnErr r (AppendsFront a c (xs ++ ys))
 stop_then r a b c xs ys p q = front_then r a b c xs ys p (stop_front r b c ys q)
 
 -- what holds at an error
@@ -38,8 +42,10 @@ front_digit index below =
     ∙ ap (λ (d : ℕ). d ∷ 58 ∷ 32 ∷ []) same
 
 pub head_digit : (count : ℕ) → count ≤ 8 → head_text count ≡ 80 ∷ 65 ∷ 82 ∷ 84 ∷ 89 ∷ 32 ∷ (48 + count) ∷ 10 ∷ []
-head_digit count few = ap (λ (ds : List ℕ). codes "PARTY " ++ ds ++ codes "\n") (decimal_digit count (omega (arith, few)))
+head_digit count few =
+    ap (λ (ds : List ℕ). codes "PARTY " ++ ds ++ codes "\n") (decimal_digit count (omega (arith, few)))
 
 -- the line of an entry that exists
-pub one_entry : (index : ℕ) (entry : Option Entry) (e : Entry) → entry ≡ Some e → entry_text index entry ≡ front_of index ++ entry_line e
+pub one_entry : (index : ℕ) (entry : Option Entry) (e : Entry) → entry ≡ Some e
+    → entry_text index entry ≡ front_of index ++ entry_line e
 one_entry index entry e is = ap (entry_text index) is ∙ append-nil (front_of index ++ entry_line e)

@@ -1,5 +1,6 @@
 -- Lists of steps, one for each board: the lines by the cycle in which their step starts, when one step is taken first.
-use Rattle.std.proofs.Common.{◌≡◌, ◌≢◌, ℕ, zero, suc, ◌+◌, ◌≤◌, ◌<◌, ⊎_elim, Bool, true, false, List, [], ◌∷◌, ◌++◌, refl, sym, ap, subst, ◌∙◌, arith, append_assoc, zero-add}
+use Rattle.std.proofs.Common.{◌≡◌, ◌≢◌, ℕ, zero, suc, ◌+◌, ◌≤◌, ◌<◌, ⊎_elim, Bool, true, false, List, [], ◌∷◌, ◌++◌}
+use Rattle.std.proofs.Common.{refl, sym, ap, subst, ◌∙◌, arith, append_assoc, zero-add}
 use Rattle.std.specs.Prelude.{◌==◌, if◌then◌else◌, flat_map}
 use Rattle.std.proofs.lemmas.Bool.{cases_lt, eq-eqb, ne_eqb}
 
@@ -45,16 +46,20 @@ module _ {S : Type 0} (start : S → ℕ) (text : ℕ → S → List ℕ) where
   Takes index cycle s [] news = ⊥
   Takes index cycle s (old ∷ olds) [] = ⊥
   Takes zero cycle s (old ∷ olds) (new ∷ news) = (old ≡ s ∷ new) × (news ≡ olds) × From cycle new × AllFrom cycle olds
-  Takes (suc index) cycle s (old ∷ olds) (new ∷ news) = (new ≡ old) × From (suc cycle) old × Takes index cycle s olds news
+  Takes (suc index) cycle s (old ∷ olds) (new ∷ news) = (new ≡ old) × From (suc cycle) old
+      × Takes index cycle s olds news
 
-  no_line : (cycle index least : ℕ) (steps : List S) → cycle < least → From least steps → flat_map (line cycle index) steps ≡ []
+  no_line : (cycle index least : ℕ) (steps : List S) → cycle < least → From least steps
+      → flat_map (line cycle index) steps ≡ []
   no_line cycle index least [] below h = refl
   no_line cycle index least (s ∷ ss) below h =
-      let first = left_out (start s == cycle) (text index s) (ne_eqb (start s) cycle (λ e. omega (arith, e, h.0, below))) in
+      let first = left_out (start s == cycle) (text index s)
+      (ne_eqb (start s) cycle (λ e. omega (arith, e, h.0, below))) in
       let rest = no_line cycle index least ss below h.1 in
       ap (λ (xs : List ℕ). xs ++ flat_map (line cycle index) ss) first ∙ rest
 
-  no_lines : (cycle index least : ℕ) (all : List (List S)) → cycle < least → AllFrom least all → at_cycle cycle index all ≡ []
+  no_lines : (cycle index least : ℕ) (all : List (List S)) → cycle < least → AllFrom least all
+      → at_cycle cycle index all ≡ []
   no_lines cycle index least [] below h = refl
   no_lines cycle index least (steps ∷ rest) below h =
       ap (λ (xs : List ℕ). xs ++ at_cycle cycle (suc index) rest) (no_line cycle index least steps below h.0)
@@ -70,12 +75,14 @@ module _ {S : Type 0} (start : S → ℕ) (text : ℕ → S → List ℕ) where
   from_more least [] h = tt
   from_more least (s ∷ ss) h = (omega (arith, h.0), from_more least ss h.1)
 
-  olds_from : (index cycle : ℕ) (s : S) (olds news : List (List S)) → start s ≡ cycle → Takes index cycle s olds news → AllFrom cycle olds
+  olds_from : (index cycle : ℕ) (s : S) (olds news : List (List S)) → start s ≡ cycle → Takes index cycle s olds news
+      → AllFrom cycle olds
   olds_from index cycle s [] news e h = absurd h
   olds_from index cycle s (old ∷ olds) [] e h = absurd h
   olds_from zero cycle s (old ∷ olds) (new ∷ news) e h =
       (subst (From cycle) (sym h.0) (omega (arith, e), h.2), h.3)
-  olds_from (suc index) cycle s (old ∷ olds) (new ∷ news) e h = (from_more cycle old h.1, olds_from index cycle s olds news e h.2)
+  olds_from (suc index) cycle s (old ∷ olds) (new ∷ news) e h =
+      (from_more cycle old h.1, olds_from index cycle s olds news e h.2)
 
   news_from : (index cycle : ℕ) (s : S) (olds news : List (List S)) → Takes index cycle s olds news → AllFrom cycle news
   news_from index cycle s [] news h = absurd h
@@ -96,13 +103,15 @@ module _ {S : Type 0} (start : S → ℕ) (text : ℕ → S → List ℕ) where
       (chosen (start s == cycle) (text at s) (eq-eqb (start s) cycle e))
       ∙ append_assoc (text at s) (flat_map (line cycle at) new) (at_cycle cycle (suc at) olds)
       ∙ ap (λ (n : ℕ). text n s ++ (flat_map (line cycle at) new ++ at_cycle cycle (suc at) olds)) here
-      ∙ ap (λ (rest : List (List S)). text number s ++ (flat_map (line cycle at) new ++ at_cycle cycle (suc at) rest)) (sym h.1)
+      ∙ ap (λ (rest : List (List S)). text number s ++ (flat_map (line cycle at) new ++ at_cycle cycle (suc at) rest))
+      (sym h.1)
   taken (suc index) cycle at number s (old ∷ olds) (new ∷ news) e is h =
       let none = no_line cycle at (suc cycle) old (omega arith) h.1 in
       ap (λ (xs : List ℕ). xs ++ at_cycle cycle (suc at) olds) none
       ∙ taken index cycle (suc at) number s olds news e (omega (arith, is)) h.2
       ∙ ap (λ (xs : List ℕ). text number s ++ (xs ++ at_cycle cycle (suc at) news)) (sym none)
-      ∙ ap (λ (steps : List S). text number s ++ (flat_map (line cycle at) steps ++ at_cycle cycle (suc at) news)) (sym h.0)
+      ∙ ap (λ (steps : List S). text number s ++ (flat_map (line cycle at) steps ++ at_cycle cycle (suc at) news))
+      (sym h.0)
 
   -- in other cycles the lines stay
   others : (index cycle at later : ℕ) (s : S) (olds news : List (List S)) → start s ≡ cycle → cycle ≢ later
@@ -118,7 +127,8 @@ module _ {S : Type 0} (start : S → ℕ) (text : ℕ → S → List ℕ) where
       ap (λ (xs : List ℕ). flat_map (line later at) old ++ xs) (others index cycle (suc at) later s olds news e ne h.2)
       ∙ ap (λ (steps : List S). flat_map (line later at) steps ++ at_cycle later (suc at) news) (sym h.0)
 
-  last_taken : (index cycle limit : ℕ) (s : S) (olds news : List (List S)) → start s ≡ cycle → Takes index cycle s olds news
+  last_taken : (index cycle limit : ℕ) (s : S) (olds news : List (List S)) → start s ≡ cycle
+      → Takes index cycle s olds news
       → limit ≡ cycle → before (suc limit) olds ≡ text index s ++ before (suc limit) news
   last_taken index cycle limit s olds news e h is =
       let none = none_before limit cycle olds (omega (arith, is)) (olds_from index cycle s olds news e h) in
@@ -130,7 +140,8 @@ module _ {S : Type 0} (start : S → ℕ) (text : ℕ → S → List ℕ) where
       ∙ ap (λ (xs : List ℕ). text index s ++ (xs ++ at_cycle limit 0 news)) (sym empty)
 
   -- the lines of the step come before all others
-  pub first_taken : (index cycle limit : ℕ) (s : S) (olds news : List (List S)) → start s ≡ cycle → Takes index cycle s olds news
+  pub first_taken : (index cycle limit : ℕ) (s : S) (olds news : List (List S)) → start s ≡ cycle
+      → Takes index cycle s olds news
       → cycle < limit → before limit olds ≡ text index s ++ before limit news
   first_taken index cycle zero s olds news e h below = absurd (omega (arith, below))
   first_taken index cycle (suc limit) s olds news e h below =
@@ -138,15 +149,18 @@ module _ {S : Type 0} (start : S → ℕ) (text : ℕ → S → List ℕ) where
       (λ (less : cycle < limit).
       ap (λ (xs : List ℕ). xs ++ at_cycle limit 0 olds) (first_taken index cycle limit s olds news e h less)
       ∙ append_assoc (text index s) (before limit news) (at_cycle limit 0 olds)
-      ∙ ap (λ (xs : List ℕ). text index s ++ (before limit news ++ xs)) (others index cycle 0 limit s olds news e (λ i. omega (arith, i, less)) h))
+      ∙ ap (λ (xs : List ℕ). text index s ++ (before limit news ++ xs))
+      (others index cycle 0 limit s olds news e (λ i. omega (arith, i, less)) h))
       (λ (over : limit ≤ cycle). last_taken index cycle limit s olds news e h (omega (arith, over, below)))
       (cases_lt cycle limit)
 
   pub no_more : (all : List (List S)) → AllEmpty all → (cycle at : ℕ) → at_cycle cycle at all ≡ []
   no_more [] h cycle at = refl
   no_more (steps ∷ rest) h cycle at =
-      ap (λ (ss : List S). flat_map (line cycle at) ss ++ at_cycle cycle (suc at) rest) h.0 ∙ no_more rest h.1 cycle (suc at)
+      ap (λ (ss : List S). flat_map (line cycle at) ss ++ at_cycle cycle (suc at) rest) h.0
+      ∙ no_more rest h.1 cycle (suc at)
 
   pub all_over : (all : List (List S)) → AllEmpty all → (cycle : ℕ) → before cycle all ≡ []
   all_over all h zero = refl
-  all_over all h (suc cycle) = ap (λ (xs : List ℕ). xs ++ at_cycle cycle 0 all) (all_over all h cycle) ∙ no_more all h cycle 0
+  all_over all h (suc cycle) = ap (λ (xs : List ℕ). xs ++ at_cycle cycle 0 all) (all_over all h cycle)
+      ∙ no_more all h cycle 0

@@ -1,5 +1,6 @@
 -- The board that is stepped next: it starts before those with a lower number, and no later than the others.
-use Rattle.std.proofs.Common.{◌≡◌, ℕ, zero, suc, ◌+◌, ◌≤◌, Bool, true, false, List, [], ◌∷◌, Option, Some, None, refl, sym, subst, arith}
+use Rattle.std.proofs.Common.{◌≡◌, ℕ, zero, suc, ◌+◌, ◌≤◌, Bool, true, false, List, [], ◌∷◌, Option, Some, None, refl}
+use Rattle.std.proofs.Common.{sym, subst, arith}
 use Rattle.std.specs.Prelude.{nat_lt, if◌then◌else◌}
 use Rattle.std.proofs.lemmas.Bool.{ltb-true, ltb-false}
 use Rattle.std.proofs.lemmas.Option.{same_Some}
@@ -68,18 +69,22 @@ module _ (n : ℕ) where
       → IsFoundAt at (record { index = at; cycle = cycle }) (s ∷ ss)
   found_here at cycle s ss e h = record { index = 0; is = omega arith; next = (e, h) }
 
-  found_later : (at : ℕ) (c : NextStep) (s : Seat) (ss : List Seat) → StartsFrom (suc c.cycle) (start_of n s) → IsFoundAt (suc at) c ss
+  found_later : (at : ℕ) (c : NextStep) (s : Seat) (ss : List Seat) → StartsFrom (suc c.cycle) (start_of n s)
+      → IsFoundAt (suc at) c ss
       → IsFoundAt at c (s ∷ ss)
   found_later at c s ss h f = record { index = suc f.index; is = omega (arith, f.is); next = (h, f.next) }
 
-  compared : (at cycle : ℕ) (c : NextStep) (s : Seat) (ss : List Seat) (b : Bool) → nat_lt c.cycle cycle ≡ b → start_of n s ≡ Some cycle → IsFoundAt (suc at) c ss
+  compared : (at cycle : ℕ) (c : NextStep) (s : Seat) (ss : List Seat) (b : Bool) → nat_lt c.cycle cycle ≡ b
+      → start_of n s ≡ Some cycle → IsFoundAt (suc at) c ss
       → IsFound at (if b then Some c else Some (record { index = at; cycle = cycle })) (s ∷ ss)
   compared at cycle c s ss true b e f =
       found_later at c s ss (subst (StartsFrom (suc c.cycle)) (sym e) (ltb-true c.cycle cycle b)) f
   compared at cycle c s ss false b e f =
-      found_here at cycle s ss e (all_more cycle c.cycle ss (ltb-false c.cycle cycle b) (next_all f.index c.cycle ss f.next))
+      found_here at cycle s ss e
+      (all_more cycle c.cycle ss (ltb-false c.cycle cycle b) (next_all f.index c.cycle ss f.next))
 
-  found_by : (at : ℕ) (s : Seat) (ss : List Seat) (o : Option ℕ) (later : Option NextStep) → start_of n s ≡ o → IsFound (suc at) later ss
+  found_by : (at : ℕ) (s : Seat) (ss : List Seat) (o : Option ℕ) (later : Option NextStep) → start_of n s ≡ o
+      → IsFound (suc at) later ss
       → IsFound at (sooner at o later) (s ∷ ss)
   found_by at s ss None None e f = (e, f)
   found_by at s ss None (Some c) e f = found_later at c s ss (none_starts (suc c.cycle) (start_of n s) e) f

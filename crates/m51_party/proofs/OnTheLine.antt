@@ -1,5 +1,6 @@
 -- All boards on the line: what one passes to another, and what is still to come.
-use Rattle.std.proofs.Common.{◌≡◌, ℕ, zero, suc, ◌+◌, ◌≤◌, ◌<◌, Bool, true, false, List, [], ◌∷◌, ◌++◌, length, Option, Some, None, refl, sym, ap, subst, ◌∙◌, arith, length-append, zero-add}
+use Rattle.std.proofs.Common.{◌≡◌, ℕ, zero, suc, ◌+◌, ◌≤◌, ◌<◌, Bool, true, false, List, [], ◌∷◌, ◌++◌, length, Option}
+use Rattle.std.proofs.Common.{Some, None, refl, sym, ap, subst, ◌∙◌, arith, length-append, zero-add}
 use Rattle.std.specs.Prelude.{◌==◌, flat_map, option_to_list, slice_get, slice_index_or, slice_set, if◌then◌else◌}
 use Rattle.std.proofs.lemmas.Bool.{eq-eqb, ne_eqb}
 use Rattle.std.proofs.lemmas.Option.{none-some, same_Some}
@@ -23,7 +24,8 @@ abbrev pub AllUnderWay : ℕ → ℕ → Family → Family → List Seat → Typ
 AllUnderWay at n family [] [] = Unit {0}
 AllUnderWay at n family [] (s ∷ ss) = ⊥
 AllUnderWay at n family (r ∷ rs) [] = ⊥
-AllUnderWay at n family (r ∷ rs) (s ∷ ss) = IsUnderWay (frames_for at family) n r s × AllUnderWay (suc at) n family rs ss
+AllUnderWay at n family (r ∷ rs) (s ∷ ss) = IsUnderWay (frames_for at family) n r s
+    × AllUnderWay (suc at) n family rs ss
 
 -- none has come further than four cycles after this one, and none starts a step before it
 abbrev pub AllClose : ℕ → ℕ → List Seat → Type 0
@@ -35,15 +37,19 @@ abbrev pub AllAgree : ℕ → Family → List Seat → Type 0
 AllAgree now [] [] = Unit {0}
 AllAgree now [] (s ∷ ss) = ⊥
 AllAgree now (r ∷ rs) [] = ⊥
-AllAgree now (r ∷ rs) (s ∷ ss) = (frames_in now (option_to_list s.sent) ≡ frames_in now (frames_sent r)) × AllAgree now rs ss
+AllAgree now (r ∷ rs) (s ∷ ss) = (frames_in now (option_to_list s.sent) ≡ frames_in now (frames_sent r))
+    × AllAgree now rs ss
 
-all_agree : (at n : ℕ) (family rs : Family) (ss : List Seat) (least now : ℕ) → n ≤ 10000000 → least < now → now ≤ least + 4
+all_agree : (at n : ℕ) (family rs : Family) (ss : List Seat) (least now : ℕ) → n ≤ 10000000 → least < now
+    → now ≤ least + 4
     → AllUnderWay at n family rs ss → AllClose n least ss → AllAgree now rs ss
 all_agree at n family [] [] least now few after below h c = tt
 all_agree at n family [] (s ∷ ss) least now few after below h c = absurd h
 all_agree at n family (r ∷ rs) [] least now few after below h c = absurd h
-all_agree at n family (r ∷ rs) (s ∷ ss) least now few after below h c =
-    (sent_agrees n few (frames_for at family) r s h.0 least now after below c.0 c.1, all_agree (suc at) n family rs ss least now few after below h.1 c.2)
+all_agree at n family (r ∷ rs) (s ∷ ss) least now few after below h c = (
+  sent_agrees n few (frames_for at family) r s h.0 least now after below c.0 c.1,
+  all_agree (suc at) n family rs ss least now few after below h.1 c.2,
+)
 
 -- what one board passes to another
 to_another : (b : Bool) (o : Option Timed) → b ≡ false → (if b then None else o) ≡ o
@@ -54,17 +60,20 @@ to_itself : (b : Bool) (o : Option Timed) → b ≡ true → (if b then None els
 to_itself true o e = refl
 to_itself false o e = absurd (cc e)
 
-others_agree : (now at index : ℕ) (rs : Family) (ss : List Seat) → index < at → AllAgree now rs ss → frames_in now (kept_from at index ss) ≡ frames_in now (flat_map frames_sent rs)
+others_agree : (now at index : ℕ) (rs : Family) (ss : List Seat) → index < at → AllAgree now rs ss
+    → frames_in now (kept_from at index ss) ≡ frames_in now (flat_map frames_sent rs)
 others_agree now at index [] [] below h = refl
 others_agree now at index [] (s ∷ ss) below h = absurd h
 others_agree now at index (r ∷ rs) [] below h = absurd h
 others_agree now at index (r ∷ rs) (s ∷ ss) below h =
     let other = to_another (at == index) s.sent (ne_eqb at index (λ e. omega (arith, e, below))) in
-    joined_same now (option_to_list (sent_to at index s)) (kept_from (suc at) index ss) (frames_sent r) (flat_map frames_sent rs)
+    joined_same now (option_to_list (sent_to at index s)) (kept_from (suc at) index ss) (frames_sent r)
+    (flat_map frames_sent rs)
     (ap (λ (o : Option Timed). frames_in now (option_to_list o)) other ∙ h.0)
     (others_agree now (suc at) index rs ss (omega (arith, below)) h.1)
 
-kept_agree : (now at index more : ℕ) (rs : Family) (ss : List Seat) → index ≡ at + more → AllAgree now rs ss → frames_in now (kept_from at index ss) ≡ frames_in now (frames_for more rs)
+kept_agree : (now at index more : ℕ) (rs : Family) (ss : List Seat) → index ≡ at + more → AllAgree now rs ss
+    → frames_in now (kept_from at index ss) ≡ frames_in now (frames_for more rs)
 kept_agree now at index more [] [] is h = refl
 kept_agree now at index more [] (s ∷ ss) is h = absurd h
 kept_agree now at index more (r ∷ rs) [] is h = absurd h
@@ -74,22 +83,27 @@ kept_agree now at index zero (r ∷ rs) (s ∷ ss) is h =
     ∙ others_agree now (suc at) index rs ss (omega (arith, is)) h.1
 kept_agree now at index (suc more) (r ∷ rs) (s ∷ ss) is h =
     let other = to_another (at == index) s.sent (ne_eqb at index (λ e. omega (arith, e, is))) in
-    joined_same now (option_to_list (sent_to at index s)) (kept_from (suc at) index ss) (frames_sent r) (frames_for more rs)
+    joined_same now (option_to_list (sent_to at index s)) (kept_from (suc at) index ss) (frames_sent r)
+    (frames_for more rs)
     (ap (λ (o : Option Timed). frames_in now (option_to_list o)) other ∙ h.0)
     (kept_agree now (suc at) index more rs ss (omega (arith, is)) h.1)
 
 -- a board that starts then gets the frames of the family
-pub handed_on : (n least now index : ℕ) (family : Family) (ss : List Seat) → n ≤ 10000000 → least < now → now ≤ least + 4
-    → AllUnderWay 0 n family family ss → AllClose n least ss → frames_in now (kept_for index ss) ≡ frames_in now (frames_for index family)
+pub handed_on : (n least now index : ℕ) (family : Family) (ss : List Seat) → n ≤ 10000000 → least < now
+    → now ≤ least + 4
+    → AllUnderWay 0 n family family ss → AllClose n least ss
+    → frames_in now (kept_for index ss) ≡ frames_in now (frames_for index family)
 handed_on n least now index family ss few after below h c =
-    kept_agree now 0 index index family ss (sym (zero-add index)) (all_agree 0 n family family ss least now few after below h c)
+    kept_agree now 0 index index family ss (sym (zero-add index))
+    (all_agree 0 n family family ss least now few after below h c)
 
 -- they are few
 length_frames : (now : ℕ) (ts : List Timed) → length (frames_in now ts) ≤ length ts
 length_frames now [] = omega arith
 length_frames now (t ∷ ts) = length_one (t.cycle == now) t.frame (frames_in now ts) (length ts) (length_frames now ts)
   where
-    length_one : (b : Bool) (f : Frame) (fs : List Frame) (n : ℕ) → length fs ≤ n → length (if b then f ∷ fs else fs) ≤ suc n
+    length_one : (b : Bool) (f : Frame) (fs : List Frame) (n : ℕ) → length fs ≤ n
+        → length (if b then f ∷ fs else fs) ≤ suc n
     length_one true f fs n h = omega (arith, h)
     length_one false f fs n h = omega (arith, h)
 
@@ -100,15 +114,32 @@ length_sent (Some t) = omega arith
 length_kept : (at index : ℕ) (ss : List Seat) → length (kept_from at index ss) ≤ length ss
 length_kept at index [] = omega arith
 length_kept at index (s ∷ ss) =
-    omega (arith, length-append (option_to_list (sent_to at index s)) (kept_from (suc at) index ss), length_sent (sent_to at index s), length_kept (suc at) index ss)
+    omega (
+      arith,
+      length-append (option_to_list (sent_to at index s)) (kept_from (suc at) index ss),
+      length_sent (sent_to at index s),
+      length_kept (suc at) index ss,
+    )
 
-length_fewer : (at index more : ℕ) (ss : List Seat) → index ≡ at + more → more < length ss → suc (length (kept_from at index ss)) ≤ length ss
+length_fewer : (at index more : ℕ) (ss : List Seat) → index ≡ at + more → more < length ss
+    → suc (length (kept_from at index ss)) ≤ length ss
 length_fewer at index more [] is below = absurd (omega (arith, below))
 length_fewer at index zero (s ∷ ss) is below =
-    let own = ap (λ (o : Option Timed). length (option_to_list o)) (to_itself (at == index) s.sent (eq-eqb at index (omega (arith, is)))) in
-    omega (arith, length-append (option_to_list (sent_to at index s)) (kept_from (suc at) index ss), own, length_kept (suc at) index ss)
+    let own = ap (λ (o : Option Timed). length (option_to_list o))
+    (to_itself (at == index) s.sent (eq-eqb at index (omega (arith, is)))) in
+    omega (
+      arith,
+      length-append (option_to_list (sent_to at index s)) (kept_from (suc at) index ss),
+      own,
+      length_kept (suc at) index ss,
+    )
 length_fewer at index (suc more) (s ∷ ss) is below =
-    omega (arith, length-append (option_to_list (sent_to at index s)) (kept_from (suc at) index ss), length_sent (sent_to at index s), length_fewer (suc at) index more ss (omega (arith, is)) (omega (arith, below)))
+    omega (
+      arith,
+      length-append (option_to_list (sent_to at index s)) (kept_from (suc at) index ss),
+      length_sent (sent_to at index s),
+      length_fewer (suc at) index more ss (omega (arith, is)) (omega (arith, below)),
+    )
 
 pub kept_are_few : (index : ℕ) (ss : List Seat) → index < length ss → length ss ≤ 8 → AreFew (kept_for index ss)
 kept_are_few index ss below few =
@@ -120,7 +151,8 @@ abbrev pub rests_from : ℕ → ℕ → Family → List Seat → List (List Step
 rests_from at n family [] = []
 rests_from at n family (s ∷ ss) = rest_of n (frames_for at family) s ∷ rests_from (suc at) n family ss
 
-all_late : (at n least : ℕ) (family rs : Family) (ss : List Seat) → n ≤ 10000000 → AllUnderWay at n family rs ss → AllStartFrom n least ss
+all_late : (at n least : ℕ) (family rs : Family) (ss : List Seat) → n ≤ 10000000 → AllUnderWay at n family rs ss
+    → AllStartFrom n least ss
     → AllFrom start_in step_text least (rests_from at n family ss)
 all_late at n least family [] [] few h c = tt
 all_late at n least family [] (s ∷ ss) few h c = absurd h
@@ -128,7 +160,8 @@ all_late at n least family (r ∷ rs) [] few h c = absurd h
 all_late at n least family (r ∷ rs) (s ∷ ss) few h c =
     (rest_late n few (frames_for at family) r s h.0 least c.0, all_late (suc at) n least family rs ss few h.1 c.1)
 
-pub all_over : (at n : ℕ) (family rs : Family) (ss : List Seat) → n ≤ 10000000 → AllUnderWay at n family rs ss → NoneStarts n ss
+pub all_over : (at n : ℕ) (family rs : Family) (ss : List Seat) → n ≤ 10000000 → AllUnderWay at n family rs ss
+    → NoneStarts n ss
     → AllEmpty start_in step_text (rests_from at n family ss)
 all_over at n family [] [] few h c = tt
 all_over at n family [] (s ∷ ss) few h c = absurd h
@@ -141,9 +174,11 @@ pub record HasBoard (at n : ℕ) (family rs : Family) (index number : ℕ) (ss :
   pub record_is : Record Separate
   pub way : IsUnderWay (frames_for number family) n record_is s
   pub within : record_is.last.cycle ≤ end_of rs
-  pub set : (new : Seat) → IsUnderWay (frames_for number family) n record_is new → AllUnderWay at n family rs (slice_set ss index new)
+  pub set : (new : Seat) → IsUnderWay (frames_for number family) n record_is new
+      → AllUnderWay at n family rs (slice_set ss index new)
 
-pub board_at : (at n : ℕ) (family rs : Family) (index number : ℕ) (ss : List Seat) (s : Seat) → number ≡ at + index → slice_get ss index ≡ Some s
+pub board_at : (at n : ℕ) (family rs : Family) (index number : ℕ) (ss : List Seat) (s : Seat) → number ≡ at + index
+    → slice_get ss index ≡ Some s
     → AllUnderWay at n family rs ss → HasBoard at n family rs index number ss s
 board_at at n family [] index number [] s is e h = absurd (none-some s e)
 board_at at n family [] index number (x ∷ xs) s is e h = absurd h
@@ -153,7 +188,8 @@ board_at at n family (r ∷ rs) zero number (x ∷ xs) s is e h =
     let same : x ≡ s = same_Some x s e in
     record {
       record_is = r;
-      way = subst (λ (k : ℕ). IsUnderWay (frames_for k family) n r s) here (subst (IsUnderWay (frames_for at family) n r) same h.0);
+      way = subst (λ (k : ℕ). IsUnderWay (frames_for k family) n r s) here
+          (subst (IsUnderWay (frames_for at family) n r) same h.0);
       within = omega arith;
       set = λ new w. (subst (λ (k : ℕ). IsUnderWay (frames_for k family) n r new) (sym here) w, h.1);
     }
@@ -166,18 +202,22 @@ board_at at n family (r ∷ rs) (suc index) number (x ∷ xs) s is e h =
       set = λ new w. (h.0, b.set new w);
     }
 
-pub close_set : (n least index : ℕ) (ss : List Seat) (new : Seat) → AllClose n least ss → new.board.chip.cycle ≤ least + 4 → StartsFrom least (start_of n new)
+pub close_set : (n least index : ℕ) (ss : List Seat) (new : Seat) → AllClose n least ss
+    → new.board.chip.cycle ≤ least + 4 → StartsFrom least (start_of n new)
     → AllClose n least (slice_set ss index new)
 close_set n least index [] new h near from = tt
 close_set n least zero (s ∷ ss) new h near from = (near, from, h.2)
 close_set n least (suc index) (s ∷ ss) new h near from = (h.0, h.1, close_set n least index ss new h.2 near from)
 
 -- the next board starts no earlier than those that were stepped before
-pub close_next : (n least cycle : ℕ) (ss : List Seat) → AllClose n least ss → least ≤ cycle → AllStartFrom n cycle ss → AllClose n cycle ss
+pub close_next : (n least cycle : ℕ) (ss : List Seat) → AllClose n least ss → least ≤ cycle → AllStartFrom n cycle ss
+    → AllClose n cycle ss
 close_next n least cycle [] h below from = tt
-close_next n least cycle (s ∷ ss) h below from = (omega (arith, h.0, below), from.0, close_next n least cycle ss h.2 below from.1)
+close_next n least cycle (s ∷ ss) h below from =
+    (omega (arith, h.0, below), from.0, close_next n least cycle ss h.2 below from.1)
 
-pub next_least : (n least index cycle : ℕ) (ss : List Seat) → AllClose n least ss → IsNextAt n index cycle ss → least ≤ cycle
+pub next_least : (n least index cycle : ℕ) (ss : List Seat) → AllClose n least ss → IsNextAt n index cycle ss
+    → least ≤ cycle
 next_least n least index cycle [] h e = absurd e
 next_least n least zero cycle (s ∷ ss) h e = starts_at least cycle (start_of n s) e.0 h.1
   where
@@ -185,25 +225,33 @@ next_least n least zero cycle (s ∷ ss) h e = starts_at least cycle (start_of n
     starts_at least cycle o e h = subst (StartsFrom least) e h
 next_least n least (suc index) cycle (s ∷ ss) h e = next_least n least index cycle ss h.2 e.1
 
-pub next_starts : (n index cycle : ℕ) (ss : List Seat) (s : Seat) → IsNextAt n index cycle ss → slice_get ss index ≡ Some s → start_of n s ≡ Some cycle
+pub next_starts : (n index cycle : ℕ) (ss : List Seat) (s : Seat) → IsNextAt n index cycle ss
+    → slice_get ss index ≡ Some s → start_of n s ≡ Some cycle
 next_starts n index cycle [] s e f = absurd e
 next_starts n zero cycle (x ∷ xs) s e f = subst (λ (s : Seat). start_of n s ≡ Some cycle) (same_Some x s f) e.0
 next_starts n (suc index) cycle (x ∷ xs) s e f = next_starts n index cycle xs s e.1 f
 
 -- the first of the steps of the next board is taken off
-pub takes : (at n index number cycle : ℕ) (family rs : Family) (ss : List Seat) (old new : Seat) (step : StepTold) → n ≤ 10000000 → number ≡ at + index
+pub takes : (at n index number cycle : ℕ) (family rs : Family) (ss : List Seat) (old new : Seat) (step : StepTold)
+    → n ≤ 10000000 → number ≡ at + index
     → IsNextAt n index cycle ss → slice_get ss index ≡ Some old → AllUnderWay at n family rs ss
     → rest_of n (frames_for number family) old ≡ step ∷ rest_of n (frames_for number family) new
     → StepsFrom cycle (rest_of n (frames_for number family) new)
-    → Takes start_in step_text index cycle step (rests_from at n family ss) (rests_from at n family (slice_set ss index new))
+    → Takes start_in step_text index cycle step (rests_from at n family ss)
+    (rests_from at n family (slice_set ss index new))
 takes at n index number cycle family rs [] old new step few is e found h first from = absurd e
 takes at n index number cycle family [] (x ∷ xs) old new step few is e found h first from = absurd h
 takes at n zero number cycle family (r ∷ rs) (x ∷ xs) old new step few is e found h first from =
     let here : number ≡ at = omega (arith, is) in
     let same : old ≡ x = sym (same_Some x old found) in
-    let moved = subst (λ (s : Seat). rest_of n (frames_for at family) s ≡ step ∷ rest_of n (frames_for at family) new) same
-    (subst (λ (k : ℕ). rest_of n (frames_for k family) old ≡ step ∷ rest_of n (frames_for k family) new) here first) in
-    (moved, refl, subst (λ (k : ℕ). StepsFrom cycle (rest_of n (frames_for k family) new)) here from, all_late (suc at) n cycle family rs xs few h.1 e.1)
+    let moved = subst (λ (s : Seat). rest_of n (frames_for at family) s ≡ step ∷ rest_of n (frames_for at family) new)
+    same
+    (subst (λ (k : ℕ). rest_of n (frames_for k family) old ≡ step ∷ rest_of n (frames_for k family) new) here first) in (
+      moved,
+      refl,
+      subst (λ (k : ℕ). StepsFrom cycle (rest_of n (frames_for k family) new)) here from,
+      all_late (suc at) n cycle family rs xs few h.1 e.1,
+    )
 takes at n (suc index) number cycle family (r ∷ rs) (x ∷ xs) old new step few is e found h first from = (
   refl,
   rest_late n few (frames_for at family) r x h.0 (suc cycle) e.0,
@@ -211,7 +259,8 @@ takes at n (suc index) number cycle family (r ∷ rs) (x ∷ xs) old new step fe
 )
 
 -- or they stay
-pub takes_none : (at n index number : ℕ) (family : Family) (ss : List Seat) (old new : Seat) → number ≡ at + index → slice_get ss index ≡ Some old
+pub takes_none : (at n index number : ℕ) (family : Family) (ss : List Seat) (old new : Seat) → number ≡ at + index
+    → slice_get ss index ≡ Some old
     → rest_of n (frames_for number family) old ≡ rest_of n (frames_for number family) new
     → rests_from at n family ss ≡ rests_from at n family (slice_set ss index new)
 takes_none at n index number family [] old new is found same = absurd (none-some old found)
@@ -221,10 +270,12 @@ takes_none at n zero number family (x ∷ xs) old new is found same =
     ∙ ap (λ (steps : List StepTold). steps ∷ rests_from (suc at) n family xs)
     (subst (λ (k : ℕ). rest_of n (frames_for k family) old ≡ rest_of n (frames_for k family) new) here same)
 takes_none at n (suc index) number family (x ∷ xs) old new is found same =
-    ap (λ (all : List (List StepTold)). rest_of n (frames_for at family) x ∷ all) (takes_none (suc at) n index number family xs old new (omega (arith, is)) found same)
+    ap (λ (all : List (List StepTold)). rest_of n (frames_for at family) x ∷ all)
+    (takes_none (suc at) n index number family xs old new (omega (arith, is)) found same)
 
 -- the board that is read at an index
-pub seat_read : (ss : List Seat) (index : ℕ) (d : Seat) → index < length ss → slice_get ss index ≡ Some (slice_index_or ss index d)
+pub seat_read : (ss : List Seat) (index : ℕ) (d : Seat) → index < length ss
+    → slice_get ss index ≡ Some (slice_index_or ss index d)
 seat_read [] index d below = absurd (omega (arith, below))
 seat_read (s ∷ ss) zero d below = refl
 seat_read (s ∷ ss) (suc index) d below = seat_read ss index d (omega (arith, below))

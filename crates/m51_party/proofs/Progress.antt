@@ -1,5 +1,6 @@
 -- The loop of a run: what is written so far, and how much is still to do.
-use Rattle.std.proofs.Common.{◌≡◌, ℕ, zero, suc, ◌+◌, ◌-◌, ◌≤◌, ◌<◌, Bool, true, false, List, [], ◌∷◌, ◌++◌, length, Option, Some, None, Result, Ok, Err, refl, sym, ap, subst, ◌∙◌, arith, append_assoc}
+use Rattle.std.proofs.Common.{◌≡◌, ℕ, zero, suc, ◌+◌, ◌-◌, ◌≤◌, ◌<◌, Bool, true, false, List, [], ◌∷◌, ◌++◌, length}
+use Rattle.std.proofs.Common.{Option, Some, None, Result, Ok, Err, refl, sym, ap, subst, ◌∙◌, arith, append_assoc}
 use Rattle.std.specs.Prelude.{All, OnErr, is_none, nat_lt, ◌&&◌, slice_get, slice_set, if◌then◌else◌}
 use Rattle.std.specs.Io.KnownBytes.{Appends}
 use Rattle.std.proofs.KnownBytes.{Appends-nil, Appends-trans}
@@ -29,7 +30,8 @@ use Rattle.m51_party.proofs.Ends.{events_end, going_start, text_end, text_start,
 use Rattle.m51_cells.proofs.Fronts.{front_at_end, front_more}
 
 -- the lines so far are written, and the others are to come
-pub record InProgress (n : ℕ) (family : Family) (olds : List Seat) (before now : Option (List ℕ)) (seats : List Seat) : Type 0 where
+pub record InProgress (n : ℕ) (family : Family) (olds : List Seat) (before now : Option (List ℕ))
+    (seats : List Seat) : Type 0 where
   pub going : AreGoing n family seats
   pub lines : List ℕ
   pub written : Appends before now lines
@@ -37,7 +39,8 @@ pub record InProgress (n : ℕ) (family : Family) (olds : List Seat) (before now
 
 abbrev pub AllInProgress : List Seat → ℕ → Option (List ℕ) → Option (List ℕ) → List Seat → Type 0
 AllInProgress olds n before now seats =
-    (boards : List BoardState) (family : Family) → IsPartyOf boards olds → IsFamily boards n family → InProgress n family olds before now seats
+    (boards : List BoardState) (family : Family) → IsPartyOf boards olds → IsFamily boards n family
+    → InProgress n family olds before now seats
 
 pub progress_start : (olds : List Seat) (n : ℕ) (text : Option (List ℕ)) → AllInProgress olds n text text olds
 progress_start olds n text boards family party is = record {
@@ -47,8 +50,10 @@ progress_start olds n text boards family party is = record {
   text = refl;
 }
 
-pub progress_on : (olds seats news : List Seat) (n : ℕ) (before now later : Option (List ℕ)) (c : NextStep) (told : Told) → n ≤ 10000000
-    → AllInProgress olds n before now seats → next_from n 0 seats ≡ Some c → IsStepAt c.index told seats news → Appends now later (told_text c.index told)
+pub progress_on : (olds seats news : List Seat) (n : ℕ) (before now later : Option (List ℕ)) (c : NextStep)
+    (told : Told) → n ≤ 10000000
+    → AllInProgress olds n before now seats → next_from n 0 seats ≡ Some c → IsStepAt c.index told seats news
+    → Appends now later (told_text c.index told)
     → AllInProgress olds n before later news
 progress_on olds seats news n before now later c told few so_far chosen step written boards family party is =
     let p = so_far boards family party is in
@@ -57,16 +62,21 @@ progress_on olds seats news n before now later c told few so_far chosen step wri
       going = a.going;
       lines = p.lines ++ told_text c.index told;
       written = Appends-trans before now later p.lines (told_text c.index told) p.written written;
-      text = p.text ∙ ap (λ (text : List ℕ). p.lines ++ text) a.text ∙ sym (append_assoc p.lines (told_text c.index told) (text_to_come n family news));
+      text = p.text ∙ ap (λ (text : List ℕ). p.lines ++ text) a.text
+          ∙ sym (append_assoc p.lines (told_text c.index told) (text_to_come n family news));
     }
 
-text_of : (olds : List Seat) (n : ℕ) (boards : List BoardState) (family : Family) → IsPartyOf boards olds → party_text boards n family ≡ head_text (length boards) ++ text_to_come n family olds
+text_of : (olds : List Seat) (n : ℕ) (boards : List BoardState) (family : Family) → IsPartyOf boards olds
+    → party_text boards n family ≡ head_text (length boards) ++ text_to_come n family olds
 text_of olds n boards family party =
-    text_start n family boards ∙ ap (λ (ss : List Seat). head_text (length boards) ++ text_to_come n family ss) (sym party.seats)
+    text_start n family boards ∙ ap (λ (ss : List Seat). head_text (length boards) ++ text_to_come n family ss)
+    (sym party.seats)
 
 -- the lines of a step are cut
-pub progress_cut : (olds seats news : List Seat) (n : ℕ) (before now later : Option (List ℕ)) (c : NextStep) (told : Told) → n ≤ 10000000
-    → AllInProgress olds n before now seats → next_from n 0 seats ≡ Some c → IsStepAt c.index told seats news → AppendsFront now later (told_text c.index told)
+pub progress_cut : (olds seats news : List Seat) (n : ℕ) (before now later : Option (List ℕ)) (c : NextStep)
+    (told : Told) → n ≤ 10000000
+    → AllInProgress olds n before now seats → next_from n 0 seats ≡ Some c → IsStepAt c.index told seats news
+    → AppendsFront now later (told_text c.index told)
     → AllCut olds n before later
 progress_cut olds seats news n before now later c told few so_far chosen step front boards family party is =
     let p = so_far boards family party is in
@@ -76,11 +86,13 @@ progress_cut olds seats news n before now later c told few so_far chosen step fr
       front = front_at_end before now later p.lines (told_text c.index told ++ text_to_come n family news) p.written
           (front_more now later (told_text c.index told) (text_to_come n family news) front);
       text = text_of olds n boards family party
-          ∙ ap (λ (text : List ℕ). head_text (length boards) ++ text) (p.text ∙ ap (λ (text : List ℕ). p.lines ++ text) a.text);
+          ∙ ap (λ (text : List ℕ). head_text (length boards) ++ text)
+          (p.text ∙ ap (λ (text : List ℕ). p.lines ++ text) a.text);
     }
 
 -- no board makes one more step
-pub progress_end : (olds seats : List Seat) (n : ℕ) (before now : Option (List ℕ)) → n ≤ 10000000 → AllInProgress olds n before now seats → next_from n 0 seats ≡ None
+pub progress_end : (olds seats : List Seat) (n : ℕ) (before now : Option (List ℕ)) → n ≤ 10000000
+    → AllInProgress olds n before now seats → next_from n 0 seats ≡ None
     → AllStepped olds n before now seats
 progress_end olds seats n before now few so_far none boards family party is =
     let p = so_far boards family party is in
@@ -89,11 +101,14 @@ progress_end olds seats n before now few so_far none boards family party is =
       lines = p.lines;
       written = p.written;
       text = text_of olds n boards family party
-          ∙ ap (λ (text : List ℕ). head_text (length boards) ++ text) (p.text ∙ ap (λ (text : List ℕ). p.lines ++ text) (text_end n family seats few p.going over));
+          ∙ ap (λ (text : List ℕ). head_text (length boards) ++ text)
+          (p.text ∙ ap (λ (text : List ℕ). p.lines ++ text) (text_end n family seats few p.going over));
       events = events_end n family seats few p.going over;
     }
 
-pub progress_texts : (olds seats : List Seat) (n : ℕ) (before now : Option (List ℕ)) → (boards : List BoardState) × IsPartyOf boards olds → AllInProgress olds n before now seats → All HasEventText seats
+pub progress_texts : (olds seats : List Seat) (n : ℕ) (before now : Option (List ℕ))
+    → (boards : List BoardState) × IsPartyOf boards olds → AllInProgress olds n before now seats
+    → All HasEventText seats
 progress_texts olds seats n before now party so_far =
     let one = exactly_one party.0 n party.1.fresh in
     texts_end n one.0 seats (so_far party.0 one.0 party.1 one.1.is).going
@@ -107,8 +122,10 @@ next_within n (suc index) cycle (s ∷ ss) h = omega (arith, next_within n index
 pub chosen_within : (n : ℕ) (c : NextStep) (ss : List Seat) → next_from n 0 ss ≡ Some c → c.index < length ss
 chosen_within n c ss e = next_within n c.index c.cycle ss (next_found n c ss e)
 
-pub chosen_below : (n : ℕ) (c : NextStep) (ss : List Seat) (s : Seat) → next_from n 0 ss ≡ Some c → slice_get ss c.index ≡ Some s → s.steps < n
-chosen_below n c ss s e found = (starting n c.cycle s (next_starts n c.index c.cycle ss s (next_found n c ss e) found)).below
+pub chosen_below : (n : ℕ) (c : NextStep) (ss : List Seat) (s : Seat) → next_from n 0 ss ≡ Some c
+    → slice_get ss c.index ≡ Some s → s.steps < n
+chosen_below n c ss s e found =
+    (starting n c.cycle s (next_starts n c.index c.cycle ss s (next_found n c ss e) found)).below
 
 -- how many steps are left
 abbrev pub left_of : ℕ → Seat → ℕ
@@ -122,7 +139,8 @@ left_at_most : (b : Bool) (k : ℕ) → (if b then k else 0) ≤ k
 left_at_most true k = omega arith
 left_at_most false k = omega arith
 
-left_stopped : (b : Bool) (k : ℕ) (o : Option Event) (event : Event) → o ≡ Some event → (if b && is_none o then k else 0) ≡ 0
+left_stopped : (b : Bool) (k : ℕ) (o : Option Event) (event : Event) → o ≡ Some event
+    → (if b && is_none o then k else 0) ≡ 0
 left_stopped b k None event e = absurd (cc e)
 left_stopped true k (Some x) event e = refl
 left_stopped false k (Some x) event e = refl
@@ -132,14 +150,16 @@ left_going true k None e f = refl
 left_going true k (Some x) e f = absurd (cc f)
 left_going false k o e f = absurd (cc e)
 
-left_falls : (n : ℕ) (old new : Seat) (step : Step) → old.steps < n → left_of n old ≡ n - old.steps → new.steps ≡ old.steps + count_of step → new.event ≡ stopped_by step
+left_falls : (n : ℕ) (old new : Seat) (step : Step) → old.steps < n → left_of n old ≡ n - old.steps
+    → new.steps ≡ old.steps + count_of step → new.event ≡ stopped_by step
     → left_of n new < left_of n old
 left_falls n old new Done below was steps event =
     omega (arith, below, was, steps, left_at_most (is_going n new) (n - new.steps))
 left_falls n old new (Stopped e) below was steps event =
     omega (arith, below, was, left_stopped (nat_lt new.steps n) (n - new.steps) new.event e event)
 
-set_falls : (n index : ℕ) (ss : List Seat) (old new : Seat) → slice_get ss index ≡ Some old → left_of n new < left_of n old → steps_left n (slice_set ss index new) < steps_left n ss
+set_falls : (n index : ℕ) (ss : List Seat) (old new : Seat) → slice_get ss index ≡ Some old
+    → left_of n new < left_of n old → steps_left n (slice_set ss index new) < steps_left n ss
 set_falls n index [] old new found less = absurd (none-some old found)
 set_falls n zero (s ∷ ss) old new found less =
     let same : left_of n s ≡ left_of n old = ap (left_of n) (same_Some s old found) in
@@ -147,13 +167,16 @@ set_falls n zero (s ∷ ss) old new found less =
 set_falls n (suc index) (s ∷ ss) old new found less = omega (arith, set_falls n index ss old new found less)
 
 -- a step leaves fewer
-pub fewer_left : (n : ℕ) (c : NextStep) (told : Told) (ss news : List Seat) → next_from n 0 ss ≡ Some c → IsStepAt c.index told ss news → steps_left n news < steps_left n ss
+pub fewer_left : (n : ℕ) (c : NextStep) (told : Told) (ss news : List Seat) → next_from n 0 ss ≡ Some c
+    → IsStepAt c.index told ss news → steps_left n news < steps_left n ss
 fewer_left n c told ss news e h =
     let is = starting n c.cycle h.old (next_starts n c.index c.cycle ss h.old (next_found n c ss e) h.found) in
-    let was : left_of n h.old ≡ n - h.old.steps = left_going (nat_lt h.old.steps n) (n - h.old.steps) h.old.event (lt-ltb h.old.steps n is.below) is.event in
+    let was : left_of n h.old ≡ n - h.old.steps =
+    left_going (nat_lt h.old.steps n) (n - h.old.steps) h.old.event (lt-ltb h.old.steps n is.below) is.event in
     subst (λ (xs : List Seat). steps_left n xs < steps_left n ss) (sym h.others)
     (set_falls n c.index ss h.old h.new h.found
-    (left_falls n h.old h.new told.step is.below was (ap (λ (s : Seat). s.steps) h.step.after) (ap (λ (s : Seat). s.event) h.step.after)))
+    (left_falls n h.old h.new told.step is.below was (ap (λ (s : Seat). s.steps) h.step.after)
+    (ap (λ (s : Seat). s.event) h.step.after)))
 
 pub party_few : (olds : List Seat) → (boards : List BoardState) × IsPartyOf boards olds → length olds ≤ 8
 party_few olds party =
@@ -164,14 +187,17 @@ boards_count : (olds : List Seat) (boards : List BoardState) → IsPartyOf board
 boards_count olds boards party = ap (λ (ss : List Seat). length ss) party.seats ∙ length-map boards new_seat
 
 -- the first line is cut
-pub front_at_head : (olds : List Seat) (n : ℕ) (before after : Option (List ℕ)) → AppendsFront before after (head_text (length olds)) → AllFront olds n before after
+pub front_at_head : (olds : List Seat) (n : ℕ) (before after : Option (List ℕ))
+    → AppendsFront before after (head_text (length olds)) → AllFront olds n before after
 front_at_head olds n before after front boards family party is =
     subst (AppendsFront before after) (sym (text_of olds n boards family party))
-    (subst (λ (count : ℕ). AppendsFront before after (head_text count ++ text_to_come n family olds)) (boards_count olds boards party)
+    (subst (λ (count : ℕ). AppendsFront before after (head_text count ++ text_to_come n family olds))
+    (boards_count olds boards party)
     (front_more before after (head_text (length olds)) (text_to_come n family olds) front))
 
 -- the lines of a step
-pub front_at_steps : (olds : List Seat) (n : ℕ) (before middle after : Option (List ℕ)) → Appends before middle (head_text (length olds)) → AllCut olds n middle after → AllFront olds n before after
+pub front_at_steps : (olds : List Seat) (n : ℕ) (before middle after : Option (List ℕ))
+    → Appends before middle (head_text (length olds)) → AllCut olds n middle after → AllFront olds n before after
 front_at_steps olds n before middle after head cut boards family party is =
     let x = cut boards family party is in
     subst (AppendsFront before after) (sym x.text)
@@ -179,16 +205,21 @@ front_at_steps olds n before middle after head cut boards family party is =
     (front_at_end before middle after (head_text (length olds)) x.lines head x.front))
 
 -- or the last lines
-front_last : (olds news : List Seat) (n : ℕ) (before middle later after : Option (List ℕ)) → Appends before middle (head_text (length olds)) → AllStepped olds n middle later news
+front_last : (olds news : List Seat) (n : ℕ) (before middle later after : Option (List ℕ))
+    → Appends before middle (head_text (length olds)) → AllStepped olds n middle later news
     → AppendsFront later after (ends_text 0 news) → AllFront olds n before after
 front_last olds news n before middle later after head steps front boards family party is =
     let x = steps boards family party is in
     subst (AppendsFront before after) (sym x.text)
-    (subst (λ (count : ℕ). AppendsFront before after (head_text count ++ (x.lines ++ ends_text 0 news))) (boards_count olds boards party)
+    (subst (λ (count : ℕ). AppendsFront before after (head_text count ++ (x.lines ++ ends_text 0 news)))
+    (boards_count olds boards party)
     (front_at_end before middle after (head_text (length olds)) (x.lines ++ ends_text 0 news) head
     (front_at_end middle later after x.lines (ends_text 0 news) x.written front)))
 
-pub front_at_ends : {T E : Type 0} (r : Result T E) (olds : List Seat) (n : ℕ) (before middle later after : Option (List ℕ)) (news : List Seat) → Appends before middle (head_text (length olds))
-    → AllStepped olds n middle later news → OnErr r (AppendsFront later after (ends_text 0 news)) → OnErr r (AllFront olds n before after)
+pub front_at_ends : {T E : Type 0} (r : Result T E) (olds : List Seat) (n : ℕ)
+    (before middle later after : Option (List ℕ)) (news : List Seat) → Appends before middle (head_text (length olds))
+    → AllStepped olds n middle later news → OnErr r (AppendsFront later after (ends_text 0 news))
+    → OnErr r (AllFront olds n before after)
 front_at_ends (Ok x) olds n before middle later after news head steps front = tt
-front_at_ends (Err e) olds n before middle later after news head steps front = front_last olds news n before middle later after head steps front
+front_at_ends (Err e) olds n before middle later after news head steps front =
+    front_last olds news n before middle later after head steps front

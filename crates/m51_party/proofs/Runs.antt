@@ -1,5 +1,6 @@
 -- A run of the boards on a line: what is written, and what is still to be written.
-use Rattle.std.proofs.Common.{◌≡◌, ℕ, zero, suc, ◌+◌, ◌≤◌, ◌<◌, ◌⊎◌, inl, inr, Bool, true, false, List, [], ◌∷◌, ◌++◌, Some, None, Result, Ok, Err, refl, sym, ap, subst, ◌∙◌, arith, append_assoc, zero-add}
+use Rattle.std.proofs.Common.{◌≡◌, ℕ, zero, suc, ◌+◌, ◌≤◌, ◌<◌, ◌⊎◌, inl, inr, Bool, true, false, List, [], ◌∷◌, ◌++◌}
+use Rattle.std.proofs.Common.{Some, None, Result, Ok, Err, refl, sym, ap, subst, ◌∙◌, arith, append_assoc, zero-add}
 use Rattle.std.specs.Prelude.{min, slice_get, slice_set, if◌then◌else◌}
 use Rattle.std.proofs.lemmas.Option.{same_Some}
 use Rattle.m51_cells.specs.declared.event.Event.{Event}
@@ -26,7 +27,8 @@ use Rattle.m51_party.proofs.NextBoard.{StartsFrom, IsNextAt, next_all, next_foun
 use Rattle.m51_party.proofs.Within.{TakesFew, step_within, ticks_count}
 use Rattle.m51_party.proofs.UnderWay.{IsStepped, TakesFirst, TakesNone, rest_of, step_text, stepped}
 use Rattle.m51_party.proofs.Close.{IsStarting, cycle_few, last_later, rest_late, start_in, starting}
-use Rattle.m51_party.proofs.OnTheLine.{AllClose, AllUnderWay, HasBoard, board_at, close_next, close_set, handed_on, next_least, next_starts, rests_from, takes, takes_none}
+use Rattle.m51_party.proofs.OnTheLine.{AllClose, AllUnderWay, HasBoard, board_at, close_next, close_set, handed_on}
+use Rattle.m51_party.proofs.OnTheLine.{next_least, next_starts, rests_from, takes, takes_none}
 
 -- the boards, without what is kept of them
 abbrev pub boards_of : List Seat → List BoardState
@@ -47,27 +49,35 @@ pub record AreGoing (n : ℕ) (family : Family) (ss : List Seat) : Type 0 where
   pub close : AllClose n least ss
 
 -- the last lines name the extents that each board has from the start
-last_stay : (at index : ℕ) (ss : List Seat) (old new : Seat) (rs : Family) → slice_get ss index ≡ Some old → new.board.monitor.layout ≡ old.board.monitor.layout
+last_stay : (at index : ℕ) (ss : List Seat) (old new : Seat) (rs : Family) → slice_get ss index ≡ Some old
+    → new.board.monitor.layout ≡ old.board.monitor.layout
     → last_lines at (boards_of ss) rs ≡ last_lines at (boards_of (slice_set ss index new)) rs
 last_stay at index [] old new rs found same = refl
 last_stay at zero (x ∷ xs) old new [] found same = refl
 last_stay at (suc index) (x ∷ xs) old new [] found same = refl
 last_stay at zero (x ∷ xs) old new (r ∷ rs) found same =
-    let layout : x.board.monitor.layout ≡ new.board.monitor.layout = ap (λ (s : Seat). s.board.monitor.layout) (same_Some x old found) ∙ sym same in
-    ap (λ (l : LayoutParts). front_of at ++ last_line (titles_of l.placed) r.event r.steps r.last.cycle ++ last_lines (suc at) (boards_of xs) rs) layout
+    let layout : x.board.monitor.layout ≡ new.board.monitor.layout =
+    ap (λ (s : Seat). s.board.monitor.layout) (same_Some x old found) ∙ sym same in
+    ap (λ (l : LayoutParts). front_of at ++ last_line (titles_of l.placed) r.event r.steps r.last.cycle
+    ++ last_lines (suc at) (boards_of xs) rs) layout
 last_stay at (suc index) (x ∷ xs) old new (r ∷ rs) found same =
-    ap (λ (text : List ℕ). front_of at ++ last_line (titles_of x.board.monitor.layout.placed) r.event r.steps r.last.cycle ++ text) (last_stay (suc at) index xs old new rs found same)
+    ap (λ (text : List ℕ). front_of at ++ last_line (titles_of x.board.monitor.layout.placed) r.event r.steps
+    r.last.cycle ++ text) (last_stay (suc at) index xs old new rs found same)
 
 -- a step takes at most four cycles
-few_by : (s next : State Separate) (count : ℕ) (image : List ℕ) → next.cycle ≡ min (s.cycle + count) top → s.cycle ≤ 40000000 → IsShort image s next → count ≤ 4
+few_by : (s next : State Separate) (count : ℕ) (image : List ℕ) → next.cycle ≡ min (s.cycle + count) top
+    → s.cycle ≤ 40000000 → IsShort image s next → count ≤ 4
 few_by s next count image is early short = omega (arith, is, early, short.cycle, short.few)
 
-takes_few : (l : LayoutParts) (image : List ℕ) (inputs : Inputs) (s : State Separate) (j : Result Allowed Event) → s.cycle ≤ 40000000
+takes_few : (l : LayoutParts) (image : List ℕ) (inputs : Inputs) (s : State Separate) (j : Result Allowed Event)
+    → s.cycle ≤ 40000000
     → separate_machine l image inputs s ≡ separate_performs l inputs s j → TakesFew j
 takes_few l image inputs s (Err event) early is = tt
 takes_few l image inputs s (Ok a) early is =
     let done = done_by l image inputs s a in
-    few_by s done.state a.effect.cycles image (ticks_count inputs a.effect.cycles (changed_by s.cycle s.periph a.effect) (omega (arith, early))) early (steps_short l image inputs s done is)
+    few_by s done.state a.effect.cycles image
+    (ticks_count inputs a.effect.cycles (changed_by s.cycle s.periph a.effect) (omega (arith, early))) early
+    (steps_short l image inputs s done is)
 
 start_by : (b : Bool) (least cycle : ℕ) → least ≤ cycle → StartsFrom least (if b then Some cycle else None)
 start_by true least cycle h = h
@@ -85,13 +95,15 @@ pub record Advances (n : ℕ) (family : Family) (index : ℕ) (told : Told) (old
 pub both_texts : (a b c d : List ℕ) → a ≡ b → c ≡ d → a ++ c ≡ b ++ d
 both_texts a b c d e f = λ i. e i ++ f i
 
-module _ (n : ℕ) (family : Family) (seats : List Seat) (few : n ≤ 10000000) (going : AreGoing n family seats) (c : NextStep) (chosen : next_from n 0 seats ≡ Some c) (told : Told) (old new : Seat)
+module _ (n : ℕ) (family : Family) (seats : List Seat) (few : n ≤ 10000000) (going : AreGoing n family seats)
+    (c : NextStep) (chosen : next_from n 0 seats ≡ Some c) (told : Told) (old new : Seat)
     (found : slice_get seats c.index ≡ Some old) (step : IsSeatStep (kept_for c.index seats) told old new) where
   next : IsNextAt n c.index c.cycle seats
   next = next_found n c seats chosen
 
   close : AllClose n c.cycle seats
-  close = close_next n going.least c.cycle seats going.close (next_least n going.least c.index c.cycle seats going.close next) (next_all n c.index c.cycle seats next)
+  close = close_next n going.least c.cycle seats going.close
+      (next_least n going.least c.index c.cycle seats going.close next) (next_all n c.index c.cycle seats next)
 
   at : IsStarting n c.cycle old
   at = starting n c.cycle old (next_starts n c.index c.cycle seats old next found)
@@ -105,18 +117,24 @@ module _ (n : ℕ) (family : Family) (seats : List Seat) (few : n ≤ 10000000) 
   abbrev effect : Result Allowed Event
   effect =
       let s = separate_of old.board in
-      separate_effect old.board.monitor.layout old.board.chip.image s.cpu s.memory ((inputs_of old.board.chip.script).pins s.cycle) (attempt_of old.board.chip.image s.cpu)
+      separate_effect old.board.monitor.layout old.board.chip.image s.cpu s.memory
+      ((inputs_of old.board.chip.script).pins s.cycle) (attempt_of old.board.chip.image s.cpu)
 
   short : TakesFew effect
-  short = takes_few old.board.monitor.layout old.board.chip.image (inputs_of old.board.chip.script) (separate_of old.board) effect early refl
+  short = takes_few old.board.monitor.layout old.board.chip.image (inputs_of old.board.chip.script)
+      (separate_of old.board) effect early refl
 
-  same : machine_with (kept_for c.index seats) old.board (separate_of old.board) ≡ machine_with (frames_for c.index family) old.board (separate_of old.board)
+  same : machine_with (kept_for c.index seats) old.board (separate_of old.board)
+      ≡ machine_with (frames_for c.index family) old.board (separate_of old.board)
   same =
-      step_within (inputs_of old.board.chip.script) (kept_for c.index seats) (frames_for c.index family) old.board.monitor.layout old.board.chip.image (separate_of old.board) short (omega (arith, early))
-      (λ now after below. handed_on n c.cycle now c.index family seats few (omega (arith, after, at.cycle_is)) (omega (arith, below, at.cycle_is)) going.all close)
+      step_within (inputs_of old.board.chip.script) (kept_for c.index seats) (frames_for c.index family)
+      old.board.monitor.layout old.board.chip.image (separate_of old.board) short (omega (arith, early))
+      (λ now after below. handed_on n c.cycle now c.index family seats few (omega (arith, after, at.cycle_is))
+      (omega (arith, below, at.cycle_is)) going.all close)
 
   moved : IsStepped c.index n (frames_for c.index family) board.record_is told old new
-  moved = stepped c.index n (frames_for c.index family) (kept_for c.index seats) board.record_is told old new board.way few step at.below short same
+  moved = stepped c.index n (frames_for c.index family) (kept_for c.index seats) board.record_is told old new board.way
+      few step at.below short same
 
   starts : StartsFrom c.cycle (start_of n new)
   starts = start_late n c.cycle new (omega (arith, moved.later, at.cycle_is))
@@ -134,30 +152,46 @@ module _ (n : ℕ) (family : Family) (seats : List Seat) (few : n ≤ 10000000) 
   ends : last_lines 0 (boards_of seats) family ≡ last_lines 0 (boards_of (slice_set seats c.index new)) family
   ends = last_stay 0 c.index seats old new family found step.layout
 
-  with_lines : lines_to_come n family seats ≡ told_text c.index told ++ lines_to_come n family (slice_set seats c.index new)
+  with_lines : lines_to_come n family seats ≡ told_text c.index told
+      ++ lines_to_come n family (slice_set seats c.index new)
       → text_to_come n family seats ≡ told_text c.index told ++ text_to_come n family (slice_set seats c.index new)
   with_lines e =
-      both_texts _ _ _ _ e ends ∙ append_assoc (told_text c.index told) (lines_to_come n family (slice_set seats c.index new)) (last_lines 0 (boards_of (slice_set seats c.index new)) family)
+      both_texts _ _ _ _ e ends
+      ∙ append_assoc (told_text c.index told) (lines_to_come n family (slice_set seats c.index new))
+      (last_lines 0 (boards_of (slice_set seats c.index new)) family)
 
   within : c.cycle < end_of family + 1
-  within = omega (arith, at.cycle_is, board.within, last_later n few (frames_for c.index family) board.record_is old board.way)
+  within = omega (
+    arith,
+    at.cycle_is,
+    board.within,
+    last_later n few (frames_for c.index family) board.record_is old
+        board.way,
+  )
 
-  lines_by : TakesFirst c.index old.board.chip.cycle (told_text c.index told) (rest_of n (frames_for c.index family) old) (rest_of n (frames_for c.index family) new)
-      ⊎ TakesNone (told_text c.index told) (rest_of n (frames_for c.index family) old) (rest_of n (frames_for c.index family) new)
+  lines_by : TakesFirst c.index old.board.chip.cycle (told_text c.index told)
+      (rest_of n (frames_for c.index family) old) (rest_of n (frames_for c.index family) new)
+      ⊎ TakesNone (told_text c.index told) (rest_of n (frames_for c.index family) old)
+      (rest_of n (frames_for c.index family) new)
       → lines_to_come n family seats ≡ told_text c.index told ++ lines_to_come n family (slice_set seats c.index new)
   lines_by (inl t) =
-      first_taken start_in step_text c.index c.cycle (end_of family + 1) t.step (rests_from 0 n family seats) (rests_from 0 n family (slice_set seats c.index new)) (t.start ∙ at.cycle_is)
-      (takes 0 n c.index c.index c.cycle family family seats old new t.step few (sym (zero-add c.index)) next found going.all t.first
+      first_taken start_in step_text c.index c.cycle (end_of family + 1) t.step (rests_from 0 n family seats)
+      (rests_from 0 n family (slice_set seats c.index new)) (t.start ∙ at.cycle_is)
+      (takes 0 n c.index c.index c.cycle family family seats old new t.step few (sym (zero-add c.index)) next found
+      going.all t.first
       (rest_late n few (frames_for c.index family) board.record_is new moved.way c.cycle starts)) within
       ∙ ap (λ (text : List ℕ). text ++ lines_to_come n family (slice_set seats c.index new)) (sym t.lines)
   lines_by (inr t) =
-      ap (before start_in step_text (end_of family + 1)) (takes_none 0 n c.index c.index family seats old new (sym (zero-add c.index)) found t.same)
+      ap (before start_in step_text (end_of family + 1))
+      (takes_none 0 n c.index c.index family seats old new (sym (zero-add c.index)) found t.same)
       ∙ ap (λ (text : List ℕ). text ++ lines_to_come n family (slice_set seats c.index new)) (sym t.lines)
 
   advances_one : Advances n family c.index told seats (slice_set seats c.index new)
   advances_one = record { going = going_on; text = with_lines (lines_by moved.lines) }
 
-pub advances : (n : ℕ) (family : Family) (seats news : List Seat) (c : NextStep) (told : Told) → n ≤ 10000000 → AreGoing n family seats
+pub advances : (n : ℕ) (family : Family) (seats news : List Seat) (c : NextStep) (told : Told) → n ≤ 10000000
+    → AreGoing n family seats
     → next_from n 0 seats ≡ Some c → IsStepAt c.index told seats news → Advances n family c.index told seats news
 advances n family seats news c told few going chosen h =
-    subst (Advances n family c.index told seats) (sym h.others) (advances_one n family seats few going c chosen told h.old h.new h.found h.step)
+    subst (Advances n family c.index told seats) (sym h.others)
+    (advances_one n family seats few going c chosen told h.old h.new h.found h.step)

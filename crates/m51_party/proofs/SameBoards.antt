@@ -12,7 +12,8 @@ use Rattle.m51_party.specs.declared.seat.Seat.{Seat}
 use Rattle.m51_party.specs.Report.{IsPartyOf, boards_of}
 use Rattle.m51_party.specs.Seats.{new_seat}
 use Rattle.m51_party.specs.Family.{Family, IsFamily, IsFresh, frames_for, machine_with, record_with, records_from}
-use Rattle.m51_party.specs.Text.{StepTold, end_of, front_of, last_lines, lines_at, lines_before, lines_of, party_text, steps_of}
+use Rattle.m51_party.specs.Text.{StepTold, end_of, front_of, last_lines, lines_at, lines_before, lines_of, party_text}
+use Rattle.m51_party.specs.Text.{steps_of}
 use Rattle.m51_party.proofs.One.{only_family}
 
 -- two boards with the same layout, image, script and state
@@ -30,42 +31,56 @@ AllAlike bs cs = ⊥
 
 -- what is made of these parts of a board
 alike : {X : Type 0} (of : LayoutParts → List ℕ → Script → State Separate → X) (b c : BoardState) → AreAlike b c
-    → of b.monitor.layout b.chip.image b.chip.script (separate_of b) ≡ of c.monitor.layout c.chip.image c.chip.script (separate_of c)
+    → of b.monitor.layout b.chip.image b.chip.script (separate_of b)
+    ≡ of c.monitor.layout c.chip.image c.chip.script (separate_of c)
 alike of b c h =
-    ap (λ l. of l b.chip.image b.chip.script (separate_of b)) h.layout ∙ ap (λ i. of c.monitor.layout i b.chip.script (separate_of b)) h.image
-    ∙ ap (λ s. of c.monitor.layout c.chip.image s (separate_of b)) h.script ∙ ap (of c.monitor.layout c.chip.image c.chip.script) h.state
+    ap (λ l. of l b.chip.image b.chip.script (separate_of b)) h.layout
+    ∙ ap (λ i. of c.monitor.layout i b.chip.script (separate_of b)) h.image
+    ∙ ap (λ s. of c.monitor.layout c.chip.image s (separate_of b)) h.script
+    ∙ ap (of c.monitor.layout c.chip.image c.chip.script) h.state
 
-record_alike : (n : ℕ) (extra : List Timed) (b c : BoardState) → AreAlike b c → record_with n extra b ≡ record_with n extra c
-record_alike n extra b c h = alike (λ l image script s. record_of (separate_machine l image (with_extra extra (inputs_of script))) n s) b c h
+record_alike : (n : ℕ) (extra : List Timed) (b c : BoardState) → AreAlike b c
+    → record_with n extra b ≡ record_with n extra c
+record_alike n extra b c h =
+    alike (λ l image script s. record_of (separate_machine l image (with_extra extra (inputs_of script))) n s) b c h
 
 steps_alike : (n : ℕ) (extra : List Timed) (b c : BoardState) → AreAlike b c
     → steps_of (machine_with extra b) n (separate_of b) ≡ steps_of (machine_with extra c) n (separate_of c)
-steps_alike n extra b c h = alike (λ l image script s. steps_of (separate_machine l image (with_extra extra (inputs_of script))) n s) b c h
+steps_alike n extra b c h =
+    alike (λ l image script s. steps_of (separate_machine l image (with_extra extra (inputs_of script))) n s) b c h
 
-records_alike : (index : ℕ) (bs cs : List BoardState) (n : ℕ) (family : Family) → AllAlike bs cs → records_from index bs n family ≡ records_from index cs n family
+records_alike : (index : ℕ) (bs cs : List BoardState) (n : ℕ) (family : Family) → AllAlike bs cs
+    → records_from index bs n family ≡ records_from index cs n family
 records_alike index [] [] n family h = refl
 records_alike index (b ∷ bs) (c ∷ cs) n family h =
-    ap (λ (r : Record Separate). r ∷ records_from (suc index) bs n family) (record_alike n (frames_for index family) b c h.0)
-    ∙ ap (λ (rs : Family). record_with n (frames_for index family) c ∷ rs) (records_alike (suc index) bs cs n family h.1)
+    ap (λ (r : Record Separate). r ∷ records_from (suc index) bs n family)
+    (record_alike n (frames_for index family) b c h.0)
+    ∙ ap (λ (rs : Family). record_with n (frames_for index family) c ∷ rs)
+    (records_alike (suc index) bs cs n family h.1)
 records_alike index [] (c ∷ cs) n family h = absurd h
 records_alike index (b ∷ bs) [] n family h = absurd h
 
-at_alike : (cycle index : ℕ) (bs cs : List BoardState) (n : ℕ) (family : Family) → AllAlike bs cs → lines_at cycle index bs n family ≡ lines_at cycle index cs n family
+at_alike : (cycle index : ℕ) (bs cs : List BoardState) (n : ℕ) (family : Family) → AllAlike bs cs
+    → lines_at cycle index bs n family ≡ lines_at cycle index cs n family
 at_alike cycle index [] [] n family h = refl
 at_alike cycle index (b ∷ bs) (c ∷ cs) n family h =
-    ap (λ (steps : List StepTold). flat_map (lines_of cycle (front_of index)) steps ++ lines_at cycle (suc index) bs n family) (steps_alike n (frames_for index family) b c h.0)
-    ∙ ap (λ (text : List ℕ). flat_map (lines_of cycle (front_of index)) (steps_of (machine_with (frames_for index family) c) n (separate_of c)) ++ text)
+    ap (λ (steps : List StepTold). flat_map (lines_of cycle (front_of index)) steps
+    ++ lines_at cycle (suc index) bs n family) (steps_alike n (frames_for index family) b c h.0)
+    ∙ ap (λ (text : List ℕ). flat_map (lines_of cycle (front_of index))
+    (steps_of (machine_with (frames_for index family) c) n (separate_of c)) ++ text)
     (at_alike cycle (suc index) bs cs n family h.1)
 at_alike cycle index [] (c ∷ cs) n family h = absurd h
 at_alike cycle index (b ∷ bs) [] n family h = absurd h
 
-before_alike : (cycle : ℕ) (bs cs : List BoardState) (n : ℕ) (family : Family) → AllAlike bs cs → lines_before cycle bs n family ≡ lines_before cycle cs n family
+before_alike : (cycle : ℕ) (bs cs : List BoardState) (n : ℕ) (family : Family) → AllAlike bs cs
+    → lines_before cycle bs n family ≡ lines_before cycle cs n family
 before_alike zero bs cs n family h = refl
 before_alike (suc cycle) bs cs n family h =
     ap (λ (text : List ℕ). text ++ lines_at cycle 0 bs n family) (before_alike cycle bs cs n family h)
     ∙ ap (λ (text : List ℕ). lines_before cycle cs n family ++ text) (at_alike cycle 0 bs cs n family h)
 
-last_alike : (index : ℕ) (bs cs : List BoardState) (family : Family) → AllAlike bs cs → last_lines index bs family ≡ last_lines index cs family
+last_alike : (index : ℕ) (bs cs : List BoardState) (family : Family) → AllAlike bs cs
+    → last_lines index bs family ≡ last_lines index cs family
 last_alike index [] [] family h = refl
 last_alike index (b ∷ bs) (c ∷ cs) [] h = refl
 last_alike index (b ∷ bs) (c ∷ cs) (r ∷ rs) h = rw (h.0.layout, last_alike (suc index) bs cs rs h.1) refl
@@ -79,12 +94,15 @@ count_alike [] (c ∷ cs) h = absurd h
 count_alike (b ∷ bs) [] h = absurd h
 
 -- the text of a family
-pub text_alike : (bs cs : List BoardState) (n : ℕ) (family : Family) → AllAlike bs cs → party_text bs n family ≡ party_text cs n family
+pub text_alike : (bs cs : List BoardState) (n : ℕ) (family : Family) → AllAlike bs cs
+    → party_text bs n family ≡ party_text cs n family
 unfolding party_text
-text_alike bs cs n family h = rw (count_alike bs cs h, before_alike (end_of family + 1) bs cs n family h, last_alike 0 bs cs family h) refl
+text_alike bs cs n family h =
+    rw (count_alike bs cs h, before_alike (end_of family + 1) bs cs n family h, last_alike 0 bs cs family h) refl
 
 -- and there is one family for both
-pub family_alike : (bs cs : List BoardState) (n : ℕ) (one other : Family) → AllAlike bs cs → All IsFresh cs → IsFamily bs n one → IsFamily cs n other → one ≡ other
+pub family_alike : (bs cs : List BoardState) (n : ℕ) (one other : Family) → AllAlike bs cs → All IsFresh cs
+    → IsFamily bs n one → IsFamily cs n other → one ≡ other
 family_alike bs cs n one other h fresh is also =
     let only = only_family cs n fresh in
     only.only one (is ∙ records_alike 0 bs cs n one h) ∙ sym (only.only other also)
@@ -98,5 +116,6 @@ seats_boards (b ∷ bs) = ap (λ (rest : List BoardState). b ∷ rest) (seats_bo
 pub made_boards : (boards : List BoardState) (party : List Seat) → IsPartyOf boards party → boards_of party ≡ boards
 made_boards boards party h = ap boards_of h.seats ∙ seats_boards boards
 
-pub made_party : (boards : List BoardState) (party : List Seat) → IsPartyOf boards party → IsPartyOf (boards_of party) party
+pub made_party : (boards : List BoardState) (party : List Seat) → IsPartyOf boards party
+    → IsPartyOf (boards_of party) party
 made_party boards party h = subst (λ (bs : List BoardState). IsPartyOf bs party) (sym (made_boards boards party h)) h

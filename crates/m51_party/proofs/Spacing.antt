@@ -1,5 +1,6 @@
 -- The bytes with a ninth bit that a board sends, one after another: only the last one may still be on the line.
-use Rattle.std.proofs.Common.{◌≡◌, ◌≢◌, ℕ, zero, suc, ◌+◌, ◌^◌, ◌-◌, ◌≤◌, ◌<◌, Bool, List, [], ◌∷◌, ◌++◌, Option, Some, None, refl, ap, subst, ◌∙◌, arith, append-nil}
+use Rattle.std.proofs.Common.{◌≡◌, ◌≢◌, ℕ, zero, suc, ◌+◌, ◌^◌, ◌-◌, ◌≤◌, ◌<◌, Bool, List, [], ◌∷◌, ◌++◌, Option, Some}
+use Rattle.std.proofs.Common.{None, refl, ap, subst, ◌∙◌, arith, append-nil}
 use Rattle.std.specs.Prelude.{◌==◌, IsSome, IfSome, option_to_list, min}
 use Rattle.std.proofs.lemmas.Bool.{ne_eqb}
 use Rattle.m51_cells.specs.declared.event.Entry.{Entry}
@@ -28,12 +29,14 @@ use Rattle.m51_party.proofs.Within.{ticks_count}
 abbrev pub IsApart : ℕ → ℕ → Periph → Type 0
 IsApart least cycle p = IsSome p.ninth → p.left ≢ 0 → least ≤ p.left + cycle + 4
 
-begun_apart : (least cycle : ℕ) (cpu : Cpu) (byte : ℕ) (p : Periph) → least ≤ cycle + 14 → IsApart least cycle (begun cpu byte p)
+begun_apart : (least cycle : ℕ) (cpu : Cpu) (byte : ℕ) (p : Periph) → least ≤ cycle + 14
+    → IsApart least cycle (begun cpu byte p)
 unfolding begun
 begun_apart least cycle cpu byte p h i ne =
     let e = ninth_ten (serial_mode cpu) (flag cpu scon tb8) i in omega (arith, e, h)
 
-begin_apart : (least cycle : ℕ) (cpu : Cpu) (o : Option ℕ) (p : Periph) → least ≤ cycle + 14 → IsApart least cycle p → IsApart least cycle (written_to cpu o p)
+begin_apart : (least cycle : ℕ) (cpu : Cpu) (o : Option ℕ) (p : Periph) → least ≤ cycle + 14 → IsApart least cycle p
+    → IsApart least cycle (written_to cpu o p)
 begin_apart least cycle cpu None p h k = k
 begin_apart least cycle cpu (Some byte) p h k = begun_apart least cycle cpu byte p h
 
@@ -47,7 +50,8 @@ abbrev pub SpacedBy : ℕ → ℕ → Periph → Option Entry → Type 0
 SpacedBy least cycle p None = IsApart least cycle p
 SpacedBy least cycle p (Some entry) = (p.left ≡ 0) × Arrives least cycle (frames_of entry)
 
-tick_apart : (least cycle : ℕ) (p q : Periph) → p.left ≤ q.left + 1 → q.left ≤ p.left → q.ninth ≡ p.ninth → IsApart least cycle p → IsApart least (cycle + 1) q
+tick_apart : (least cycle : ℕ) (p q : Periph) → p.left ≤ q.left + 1 → q.left ≤ p.left → q.ninth ≡ p.ninth
+    → IsApart least cycle p → IsApart least (cycle + 1) q
 tick_apart least cycle p q low high same g i ne =
     let was : p.left ≢ 0 = λ e. ne (omega (arith, e, high)) in
     let h : least ≤ p.left + cycle + 4 = g (subst (λ o. IsSome o) same i) was in
@@ -57,18 +61,21 @@ byte_arrives : (least cycle byte : ℕ) (n : Option Bool) (p : Periph) → n ≡
     → Arrives least (cycle + 1) (frames_of (SentByte (cycle + 1) byte n))
 byte_arrives least cycle byte None p e one g = tt
 byte_arrives least cycle byte (Some b) p e one g =
-    let h : least ≤ p.left + cycle + 4 = g (subst (λ (o : Option Bool). IsSome o) e refl) (λ z. omega (arith, z, one)) in
+    let h : least ≤ p.left + cycle + 4 =
+    g (subst (λ (o : Option Bool). IsSome o) e refl) (λ z. omega (arith, z, one)) in
     (omega (arith, h, one), omega arith)
 
 -- a tick in which nothing was sent before
-first_spaced : (least cycle : ℕ) (p q : Periph) (sent : Option Sent) → IsApart least (cycle + 1) q → IsApart least cycle p
+first_spaced : (least cycle : ℕ) (p q : Periph) (sent : Option Sent) → IsApart least (cycle + 1) q
+    → IsApart least cycle p
     → IfSome sent (λ s. (s ≡ record { byte = p.byte; ninth = p.ninth }) × (p.left ≡ 1) × (q.left ≡ 0))
     → SpacedBy least (cycle + 1) q (sent_in (cycle + 1) sent)
 first_spaced least cycle p q None g h is = g
 first_spaced least cycle p q (Some s) g h is =
     (is.2, byte_arrives least cycle s.byte s.ninth p (ap (λ (s : Sent). s.ninth) is.0) is.1 h)
 
-arrives_later : (least cycle later : ℕ) (ts : List Timed) → cycle ≤ later → Arrives least cycle ts → Arrives least later ts
+arrives_later : (least cycle later : ℕ) (ts : List Timed) → cycle ≤ later → Arrives least cycle ts
+    → Arrives least later ts
 arrives_later least cycle later [] h k = tt
 arrives_later least cycle later (t ∷ ts) h k = (k.0, omega (arith, h, k.1))
 
@@ -84,7 +91,8 @@ tick_spaced least cycle p q (Some entry) sent low high same is g =
 abbrev pub IsSpaced : ℕ → Passing → Type 0
 IsSpaced least p = SpacedBy least p.cycle p.periph p.sent
 
-cycle_spaced : (inputs : Inputs) (least : ℕ) (p : Passing) → p.cycle < top → IsSpaced least p → IsSpaced least (cycle_passed inputs p)
+cycle_spaced : (inputs : Inputs) (least : ℕ) (p : Passing) → p.cycle < top → IsSpaced least p
+    → IsSpaced least (cycle_passed inputs p)
 unfolding cycle_passed
 cycle_spaced inputs least p h g =
     let cycle = next_cycle p.cycle in
@@ -94,7 +102,8 @@ cycle_spaced inputs least p h g =
     subst (λ (c : ℕ). SpacedBy least c t.periph (first_sent p.sent (sent_in c t.sent))) is
     (tick_spaced least p.cycle p.periph t.periph p.sent t.sent one.least one.most one.ninth one.sent g)
 
-cycles_spaced : (inputs : Inputs) (least count : ℕ) (p : Passing) → p.cycle + count ≤ top → IsSpaced least p → IsSpaced least (cycles_passed inputs count p)
+cycles_spaced : (inputs : Inputs) (least count : ℕ) (p : Passing) → p.cycle + count ≤ top → IsSpaced least p
+    → IsSpaced least (cycles_passed inputs count p)
 unfolding cycles_passed
 cycles_spaced inputs least zero p h g = g
 cycles_spaced inputs least (suc count) p h g =
@@ -118,7 +127,8 @@ until_append cycle (t ∷ ts) ys h k = (h.0, until_append cycle ts ys h.1 k)
 pub none_until : (now cycle : ℕ) (ts : List Timed) → cycle < now + 5 → Until cycle ts → frames_in now ts ≡ []
 none_until now cycle [] below h = refl
 none_until now cycle (t ∷ ts) below h =
-    passed_over (t.cycle == now) t.frame (frames_in now ts) (ne_eqb t.cycle now (λ e. omega (arith, e, h.0, below))) (none_until now cycle ts below h.1)
+    passed_over (t.cycle == now) t.frame (frames_in now ts) (ne_eqb t.cycle now (λ e. omega (arith, e, h.0, below)))
+    (none_until now cycle ts below h.1)
 
 -- the frame that was sent last was sent by this cycle, and the next one arrives at least nine cycles later
 abbrev pub IsLast : ℕ → Periph → Option Timed → Type 0
@@ -144,7 +154,8 @@ last_room : (cycle : ℕ) (p : Periph) (kept : Option Timed) → IsLast cycle p 
 last_room cycle p None h = omega arith
 last_room cycle p (Some t) h = omega (arith, h.0)
 
-last_later : (cycle later : ℕ) (p q : Periph) (kept : Option Timed) → cycle ≤ later → IsLast cycle p kept → IsApart (least_after kept) later q → IsLast later q kept
+last_later : (cycle later : ℕ) (p q : Periph) (kept : Option Timed) → cycle ≤ later → IsLast cycle p kept
+    → IsApart (least_after kept) later q → IsLast later q kept
 last_later cycle later p q None h k g = tt
 last_later cycle later p q (Some t) h k g = (omega (arith, h, k.0), g)
 
@@ -152,7 +163,8 @@ last_later cycle later p q (Some t) h k g = (omega (arith, h, k.0), g)
 quiet : (least cycle : ℕ) (p : Periph) → p.left ≡ 0 → IsApart least cycle p
 quiet least cycle p e i ne = absurd (ne e)
 
-kept_until : (cycle later : ℕ) (p : Periph) (kept : Option Timed) (t : Timed) → IsLast cycle p kept → least_after kept ≤ t.cycle → t.cycle ≤ later + 4 → Until later (option_to_list kept)
+kept_until : (cycle later : ℕ) (p : Periph) (kept : Option Timed) (t : Timed) → IsLast cycle p kept
+    → least_after kept ≤ t.cycle → t.cycle ≤ later + 4 → Until later (option_to_list kept)
 kept_until cycle later p None t h k below = tt
 kept_until cycle later p (Some last) t h k below = (omega (arith, k, below), tt)
 
@@ -160,7 +172,8 @@ same_frames : (frames older : List Timed) → frames ≡ older → frames ++ [] 
 same_frames frames older e = append-nil frames ∙ e
 
 -- a step in which nothing is sent, or nothing with a ninth bit
-keeps_same : (cycle later : ℕ) (p q : Periph) (frames : List Timed) (kept : Option Timed) → cycle ≤ later → KeepsLast cycle p frames kept
+keeps_same : (cycle later : ℕ) (p q : Periph) (frames : List Timed) (kept : Option Timed) → cycle ≤ later
+    → KeepsLast cycle p frames kept
     → IsApart (least_after kept) later q → KeepsLast later q (frames ++ []) kept
 keeps_same cycle later p q frames kept h k g = record {
   older = k.older;
@@ -172,9 +185,11 @@ keeps_same cycle later p q frames kept h k g = record {
 timed : ℕ → ℕ → Bool → Timed
 timed cycle byte ninth = record { cycle = cycle; frame = record { byte = byte; ninth = ninth } }
 
-keeps_next : (cycle later at byte : ℕ) (ninth : Bool) (p q : Periph) (frames : List Timed) (kept : Option Timed) → cycle ≤ later → later + 4 ≤ top → KeepsLast cycle p frames kept
+keeps_next : (cycle later at byte : ℕ) (ninth : Bool) (p q : Periph) (frames : List Timed) (kept : Option Timed)
+    → cycle ≤ later → later + 4 ≤ top → KeepsLast cycle p frames kept
     → q.left ≡ 0 → least_after kept ≤ at + 4 → at + 4 ≤ later + 4
-    → KeepsLast later q (frames ++ frames_of (SentByte at byte (Some ninth))) (last_sent kept (Some (SentByte at byte (Some ninth))))
+    → KeepsLast later q (frames ++ frames_of (SentByte at byte (Some ninth)))
+    (last_sent kept (Some (SentByte at byte (Some ninth))))
 unfolding timed
 keeps_next cycle later at byte ninth p q frames kept h room k none least most =
     let is : at + 4 ≡ min (at + 4) (2 ^ 64 - 1) = omega (arith, most, room) in
@@ -188,15 +203,20 @@ keeps_next cycle later at byte ninth p q frames kept h room k none least most =
     }
 
 -- so it is after a step
-pub keeps_on : (cycle later : ℕ) (p q : Periph) (frames : List Timed) (kept : Option Timed) (sent : Option Entry) → cycle ≤ later → later + 4 ≤ top → KeepsLast cycle p frames kept
+pub keeps_on : (cycle later : ℕ) (p q : Periph) (frames : List Timed) (kept : Option Timed) (sent : Option Entry)
+    → cycle ≤ later → later + 4 ≤ top → KeepsLast cycle p frames kept
     → SpacedBy (least_after kept) later q sent → KeepsLast later q (frames ++ sent_frames sent) (last_sent kept sent)
 keeps_on cycle later p q frames kept None h room k g = keeps_same cycle later p q frames kept h k g
-keeps_on cycle later p q frames kept (Some (Port at port value)) h room k g = keeps_same cycle later p q frames kept h k (quiet (least_after kept) later q g.0)
-keeps_on cycle later p q frames kept (Some (SentByte at byte None)) h room k g = keeps_same cycle later p q frames kept h k (quiet (least_after kept) later q g.0)
-keeps_on cycle later p q frames kept (Some (SentByte at byte (Some ninth))) h room k g = keeps_next cycle later at byte ninth p q frames kept h room k g.0 g.1.0 g.1.1
+keeps_on cycle later p q frames kept (Some (Port at port value)) h room k g =
+    keeps_same cycle later p q frames kept h k (quiet (least_after kept) later q g.0)
+keeps_on cycle later p q frames kept (Some (SentByte at byte None)) h room k g =
+    keeps_same cycle later p q frames kept h k (quiet (least_after kept) later q g.0)
+keeps_on cycle later p q frames kept (Some (SentByte at byte (Some ninth))) h room k g =
+    keeps_next cycle later at byte ninth p q frames kept h room k g.0 g.1.0 g.1.1
 
 -- what is sent in the cycles of a step
-pub step_spaced : (inputs : Inputs) (least cycle : ℕ) (p : Periph) (e : Effect) → cycle + e.cycles ≤ top → least ≤ cycle + 14 → IsApart least cycle p
+pub step_spaced : (inputs : Inputs) (least cycle : ℕ) (p : Periph) (e : Effect) → cycle + e.cycles ≤ top
+    → least ≤ cycle + 14 → IsApart least cycle p
     → IsSpaced least (cycles_passed inputs e.cycles (changed_by cycle p e))
 step_spaced inputs least cycle p e h room g =
     cycles_spaced inputs least e.cycles (changed_by cycle p e) h (begin_apart least cycle e.cpu e.sbuf p room g)
@@ -207,6 +227,8 @@ pub keeps_step : (inputs : Inputs) (cycle : ℕ) (p : Periph) (e : Effect) (fram
     KeepsLast q.cycle q.periph (frames ++ sent_frames q.sent) (last_sent kept q.sent)
 keeps_step inputs cycle p e frames kept h k =
     let q = cycles_passed inputs e.cycles (changed_by cycle p e) in
-    let is : q.cycle ≡ min (cycle + e.cycles) top = ticks_count inputs e.cycles (changed_by cycle p e) (omega (arith, h)) in
+    let is : q.cycle ≡ min (cycle + e.cycles) top =
+    ticks_count inputs e.cycles (changed_by cycle p e) (omega (arith, h)) in
     keeps_on cycle q.cycle p q.periph frames kept q.sent (omega (arith, is, h)) (omega (arith, is, h)) k
-    (step_spaced inputs (least_after kept) cycle p e (omega (arith, h)) (last_room cycle p kept k.last) (last_apart cycle p kept k.last))
+    (step_spaced inputs (least_after kept) cycle p e (omega (arith, h)) (last_room cycle p kept k.last)
+    (last_apart cycle p kept k.last))

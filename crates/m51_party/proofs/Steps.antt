@@ -24,16 +24,20 @@ module _ (l : LayoutParts) (image : List ℕ) (inputs : Inputs) where
   -- so they are, and the last cycle is not before the first
   pub record AreMade (n : ℕ) (s : State Separate) : Type 0 where
     pub later : s.cycle ≤ (record_of (separate_machine l image inputs) n s).last.cycle
-    pub steps : AreItsSteps (record_of (separate_machine l image inputs) n s) (steps_of (separate_machine l image inputs) n s)
+    pub steps : AreItsSteps (record_of (separate_machine l image inputs) n s)
+        (steps_of (separate_machine l image inputs) n s)
 
   -- the same after a step that is performed, or stopped
   record AreMadeBy (n : ℕ) (s : State Separate) (r : Result Allowed Event) : Type 0 where
-    later : s.cycle ≤ (record_from s (record_of (separate_machine l image inputs) n) (separate_performs l inputs s r)).last.cycle
+    later : s.cycle ≤ (record_from s (record_of (separate_machine l image inputs) n)
+        (separate_performs l inputs s r)).last.cycle
     steps : AreItsSteps (record_from s (record_of (separate_machine l image inputs) n) (separate_performs l inputs s r))
         (steps_from s (steps_of (separate_machine l image inputs) n) (separate_performs l inputs s r))
 
-  made_by : (n : ℕ) (s : State Separate) (r : Result Allowed Event) → s.cycle ≤ top → ((t : State Separate) → t.cycle ≤ top → AreMade n t) → AreMadeBy n s r
-  made_by n s (Err event) h rest = record { later = omega arith; steps = record { entries = refl; count = refl; starts = none_start s.cycle } }
+  made_by : (n : ℕ) (s : State Separate) (r : Result Allowed Event) → s.cycle ≤ top
+      → ((t : State Separate) → t.cycle ≤ top → AreMade n t) → AreMadeBy n s r
+  made_by n s (Err event) h rest =
+      record { later = omega arith; steps = record { entries = refl; count = refl; starts = none_start s.cycle } }
   made_by n s (Ok a) h rest =
       let done = done_by l image inputs s a in
       let go = ticks_go inputs 0 a.effect.cycles (changed_by s.cycle s.periph a.effect) h (omega arith) in
@@ -46,16 +50,23 @@ module _ (l : LayoutParts) (image : List ℕ) (inputs : Inputs) where
         steps = record {
           entries = ap (λ (es : List Entry). entries_of done.told ++ es) next.steps.entries;
           count = ap suc next.steps.count;
-          starts = All-cons (λ (step : StepTold). step.start ≤ limit) first (steps_of (separate_machine l image inputs) n done.state) later next.steps.starts;
+          starts = All-cons (λ (step : StepTold). step.start ≤ limit) first
+              (steps_of (separate_machine l image inputs) n done.state) later next.steps.starts;
         };
       }
 
   pub made : (n : ℕ) (s : State Separate) → s.cycle ≤ top → AreMade n s
   unfolding record_of steps_of
-  made zero s h = record { later = omega arith; steps = record { entries = refl; count = refl; starts = none_start s.cycle } }
+  made zero s h = record {
+    later = omega arith;
+    steps = record { entries = refl; count = refl; starts = none_start s.cycle };
+  }
   made (suc n) s h =
-      let by = made_by n s (separate_effect l image s.cpu s.memory (inputs.pins s.cycle) (attempt_of image s.cpu)) h (λ t k. made n t k) in
+      let by = made_by n s (separate_effect l image s.cpu s.memory (inputs.pins s.cycle) (attempt_of image s.cpu)) h
+      (λ t k. made n t k) in
       record { later = by.later; steps = by.steps }
 
 pub steps_make_records : StepsMakeRecords
-steps_make_records b n extra fresh = (made b.monitor.layout b.chip.image (with_extra extra (inputs_of b.chip.script)) n (separate_of b) (fresh_starts b fresh)).steps
+steps_make_records b n extra fresh =
+    (made b.monitor.layout b.chip.image (with_extra extra (inputs_of b.chip.script)) n (separate_of b)
+    (fresh_starts b fresh)).steps

@@ -1,11 +1,13 @@
 -- The cycles of a step, with frames that are the same before a cycle.
-use Rattle.std.proofs.Common.{◌≡◌, ℕ, zero, suc, ◌+◌, ◌-◌, ◌^◌, ◌≤◌, ◌<◌, ◌⊎◌, inl, inr, ⊎_elim, List, ◌++◌, refl, sym, ap, subst, ◌∙◌, arith}
+use Rattle.std.proofs.Common.{◌≡◌, ℕ, zero, suc, ◌+◌, ◌-◌, ◌^◌, ◌≤◌, ◌<◌, ◌⊎◌, inl, inr, ⊎_elim, List, ◌++◌, refl, sym}
+use Rattle.std.proofs.Common.{ap, subst, ◌∙◌, arith}
 use Rattle.std.proofs.lemmas.Bool.{cases_lt}
 use Rattle.m51_timers_uart.specs.declared.receiving.Frame.{Frame}
 use Rattle.m51_timers_uart.specs.Tick.{ticked}
 use Rattle.m51_party.proofs.Words.{Passing}
 use Rattle.m51_sim.specs.declared.cycles.Timed.{Timed}
-use Rattle.m51_sim.specs.Cycles.{Inputs, after_tick, cycle_passed, cycles_passed, frames_in, next_cycle, sent_in, with_extra}
+use Rattle.m51_sim.specs.Cycles.{Inputs, after_tick, cycle_passed, cycles_passed, frames_in, next_cycle, sent_in}
+use Rattle.m51_sim.specs.Cycles.{with_extra}
 use Rattle.m51_sim.proofs.StepCycles.{one_counts}
 use Rattle.m51_party.proofs.Frames.{From, first_from, first_same, sent_frames, sent_from}
 
@@ -25,7 +27,8 @@ pub record GoesOn (least : ℕ) (p q : Passing) : Type 0 where
   pub most : q.cycle ≤ top
   pub sent : From least (sent_frames p.sent) → From least (sent_frames q.sent)
 
-tick_sends : (inputs : Inputs) (p : Passing) (least : ℕ) → least ≤ next_cycle p.cycle + 4 → From least (sent_frames p.sent) → From least (sent_frames (cycle_passed inputs p).sent)
+tick_sends : (inputs : Inputs) (p : Passing) (least : ℕ) → least ≤ next_cycle p.cycle + 4
+    → From least (sent_frames p.sent) → From least (sent_frames (cycle_passed inputs p).sent)
 unfolding cycle_passed
 tick_sends inputs p least h k =
     let cycle = next_cycle p.cycle in
@@ -37,7 +40,8 @@ pub next_no_less : (a b : ℕ) → a ≤ b → next_cycle a ≤ next_cycle b
 next_no_less a b h = omega (arith, h)
 
 -- what the first cycle may send comes no earlier
-pub ticks_from : (inputs : Inputs) (least count : ℕ) (p : Passing) → p.cycle ≤ top → least ≤ next_cycle p.cycle + 4 → GoesOn least p (cycles_passed inputs count p)
+pub ticks_from : (inputs : Inputs) (least count : ℕ) (p : Passing) → p.cycle ≤ top → least ≤ next_cycle p.cycle + 4
+    → GoesOn least p (cycles_passed inputs count p)
 unfolding cycles_passed
 ticks_from inputs least zero p h k = record { later = omega arith; most = h; sent = λ s. s }
 ticks_from inputs least (suc count) p h k =
@@ -48,10 +52,12 @@ ticks_from inputs least (suc count) p h k =
     record {
       later = omega (arith, is, more, before.later);
       most = omega (arith, is, next_top q.cycle);
-      sent = λ s. tick_sends inputs q least (omega (arith, k, next_no_less p.cycle q.cycle before.later)) (before.sent s);
+      sent = λ s. tick_sends inputs q least (omega (arith, k, next_no_less p.cycle q.cycle before.later))
+          (before.sent s);
     }
 
-pub ticks_go : (inputs : Inputs) (least count : ℕ) (p : Passing) → p.cycle ≤ top → least ≤ p.cycle + 4 → GoesOn least p (cycles_passed inputs count p)
+pub ticks_go : (inputs : Inputs) (least count : ℕ) (p : Passing) → p.cycle ≤ top → least ≤ p.cycle + 4
+    → GoesOn least p (cycles_passed inputs count p)
 ticks_go inputs least count p h k = ticks_from inputs least count p h (omega (arith, k, next_later p.cycle h))
 
 -- frames that are the same before a cycle
@@ -59,19 +65,23 @@ abbrev pub SameBefore : ℕ → List Timed → List Timed → Type 0
 SameBefore limit xs ys = (cycle : ℕ) → cycle < limit → frames_in cycle xs ≡ frames_in cycle ys
 
 module _ (inputs : Inputs) (xs ys : List Timed) (limit : ℕ) (same : SameBefore limit xs ys) where
-  tick_same : (p : Passing) → next_cycle p.cycle < limit → cycle_passed (with_extra xs inputs) p ≡ cycle_passed (with_extra ys inputs) p
+  tick_same : (p : Passing) → next_cycle p.cycle < limit
+      → cycle_passed (with_extra xs inputs) p ≡ cycle_passed (with_extra ys inputs) p
   unfolding cycle_passed
   tick_same p below =
       let cycle = next_cycle p.cycle in
-      ap (λ (fs : List Frame). after_tick cycle p.sent (ticked p.cpu (inputs.pins cycle) (inputs.frames cycle ++ fs) p.periph)) (same cycle below)
+      ap (λ (fs : List Frame). after_tick cycle p.sent
+      (ticked p.cpu (inputs.pins cycle) (inputs.frames cycle ++ fs) p.periph)) (same cycle below)
 
   -- so are whole steps, where no cycle is as late
-  pub ticks_same : (count : ℕ) (p : Passing) → top < limit → cycles_passed (with_extra xs inputs) count p ≡ cycles_passed (with_extra ys inputs) count p
+  pub ticks_same : (count : ℕ) (p : Passing) → top < limit
+      → cycles_passed (with_extra xs inputs) count p ≡ cycles_passed (with_extra ys inputs) count p
   unfolding cycles_passed
   ticks_same zero p over = refl
   ticks_same (suc count) p over =
       let q = cycles_passed (with_extra xs inputs) count p in
-      tick_same q (omega (arith, over, next_top q.cycle)) ∙ ap (cycle_passed (with_extra ys inputs)) (ticks_same count p over)
+      tick_same q (omega (arith, over, next_top q.cycle))
+      ∙ ap (cycle_passed (with_extra ys inputs)) (ticks_same count p over)
 
   -- both have come so far, and what they sent arrives alike until then
   pub record HaveParted (p q : Passing) : Type 0 where
@@ -79,14 +89,17 @@ module _ (inputs : Inputs) (xs ys : List Timed) (limit : ℕ) (same : SameBefore
     pub right : limit ≤ q.cycle
     pub left_top : p.cycle ≤ top
     pub right_top : q.cycle ≤ top
-    pub sent : (cycle : ℕ) → cycle < suc limit → frames_in cycle (sent_frames p.sent) ≡ frames_in cycle (sent_frames q.sent)
+    pub sent : (cycle : ℕ) → cycle < suc limit
+        → frames_in cycle (sent_frames p.sent) ≡ frames_in cycle (sent_frames q.sent)
 
-  tick_adds : (from : Inputs) (p : Passing) (cycle : ℕ) → limit ≤ next_cycle p.cycle → cycle < suc limit → frames_in cycle (sent_frames (cycle_passed from p).sent) ≡ frames_in cycle (sent_frames p.sent)
+  tick_adds : (from : Inputs) (p : Passing) (cycle : ℕ) → limit ≤ next_cycle p.cycle → cycle < suc limit
+      → frames_in cycle (sent_frames (cycle_passed from p).sent) ≡ frames_in cycle (sent_frames p.sent)
   unfolding cycle_passed
   tick_adds from p cycle h below =
       let now = next_cycle p.cycle in
       let told = (ticked p.cpu (from.pins now) (from.frames now) p.periph).sent in
-      first_same cycle (now + 4) p.sent (sent_in now told) (omega (arith, h, below)) (sent_from now (now + 4) told (omega arith))
+      first_same cycle (now + 4) p.sent (sent_in now told) (omega (arith, h, below))
+      (sent_from now (now + 4) told (omega arith))
 
   parted_from : (p q : Passing) → limit ≤ next_cycle p.cycle → limit ≤ next_cycle q.cycle
       → ((cycle : ℕ) → cycle < suc limit → frames_in cycle (sent_frames p.sent) ≡ frames_in cycle (sent_frames q.sent))
@@ -99,25 +112,34 @@ module _ (inputs : Inputs) (xs ys : List Timed) (limit : ℕ) (same : SameBefore
         right = omega (arith, two, k);
         left_top = omega (arith, one, next_top p.cycle);
         right_top = omega (arith, two, next_top q.cycle);
-        sent = λ cycle below. tick_adds (with_extra xs inputs) p cycle h below ∙ sent cycle below ∙ sym (tick_adds (with_extra ys inputs) q cycle k below);
+        sent = λ cycle below. tick_adds (with_extra xs inputs) p cycle h below ∙ sent cycle below
+            ∙ sym (tick_adds (with_extra ys inputs) q cycle k below);
       }
 
   abbrev pub AreAlike : Passing → Passing → Type 0
   AreAlike p q = (p ≡ q) ⊎ HaveParted p q
 
-  tick_together : (p : Passing) → AreAlike (cycle_passed (with_extra xs inputs) p) (cycle_passed (with_extra ys inputs) p)
+  tick_together : (p : Passing)
+      → AreAlike (cycle_passed (with_extra xs inputs) p) (cycle_passed (with_extra ys inputs) p)
   tick_together p =
       ⊎_elim
       (λ (below : next_cycle p.cycle < limit). inl (tick_same p below))
       (λ (over : limit ≤ next_cycle p.cycle). inr (parted_from p p over over (λ cycle below. refl)))
       (cases_lt (next_cycle p.cycle) limit)
 
-  tick_alike : (p q : Passing) → AreAlike p q → AreAlike (cycle_passed (with_extra xs inputs) p) (cycle_passed (with_extra ys inputs) q)
-  tick_alike p q (inl e) = subst (λ (q : Passing). AreAlike (cycle_passed (with_extra xs inputs) p) (cycle_passed (with_extra ys inputs) q)) e (tick_together p)
+  tick_alike : (p q : Passing) → AreAlike p q
+      → AreAlike (cycle_passed (with_extra xs inputs) p) (cycle_passed (with_extra ys inputs) q)
+  tick_alike p q (inl e) =
+      subst (λ (q : Passing). AreAlike (cycle_passed (with_extra xs inputs) p) (cycle_passed (with_extra ys inputs) q))
+      e (tick_together p)
   tick_alike p q (inr h) =
-      inr (parted_from p q (omega (arith, h.left, next_later p.cycle h.left_top)) (omega (arith, h.right, next_later q.cycle h.right_top)) h.sent)
+      inr (parted_from p q (omega (arith, h.left, next_later p.cycle h.left_top))
+      (omega (arith, h.right, next_later q.cycle h.right_top)) h.sent)
 
-  pub ticks_alike : (count : ℕ) (p : Passing) → AreAlike (cycles_passed (with_extra xs inputs) count p) (cycles_passed (with_extra ys inputs) count p)
+  pub ticks_alike : (count : ℕ) (p : Passing)
+      → AreAlike (cycles_passed (with_extra xs inputs) count p) (cycles_passed (with_extra ys inputs) count p)
   unfolding cycles_passed
   ticks_alike zero p = inl refl
-  ticks_alike (suc count) p = tick_alike (cycles_passed (with_extra xs inputs) count p) (cycles_passed (with_extra ys inputs) count p) (ticks_alike count p)
+  ticks_alike (suc count) p =
+      tick_alike (cycles_passed (with_extra xs inputs) count p) (cycles_passed (with_extra ys inputs) count p)
+      (ticks_alike count p)

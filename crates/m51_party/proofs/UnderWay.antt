@@ -1,5 +1,6 @@
 -- A board that has performed some steps of its record.
-use Rattle.std.proofs.Common.{◌≡◌, ℕ, suc, ◌+◌, ◌-◌, ◌*◌, ◌≤◌, ◌<◌, ◌⊎◌, inl, inr, List, [], ◌∷◌, ◌++◌, length, Option, Some, None, Result, Ok, Err, refl, sym, ap, subst, ◌∙◌, arith, append_assoc, zero-add}
+use Rattle.std.proofs.Common.{◌≡◌, ℕ, suc, ◌+◌, ◌-◌, ◌*◌, ◌≤◌, ◌<◌, ◌⊎◌, inl, inr, List, [], ◌∷◌, ◌++◌, length, Option}
+use Rattle.std.proofs.Common.{Some, None, Result, Ok, Err, refl, sym, ap, subst, ◌∙◌, arith, append_assoc, zero-add}
 use Rattle.std.specs.Prelude.{flat_map, option_to_list, min}
 use Rattle.std.specs.Option.{ForSome, option_map}
 use Rattle.std.proofs.lemmas.Grind.{flat_map-append}
@@ -55,15 +56,18 @@ pub record IsUnderWay (extra : List Timed) (n : ℕ) (r : Record Separate) (s : 
 no_event : (P : Event → Type 0) → ForSome None P
 no_event P = λ event e. absurd (cc e)
 
-begun_record : (n : ℕ) (extra : List Timed) (b : BoardState) → record_with n extra b ≡ continued [] 0 (rest_record n extra (new_seat b))
+begun_record : (n : ℕ) (extra : List Timed) (b : BoardState)
+    → record_with n extra b ≡ continued [] 0 (rest_record n extra (new_seat b))
 begun_record n extra b =
     let m : Machine Separate = machine_with extra b in
     let all : n ≡ n - 0 = omega arith in
     ap (λ (k : ℕ). record_of m k (separate_of b)) all
-    ∙ ap (λ (k : ℕ). record (record_of m (n - 0) (separate_of b)) { steps = k }) (sym (zero-add (record_of m (n - 0) (separate_of b)).steps))
+    ∙ ap (λ (k : ℕ). record (record_of m (n - 0) (separate_of b)) { steps = k })
+    (sym (zero-add (record_of m (n - 0) (separate_of b)).steps))
 
 -- so it is at the start
-pub under_way_first : (n : ℕ) (extra : List Timed) (b : BoardState) → IsFresh b → IsUnderWay extra n (record_with n extra b) (new_seat b)
+pub under_way_first : (n : ℕ) (extra : List Timed) (b : BoardState) → IsFresh b
+    → IsUnderWay extra n (record_with n extra b) (new_seat b)
 under_way_first n extra b fresh =
     let is : b.chip.cycle ≡ 0 = ap (λ (s : State Separate). s.cycle) fresh.state in
     record {
@@ -94,72 +98,94 @@ pub record TakesNone (text : List ℕ) (before after : List StepTold) : Type 0 w
   pub lines : text ≡ []
 
 -- after a step it is so, and the step took at most four cycles
-pub record IsStepped (index n : ℕ) (extra : List Timed) (r : Record Separate) (told : Told) (old new : Seat) : Type 0 where
-  pub way : IsUnderWay extra n r new
-  pub later : old.board.chip.cycle ≤ new.board.chip.cycle
-  pub most : new.board.chip.cycle ≤ old.board.chip.cycle + 4
-  pub lines : TakesFirst index old.board.chip.cycle (told_text index told) (rest_of n extra old) (rest_of n extra new)
-      ⊎ TakesNone (told_text index told) (rest_of n extra old) (rest_of n extra new)
+pub record IsStepped (index n : ℕ) (extra : List Timed) (r : Record Separate) (told : Told) (old new : Seat) : Type 0
+  where
+    pub way : IsUnderWay extra n r new
+    pub later : old.board.chip.cycle ≤ new.board.chip.cycle
+    pub most : new.board.chip.cycle ≤ old.board.chip.cycle + 4
+    pub lines : TakesFirst index old.board.chip.cycle (told_text index told) (rest_of n extra old) (rest_of n extra new)
+        ⊎ TakesNone (told_text index told) (rest_of n extra old) (rest_of n extra new)
 
-keeps_so : (a b : ℕ) (p q : Periph) (xs ys : List Timed) (x y : Option Timed) → b ≡ a → q ≡ p → ys ≡ xs → y ≡ x → KeepsLast a p xs x → KeepsLast b q ys y
+keeps_so : (a b : ℕ) (p q : Periph) (xs ys : List Timed) (x y : Option Timed) → b ≡ a → q ≡ p → ys ≡ xs → y ≡ x
+    → KeepsLast a p xs x → KeepsLast b q ys y
 keeps_so a b p q xs ys x y ab pq xys xy h =
     subst (λ (c : ℕ). KeepsLast c q ys y) (sym ab)
     (subst (λ (p : Periph). KeepsLast a p ys y) (sym pq)
     (subst (λ (ts : List Timed). KeepsLast a p ts y) (sym xys)
     (subst (λ (o : Option Timed). KeepsLast a p xs o) (sym xy) h)))
 
-continued_on : (told : List Entry) (steps : ℕ) (t : Entries) (r : Record Separate) → continued told steps (with_step t r) ≡ continued (told ++ entries_of t) (steps + 1) r
+continued_on : (told : List Entry) (steps : ℕ) (t : Entries) (r : Record Separate)
+    → continued told steps (with_step t r) ≡ continued (told ++ entries_of t) (steps + 1) r
 continued_on told steps t r =
     let more : steps + suc r.steps ≡ steps + 1 + r.steps = omega arith in
-    λ i. record { entries = sym (append_assoc told (entries_of t) r.entries) i; event = r.event; steps = more i; last = r.last }
+    λ i. record {
+      entries = sym (append_assoc told (entries_of t) r.entries) i;
+      event = r.event;
+      steps = more i;
+      last = r.last;
+    }
 
-record_done : (m : Machine Separate) (k n : ℕ) (s : State Separate) (done : Performed Separate) → n ≡ suc k → m s ≡ Ok done → record_of m n s ≡ with_step done.told (record_of m k done.state)
+record_done : (m : Machine Separate) (k n : ℕ) (s : State Separate) (done : Performed Separate) → n ≡ suc k
+    → m s ≡ Ok done → record_of m n s ≡ with_step done.told (record_of m k done.state)
 unfolding record_of
 record_done m k n s done e h = ap (λ (j : ℕ). record_of m j s) e ∙ ap (record_from s (record_of m k)) h
 
-steps_done : (m : Machine Separate) (k n : ℕ) (s : State Separate) (done : Performed Separate) → n ≡ suc k → m s ≡ Ok done
+steps_done : (m : Machine Separate) (k n : ℕ) (s : State Separate) (done : Performed Separate) → n ≡ suc k
+    → m s ≡ Ok done
     → steps_of m n s ≡ record { start = s.cycle; entries = entries_of done.told } ∷ steps_of m k done.state
 unfolding steps_of
 steps_done m k n s done e h = ap (λ (j : ℕ). steps_of m j s) e ∙ ap (steps_from s (steps_of m k)) h
 
-record_same : (m o : Machine Separate) (k n : ℕ) (s t : State Separate) → m ≡ o → k ≡ n → s ≡ t → record_of m k s ≡ record_of o n t
+record_same : (m o : Machine Separate) (k n : ℕ) (s t : State Separate) → m ≡ o → k ≡ n → s ≡ t
+    → record_of m k s ≡ record_of o n t
 record_same m o k n s t e f g = λ i. record_of (e i) (f i) (g i)
 
-steps_same : (m o : Machine Separate) (k n : ℕ) (s t : State Separate) → m ≡ o → k ≡ n → s ≡ t → steps_of m k s ≡ steps_of o n t
+steps_same : (m o : Machine Separate) (k n : ℕ) (s t : State Separate) → m ≡ o → k ≡ n → s ≡ t
+    → steps_of m k s ≡ steps_of o n t
 steps_same m o k n s t e f g = λ i. steps_of (e i) (f i) (g i)
 
 machine_at : (m o : Machine Separate) (s t : State Separate) → m ≡ o → s ≡ t → m s ≡ o t
 machine_at m o s t e f = λ i. (e i) (f i)
 
 -- a step leaves the machine
-machine_same : (extra given : List Timed) (told : Told) (old new : Seat) → IsSeatStep given told old new → machine_with extra new.board ≡ machine_with extra old.board
-machine_same extra given told old new h = λ i. separate_machine (h.layout i) (h.image i) (with_extra extra (inputs_of (h.script i)))
+machine_same : (extra given : List Timed) (told : Told) (old new : Seat) → IsSeatStep given told old new
+    → machine_with extra new.board ≡ machine_with extra old.board
+machine_same extra given told old new h =
+    λ i. separate_machine (h.layout i) (h.image i) (with_extra extra (inputs_of (h.script i)))
 
 text_stays : (given : List Timed) (told : Told) (old new : Seat) → IsSeatStep given told old new → HasEventText new
-text_stays given told old new h = subst (λ (l : LayoutParts). ForSome new.event (HasText (length l.placed))) (sym h.layout) h.text
+text_stays given told old new h =
+    subst (λ (l : LayoutParts). ForSome new.event (HasText (length l.placed))) (sym h.layout) h.text
 
 without : (o : Option Event) (P : Event → Type 0) → o ≡ None → ForSome o P
 without o P e = λ event is. absurd (cc (sym e ∙ is))
 
-port_none : (cycle : ℕ) (value : ℕ → ℕ) (port : Option ℕ) → sent_frames (option_map (λ p. Port cycle p (value p)) port) ≡ []
+port_none : (cycle : ℕ) (value : ℕ → ℕ) (port : Option ℕ) → sent_frames (option_map (λ p. Port cycle p (value p)) port)
+    ≡ []
 port_none cycle value None = refl
 port_none cycle value (Some p) = refl
 
 frames_on : (told : List Entry) (port sent : Option Entry) → sent_frames port ≡ []
-    → flat_map frames_of (told ++ (option_to_list port ++ option_to_list sent)) ≡ flat_map frames_of told ++ sent_frames sent
+    → flat_map frames_of (told ++ (option_to_list port ++ option_to_list sent)) ≡ flat_map frames_of told
+    ++ sent_frames sent
 frames_on told port sent none =
     flat_map-append frames_of told (option_to_list port ++ option_to_list sent)
-    ∙ ap (λ (ts : List Timed). flat_map frames_of told ++ ts) (flat_map-append frames_of (option_to_list port) (option_to_list sent))
+    ∙ ap (λ (ts : List Timed). flat_map frames_of told ++ ts)
+    (flat_map-append frames_of (option_to_list port) (option_to_list sent))
     ∙ ap (λ (ts : List Timed). flat_map frames_of told ++ (ts ++ sent_frames sent)) none
 
-told_lines : (index : ℕ) (told : Told) (t : Entries) → told ≡ told_by (Ok t) → told_text index told ≡ flat_map (λ entry. front_of index ++ entry_line entry) (entries_of t)
+told_lines : (index : ℕ) (told : Told) (t : Entries) → told ≡ told_by (Ok t)
+    → told_text index told ≡ flat_map (λ entry. front_of index ++ entry_line entry) (entries_of t)
 told_lines index told t e =
-    ap (told_text index) e ∙ sym (flat_map-append (λ entry. front_of index ++ entry_line entry) (option_to_list t.port) (option_to_list t.sent))
+    ap (told_text index) e
+    ∙ sym (flat_map-append (λ entry. front_of index ++ entry_line entry) (option_to_list t.port)
+    (option_to_list t.sent))
 
 pub nothing_added : (n : ℕ) → n + 0 ≡ n
 nothing_added n = omega arith
 
-module _ (index n : ℕ) (extra given : List Timed) (r : Record Separate) (told : Told) (old new : Seat) (way : IsUnderWay extra n r old) (few : n ≤ 10000000) (h : IsSeatStep given told old new) where
+module _ (index n : ℕ) (extra given : List Timed) (r : Record Separate) (told : Told) (old new : Seat)
+    (way : IsUnderWay extra n r old) (few : n ≤ 10000000) (h : IsSeatStep given told old new) where
   abbrev st : State Separate
   st = separate_of old.board
 
@@ -170,28 +196,38 @@ module _ (index n : ℕ) (extra given : List Timed) (r : Record Separate) (told 
   done_of a = done_by old.board.monitor.layout old.board.chip.image from st a
 
   stepped_done : (a : Allowed) → old.steps < n → a.effect.cycles ≤ 4 → machine_with extra old.board st ≡ Ok (done_of a)
-      → told ≡ told_by (Ok (done_of a).told) → separate_of new.board ≡ (done_of a).state → IsStepped index n extra r told old new
+      → told ≡ told_by (Ok (done_of a).told) → separate_of new.board ≡ (done_of a).state
+      → IsStepped index n extra r told old new
   stepped_done a below short is told_is e =
       let done = done_of a in
-      let steps : new.steps ≡ old.steps + 1 = ap (λ (s : Seat). s.steps) h.after ∙ ap (λ (t : Told). old.steps + count_of t.step) told_is in
-      let sent : new.sent ≡ last_sent old.sent done.told.sent = ap (λ (s : Seat). s.sent) h.after ∙ ap (λ (t : Told). last_sent old.sent t.sent) told_is in
-      let event : new.event ≡ None = ap (λ (s : Seat). s.event) h.after ∙ ap (λ (t : Told). stopped_by t.step) told_is in
+      let steps : new.steps ≡ old.steps + 1 = ap (λ (s : Seat). s.steps) h.after
+      ∙ ap (λ (t : Told). old.steps + count_of t.step) told_is in
+      let sent : new.sent ≡ last_sent old.sent done.told.sent = ap (λ (s : Seat). s.sent) h.after
+      ∙ ap (λ (t : Told). last_sent old.sent t.sent) told_is in
+      let event : new.event ≡ None = ap (λ (s : Seat). s.event) h.after
+      ∙ ap (λ (t : Told). stopped_by t.step) told_is in
       let more : n - old.steps ≡ suc (n - new.steps) = omega (arith, steps, below) in
       let passed : new.board.chip.cycle ≡ min (old.board.chip.cycle + a.effect.cycles) top =
-      ap (λ (s : State Separate). s.cycle) e ∙ ticks_count from a.effect.cycles (changed_by st.cycle st.periph a.effect) (omega (arith, way.cycle, way.most, few)) in
+      ap (λ (s : State Separate). s.cycle) e ∙ ticks_count from a.effect.cycles (changed_by st.cycle st.periph a.effect)
+      (omega (arith, way.cycle, way.most, few)) in
       let same = machine_same extra given told old new h in
       record {
         way = record {
           most = omega (arith, steps, below);
           told = way.told ++ entries_of done.told;
           is = way.is
-              ∙ ap (continued way.told old.steps) (record_done (machine_with extra old.board) (n - new.steps) (n - old.steps) st done more is)
-              ∙ continued_on way.told old.steps done.told (record_of (machine_with extra old.board) (n - new.steps) done.state)
-              ∙ ap (continued (way.told ++ entries_of done.told) (old.steps + 1)) (record_same _ _ _ (n - new.steps) _ _ (sym same) refl (sym e))
+              ∙ ap (continued way.told old.steps)
+              (record_done (machine_with extra old.board) (n - new.steps) (n - old.steps) st done more is)
+              ∙ continued_on way.told old.steps done.told
+              (record_of (machine_with extra old.board) (n - new.steps) done.state)
+              ∙ ap (continued (way.told ++ entries_of done.told) (old.steps + 1))
+              (record_same _ _ _ (n - new.steps) _ _ (sym same) refl (sym e))
               ∙ ap (λ (k : ℕ). continued (way.told ++ entries_of done.told) k (rest_record n extra new)) (sym steps);
-          keeps = keeps_so _ _ _ _ _ _ _ _ (ap (λ (s : State Separate). s.cycle) e) (ap (λ (s : State Separate). s.periph) e)
+          keeps = keeps_so _ _ _ _ _ _ _ _ (ap (λ (s : State Separate). s.cycle) e)
+              (ap (λ (s : State Separate). s.periph) e)
               (frames_on way.told done.told.port done.told.sent (port_none st.cycle _ a.effect.port)) sent
-              (keeps_step from st.cycle st.periph a.effect (flat_map frames_of way.told) old.sent (omega (arith, way.cycle, way.most, few, short)) way.keeps);
+              (keeps_step from st.cycle st.periph a.effect (flat_map frames_of way.told) old.sent
+              (omega (arith, way.cycle, way.most, few, short)) way.keeps);
           stopped = without new.event _ event;
           unfinished = without new.event _ event;
           cycle = omega (arith, passed, steps, way.cycle, short);
@@ -202,7 +238,8 @@ module _ (index n : ℕ) (extra given : List Timed) (r : Record Separate) (told 
         lines = inl (record {
           step = record { start = st.cycle; entries = entries_of done.told };
           first = steps_done (machine_with extra old.board) (n - new.steps) (n - old.steps) st done more is
-              ∙ ap (λ (ss : List StepTold). record { start = st.cycle; entries = entries_of done.told } ∷ ss) (steps_same _ _ _ (n - new.steps) _ _ (sym same) refl (sym e));
+              ∙ ap (λ (ss : List StepTold). record { start = st.cycle; entries = entries_of done.told } ∷ ss)
+              (steps_same _ _ _ (n - new.steps) _ _ (sym same) refl (sym e));
           start = refl;
           lines = told_lines index told done.told told_is;
         });
@@ -211,9 +248,12 @@ module _ (index n : ℕ) (extra given : List Timed) (r : Record Separate) (told 
   stepped_stopped : (event : Event) → old.steps < n → machine_with extra old.board st ≡ Err event
       → told ≡ told_by (Err event) → separate_of new.board ≡ st → IsStepped index n extra r told old new
   stepped_stopped event below is told_is e =
-      let steps : new.steps ≡ old.steps = ap (λ (s : Seat). s.steps) h.after ∙ ap (λ (t : Told). old.steps + count_of t.step) told_is ∙ nothing_added old.steps in
-      let sent : new.sent ≡ old.sent = ap (λ (s : Seat). s.sent) h.after ∙ ap (λ (t : Told). last_sent old.sent t.sent) told_is in
-      let stopped : new.event ≡ Some event = ap (λ (s : Seat). s.event) h.after ∙ ap (λ (t : Told). stopped_by t.step) told_is in
+      let steps : new.steps ≡ old.steps = ap (λ (s : Seat). s.steps) h.after
+      ∙ ap (λ (t : Told). old.steps + count_of t.step) told_is ∙ nothing_added old.steps in
+      let sent : new.sent ≡ old.sent = ap (λ (s : Seat). s.sent) h.after
+      ∙ ap (λ (t : Told). last_sent old.sent t.sent) told_is in
+      let stopped : new.event ≡ Some event = ap (λ (s : Seat). s.event) h.after
+      ∙ ap (λ (t : Told). stopped_by t.step) told_is in
       let cycle : new.board.chip.cycle ≡ old.board.chip.cycle = ap (λ (s : State Separate). s.cycle) e in
       let same = machine_same extra given told old new h in
       let left : n - old.steps ≡ n - new.steps = ap (λ (k : ℕ). n - k) (sym steps) in
@@ -226,7 +266,8 @@ module _ (index n : ℕ) (extra given : List Timed) (r : Record Separate) (told 
               ∙ ap (λ (k : ℕ). continued way.told k (rest_record n extra new)) (sym steps);
           keeps = keeps_so _ _ _ _ _ _ _ _ cycle (ap (λ (s : State Separate). s.periph) e) refl sent way.keeps;
           unfinished = λ x i. omega (arith, steps, below);
-          stopped = λ x i. machine_at _ _ _ _ same e ∙ is ∙ ap (λ (v : Event). Err v) (same_Some event x (sym stopped ∙ i));
+          stopped = λ x i. machine_at _ _ _ _ same e ∙ is
+              ∙ ap (λ (v : Event). Err v) (same_Some event x (sym stopped ∙ i));
           cycle = omega (arith, cycle, steps, way.cycle);
           text = text_stays given told old new h;
         };
@@ -240,15 +281,19 @@ module _ (index n : ℕ) (extra given : List Timed) (r : Record Separate) (told 
 
   stepped_by : (j : Result Allowed Event) → TakesFew j → old.steps < n
       → machine_with extra old.board st ≡ separate_performs old.board.monitor.layout from st j
-      → IsToldStep (separate_performs old.board.monitor.layout from st j) told st (separate_of new.board) → IsStepped index n extra r told old new
+      → IsToldStep (separate_performs old.board.monitor.layout from st j) told st (separate_of new.board)
+      → IsStepped index n extra r told old new
   stepped_by (Ok a) short below is step = stepped_done a below short is step.0 step.1
   stepped_by (Err event) short below is step = stepped_stopped event below is step.0 step.1
 
   -- where the frames that are passed to it are those of the family in the cycles of the step
   pub stepped : old.steps < n
-      → TakesFew (separate_effect old.board.monitor.layout old.board.chip.image st.cpu st.memory (from.pins st.cycle) (attempt_of old.board.chip.image st.cpu))
+      → TakesFew (separate_effect old.board.monitor.layout old.board.chip.image st.cpu st.memory (from.pins st.cycle)
+      (attempt_of old.board.chip.image st.cpu))
       → machine_with given old.board st ≡ machine_with extra old.board st
       → IsStepped index n extra r told old new
   stepped below short same =
-      stepped_by (separate_effect old.board.monitor.layout old.board.chip.image st.cpu st.memory (from.pins st.cycle) (attempt_of old.board.chip.image st.cpu))
-      short below refl (subst (λ (x : Result (Performed Separate) Event). IsToldStep x told st (separate_of new.board)) same h.step)
+      stepped_by (separate_effect old.board.monitor.layout old.board.chip.image st.cpu st.memory (from.pins st.cycle)
+      (attempt_of old.board.chip.image st.cpu))
+      short below refl (subst (λ (x : Result (Performed Separate) Event). IsToldStep x told st (separate_of new.board))
+      same h.step)

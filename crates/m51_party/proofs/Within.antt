@@ -15,7 +15,8 @@ use Rattle.m51_party.proofs.Words.{Allowed, Passing}
 use Rattle.m51_party.proofs.Ticks.{top}
 
 -- the number of the cycle grows by one in each, up to its last value
-pub ticks_count : (inputs : Inputs) (count : ℕ) (p : Passing) → p.cycle ≤ top → (cycles_passed inputs count p).cycle ≡ min (p.cycle + count) top
+pub ticks_count : (inputs : Inputs) (count : ℕ) (p : Passing) → p.cycle ≤ top
+    → (cycles_passed inputs count p).cycle ≡ min (p.cycle + count) top
 unfolding cycles_passed
 ticks_count inputs zero p h = omega (arith, h)
 ticks_count inputs (suc count) p h =
@@ -38,7 +39,8 @@ module _ (inputs : Inputs) (xs ys : List Timed) where
   unfolding cycle_passed
   tick_within p same =
       let cycle = next_cycle p.cycle in
-      ap (λ (fs : List Frame). after_tick cycle p.sent (ticked p.cpu (inputs.pins cycle) (inputs.frames cycle ++ fs) p.periph)) same
+      ap (λ (fs : List Frame). after_tick cycle p.sent
+      (ticked p.cpu (inputs.pins cycle) (inputs.frames cycle ++ fs) p.periph)) same
 
   ticks_within : (last count : ℕ) (p : Passing) → p.cycle + count ≤ last → last < top → SameWithin p.cycle last xs ys
       → cycles_passed (with_extra xs inputs) count p ≡ cycles_passed (with_extra ys inputs) count p
@@ -51,15 +53,19 @@ module _ (inputs : Inputs) (xs ys : List Timed) where
       ∙ ap (cycle_passed (with_extra ys inputs)) (ticks_within last count p (omega (arith, h)) k same)
 
   module _ (l : LayoutParts) (image : List ℕ) where
-    performs_within : (s : State Separate) (r : Result Allowed Event) → TakesFew r → s.cycle + 4 < top → SameWithin s.cycle (s.cycle + 4) xs ys
+    performs_within : (s : State Separate) (r : Result Allowed Event) → TakesFew r → s.cycle + 4 < top
+        → SameWithin s.cycle (s.cycle + 4) xs ys
         → separate_performs l (with_extra xs inputs) s r ≡ separate_performs l (with_extra ys inputs) s r
     performs_within s (Err event) short h same = refl
     performs_within s (Ok a) short h same =
         ap (λ (p : Passing). Ok (passed_into (memory_after l s.memory a) (port_entry s.cycle a.effect) p))
-        (ticks_within (s.cycle + 4) a.effect.cycles (changed_by s.cycle s.periph a.effect) (omega (arith, short)) h same)
+        (ticks_within (s.cycle + 4) a.effect.cycles (changed_by s.cycle s.periph a.effect) (omega (arith, short)) h
+        same)
 
-    pub step_within : (s : State Separate) → TakesFew (separate_effect l image s.cpu s.memory (inputs.pins s.cycle) (attempt_of image s.cpu))
+    pub step_within : (s : State Separate)
+        → TakesFew (separate_effect l image s.cpu s.memory (inputs.pins s.cycle) (attempt_of image s.cpu))
         → s.cycle + 4 < top → SameWithin s.cycle (s.cycle + 4) xs ys
         → separate_machine l image (with_extra xs inputs) s ≡ separate_machine l image (with_extra ys inputs) s
     step_within s short h same =
-        performs_within s (separate_effect l image s.cpu s.memory (inputs.pins s.cycle) (attempt_of image s.cpu)) short h same
+        performs_within s (separate_effect l image s.cpu s.memory (inputs.pins s.cycle) (attempt_of image s.cpu)) short
+        h same

@@ -1,5 +1,6 @@
 -- The bytes with named bits have addresses for their bits.
-use Rattle.std.proofs.Common.{◌≡◌, ℕ, ◌+◌, ◌-◌, ◌*◌, ◌%◌, ◌<◌, Bool, true, not, ◌&&◌, ◌==◌, cond, ltb, leb, Some, None, Ok, refl, sym, ap, ◌∙◌, arith}
+use Rattle.std.proofs.Common.{◌≡◌, ℕ, ◌+◌, ◌-◌, ◌*◌, ◌%◌, ◌<◌, Bool, true, not, ◌&&◌, ◌==◌, cond, ltb, leb, Some, None}
+use Rattle.std.proofs.Common.{Ok, refl, sym, ap, ◌∙◌, arith}
 use Rattle.std.specs.Prelude.{All, List}
 use Rattle.std.specs.List.{list_all, slice_index_or}
 use Rattle.std.proofs.lemmas.Bool.{and_parts, eq-eqb, ltb-true, not-true, le-ltb, cond-true, cond-false}
@@ -38,22 +39,28 @@ all_are = refl
 has_address : (a bit : ℕ) → is_bit_address a ≡ true → bit < 8 → bit_address a bit ≡ Some (a + bit)
 has_address a bit h below =
     let parts = and_parts (not (is_low a)) (is_high a) h in
-    cond-false (ltb 7 bit) None (cond (is_low a) (Some ((a - 0x20) * 8 + bit)) (cond (is_high a) (Some (a + bit)) None)) (le-ltb 7 bit (omega (arith, below)))
-    ∙ cond-false (is_low a) (Some ((a - 0x20) * 8 + bit)) (cond (is_high a) (Some (a + bit)) None) (not-true (is_low a) parts.0)
+    cond-false (ltb 7 bit) None (cond (is_low a) (Some ((a - 0x20) * 8 + bit)) (cond (is_high a) (Some (a + bit)) None))
+    (le-ltb 7 bit (omega (arith, below)))
+    ∙ cond-false (is_low a) (Some ((a - 0x20) * 8 + bit)) (cond (is_high a) (Some (a + bit)) None)
+    (not-true (is_low a) parts.0)
     ∙ cond-true (is_high a) (Some (a + bit)) None parts.1
 
-dot_is : (names : Meanings) (a bit : ℕ) → bit < 8 → bit_address a bit ≡ Some (a + bit) → bit_of names (plain a kind.Direct) bit ≡ Ok (plain (a + bit) kind.Bits)
+dot_is : (names : Meanings) (a bit : ℕ) → bit < 8 → bit_address a bit ≡ Some (a + bit)
+    → bit_of names (plain a kind.Direct) bit ≡ Ok (plain (a + bit) kind.Bits)
 dot_is names a bit below e =
-    cond-false (ltb 7 bit) (fault 10) (placed_bit (plain a kind.Direct) bit (bit_address a bit)) (le-ltb 7 bit (omega (arith, below)))
+    cond-false (ltb 7 bit) (fault 10) (placed_bit (plain a kind.Direct) bit (bit_address a bit))
+    (le-ltb 7 bit (omega (arith, below)))
     ∙ ap (λ o. placed_bit (plain a kind.Direct) bit o) e
 
 low_of : (bits : List Row) → are_low bits ≡ true → All (λ (b : Row). b.address < 8) bits
-low_of bits h = λ k d within. ltb-true (slice_index_or bits k d).address 8 (AllPass-from_list_all (λ (b : Row). ltb b.address 8) bits h k d within)
+low_of bits h = λ k d within. ltb-true (slice_index_or bits k d).address 8
+    (AllPass-from_list_all (λ (b : Row). ltb b.address 8) bits h k d within)
 
 has_bits : (r : Register) → is_bit_byte r ≡ true → r.address % 8 ≡ 0 → HasBits r
 has_bits r h even =
     let parts = and_parts (are_low r.bits) (is_bit_address r.address)
-    (sym (cond-true (r.address % 8 == 0) (are_low r.bits && is_bit_address r.address) true (eq-eqb (r.address % 8) 0 even)) ∙ h) in
+    (sym (cond-true (r.address % 8 == 0) (are_low r.bits && is_bit_address r.address) true
+    (eq-eqb (r.address % 8) 0 even)) ∙ h) in
     record {
       named = low_of r.bits parts.0;
       addresses = λ bit below. has_address r.address bit parts.1 below;
@@ -61,4 +68,5 @@ has_bits r h even =
     }
 
 pub bytes_have_bits : BytesHaveBits
-bytes_have_bits = λ k d within. has_bits (slice_index_or table k d) (AllPass-from_list_all is_bit_byte table all_are k d within)
+bytes_have_bits = λ k d within. has_bits (slice_index_or table k d)
+    (AllPass-from_list_all is_bit_byte table all_are k d within)

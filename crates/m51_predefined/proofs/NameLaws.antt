@@ -1,5 +1,6 @@
 -- The names of the assembler and the registers of the machine.
-use Rattle.std.proofs.Common.{◌≡◌, ℕ, ◌-◌, ◌%◌, ◌<◌, Bool, true, false, ◌==◌, ◌||◌, cond, length, List, [], ◌∷◌, map, Some, None, suc, refl, sym, subst, ap, ◌∙◌, arith}
+use Rattle.std.proofs.Common.{◌≡◌, ℕ, ◌-◌, ◌%◌, ◌<◌, Bool, true, false, ◌==◌, ◌||◌, cond, length, List, [], ◌∷◌, map}
+use Rattle.std.proofs.Common.{Some, None, suc, refl, sym, subst, ap, ◌∙◌, arith}
 use Rattle.std.specs.Prelude.{Option, option_map}
 use Rattle.std.specs.List.{list_all, slice_index_or}
 use Rattle.std.specs.Str.{bytes_eq}
@@ -13,16 +14,19 @@ use Rattle.m51_predefined.specs.Predefined.{register_or_bit, predefined_of}
 use Rattle.m51_predefined.specs.Laws.{NamesAreRegisters}
 use Rattle.m51_predefined.proofs.RowLaws.{rows_are_read}
 
-found_step : (b : Bool) (m a : ℕ) (test : ℕ → Bool) (rest : Option ℕ) → test m ≡ true → (rest ≡ Some a → test a ≡ true) → cond b (Some m) rest ≡ Some a → test a ≡ true
+found_step : (b : Bool) (m a : ℕ) (test : ℕ → Bool) (rest : Option ℕ) → test m ≡ true → (rest ≡ Some a → test a ≡ true)
+    → cond b (Some m) rest ≡ Some a → test a ≡ true
 found_step true m a test rest passes later e = subst (λ n. test n ≡ true) (cc e) passes
 found_step false m a test rest passes later e = later e
 
 -- the address that a search finds passes what all addresses of the table pass
-found_passes : (test : ℕ → Bool) (rows : List Row) (name : List ℕ) (a : ℕ) → list_all (λ (r : Row). test r.address) rows ≡ true → address_in rows name ≡ Some a → test a ≡ true
+found_passes : (test : ℕ → Bool) (rows : List Row) (name : List ℕ) (a : ℕ)
+    → list_all (λ (r : Row). test r.address) rows ≡ true → address_in rows name ≡ Some a → test a ≡ true
 found_passes test [] name a h e = absurd (cc e)
 found_passes test (r ∷ rows) name a h e =
     let parts = and_parts (test r.address) (list_all (λ (r : Row). test r.address) rows) h in
-    found_step (bytes_eq r.name name) r.address a test (address_in rows name) parts.0 (λ f. found_passes test rows name a parts.1 f) e
+    found_step (bytes_eq r.name name) r.address a test (address_in rows name) parts.0
+    (λ f. found_passes test rows name a parts.1 f) e
 
 registers_stand : list_all (λ (r : Row). has_register r.address) registers ≡ true
 unfolding registers table has_register
@@ -69,7 +73,8 @@ later r rows a s = record { index = suc s.index; within = omega (arith, s.within
 here : (r : Row) (rows : List Row) (a : ℕ) → a ≡ r.address → Standing (r ∷ rows) a
 here r rows a e = record { index = 0; within = omega arith; is = λ d. sym e }
 
-standing_step : (r : Row) (rows : List Row) (a : ℕ) (b : Bool) → (a == r.address) ≡ b → (is_one_of (map (λ (r : Row). r.address) rows) a ≡ true → Standing rows a)
+standing_step : (r : Row) (rows : List Row) (a : ℕ) (b : Bool) → (a == r.address) ≡ b
+    → (is_one_of (map (λ (r : Row). r.address) rows) a ≡ true → Standing rows a)
     → (b || is_one_of (map (λ (r : Row). r.address) rows) a) ≡ true → Standing (r ∷ rows) a
 standing_step r rows a true e rest h = here r rows a (eqb-true a r.address e)
 standing_step r rows a false e rest h = later r rows a (rest h)
@@ -87,12 +92,17 @@ empty_row = record { name = []; address = 0 }
 
 named : (a : ℕ) → has_register a ≡ true → (name : List ℕ) × predefined_of name ≡ Some (plain a kind.Direct)
 named a h =
-    let s = standing registers a (sym (same_registers a) ∙ h) in
-    ((slice_index_or registers s.index empty_row).name, rows_are_read.register s.index empty_row s.within ∙ ap (λ n. Some (plain n kind.Direct)) (s.is empty_row))
+    let s = standing registers a (sym (same_registers a) ∙ h) in (
+      (slice_index_or registers s.index empty_row).name,
+      rows_are_read.register s.index empty_row s.within
+          ∙ ap (λ n. Some (plain n kind.Direct)) (s.is empty_row),
+    )
 
 pub names_are_registers : NamesAreRegisters
 names_are_registers = record {
-  register = λ name a e. found_passes has_register registers name a registers_stand (register_step (address_in registers name) (address_in bits name) a e);
-  bit = λ name a e. found_passes stands_below bits name a bits_stand (bit_step (address_in registers name) (address_in bits name) a e);
+  register = λ name a e. found_passes has_register registers name a registers_stand
+      (register_step (address_in registers name) (address_in bits name) a e);
+  bit = λ name a e. found_passes stands_below bits name a bits_stand
+      (bit_step (address_in registers name) (address_in bits name) a e);
   named = λ a h. named a h;
 }

@@ -1,5 +1,6 @@
 -- What the names of the tables are, and mean.
-use Rattle.std.proofs.Common.{◌≡◌, ℕ, Bool, true, false, not, ◌&&◌, ◌==◌, cond, List, ◌++◌, map, Some, None, refl, sym, ap, ◌∙◌}
+use Rattle.std.proofs.Common.{◌≡◌, ℕ, Bool, true, false, not, ◌&&◌, ◌==◌, cond, List, ◌++◌, map, Some, None, refl, sym}
+use Rattle.std.proofs.Common.{ap, ◌∙◌}
 use Rattle.std.specs.Prelude.{Option, option_map, is_some}
 use Rattle.std.specs.Char.{to_ascii_uppercase}
 use Rattle.std.specs.List.{list_all, slice_index_or}
@@ -36,7 +37,8 @@ written_step false upper name h e = absurd (false≢true h)
 written : (name : List ℕ) → is_written name ≡ true → IsWritten name
 written name h =
     let parts = and_parts (is_name name) (bytes_eq (map to_ascii_uppercase name) name) h in
-    written_step (is_name name) (map to_ascii_uppercase name) name parts.0 ((bytes_eq-Decides (map to_ascii_uppercase name) name).0 parts.1)
+    written_step (is_name name) (map to_ascii_uppercase name) name parts.0
+    ((bytes_eq-Decides (map to_ascii_uppercase name) name).0 parts.1)
 
 free_name : (name : List ℕ) → is_written name ≡ true → not (is_reserved name) ≡ true → IsFree name
 free_name name w f = record { written = written name w; free = not-true (is_reserved name) f }
@@ -54,9 +56,11 @@ none_step (Some n) p h e = absurd (cc h)
 
 pub reserved_stand_for_nothing : ReservedStandForNothing
 reserved_stand_for_nothing word w =
-    let parts = and_parts (list_all (λ (r : Row). not (is_reserved r.name)) registers) (list_all (λ (r : Row). not (is_reserved r.name)) bits)
+    let parts = and_parts (list_all (λ (r : Row). not (is_reserved r.name)) registers)
+    (list_all (λ (r : Row). not (is_reserved r.name)) bits)
     (sym (list_all-append (λ (r : Row). not (is_reserved r.name)) registers bits) ∙ none_reserved) in
-    none_step (address_in registers word) (address_in bits word) (absent is_reserved registers word parts.0 w) (absent is_reserved bits word parts.1 w)
+    none_step (address_in registers word) (address_in bits word) (absent is_reserved registers word parts.0 w)
+    (absent is_reserved bits word parts.1 w)
 
 -- the address is this one
 abbrev is_address : Option ℕ → ℕ → Bool
@@ -79,20 +83,31 @@ registers_read : list_all (λ (r : Row). is_address (address_in registers r.name
 unfolding registers table
 registers_read = refl
 
-bits_read : list_all (λ (r : Row). not (is_some (address_in registers r.name)) && is_address (address_in bits r.name) r.address) bits ≡ true
+bits_read : list_all (λ (r : Row). not (is_some (address_in registers r.name))
+    && is_address (address_in bits r.name) r.address) bits ≡ true
 unfolding registers bits table
 bits_read = refl
 
-register_row : (r : Row) → is_address (address_in registers r.name) r.address ≡ true → predefined_of r.name ≡ Some (plain r.address kind.Direct)
-register_row r h = ap (λ o. register_or_bit o (address_in bits r.name)) (address_is (address_in registers r.name) r.address h)
+register_row : (r : Row) → is_address (address_in registers r.name) r.address ≡ true
+    → predefined_of r.name ≡ Some (plain r.address kind.Direct)
+register_row r h = ap (λ o. register_or_bit o (address_in bits r.name))
+    (address_is (address_in registers r.name) r.address h)
 
-bit_row : (r : Row) → (not (is_some (address_in registers r.name)) && is_address (address_in bits r.name) r.address) ≡ true → predefined_of r.name ≡ Some (plain r.address kind.Bits)
+bit_row : (r : Row) → (not (is_some (address_in registers r.name)) && is_address (address_in bits r.name) r.address)
+    ≡ true → predefined_of r.name ≡ Some (plain r.address kind.Bits)
 bit_row r h =
-    let parts = and_parts (not (is_some (address_in registers r.name))) (is_address (address_in bits r.name) r.address) h in
-    bit_step (address_in registers r.name) (address_in bits r.name) r.address (none_is (address_in registers r.name) parts.0) (address_is (address_in bits r.name) r.address parts.1)
+    let parts = and_parts (not (is_some (address_in registers r.name))) (is_address (address_in bits r.name) r.address)
+    h in
+    bit_step (address_in registers r.name) (address_in bits r.name) r.address
+    (none_is (address_in registers r.name) parts.0) (address_is (address_in bits r.name) r.address parts.1)
 
 pub rows_are_read : RowsAreRead
 rows_are_read = record {
-  register = λ k d within. register_row (slice_index_or registers k d) (AllPass-from_list_all (λ (r : Row). is_address (address_in registers r.name) r.address) registers registers_read k d within);
-  bit = λ k d within. bit_row (slice_index_or bits k d) (AllPass-from_list_all (λ (r : Row). not (is_some (address_in registers r.name)) && is_address (address_in bits r.name) r.address) bits bits_read k d within);
+  register = λ k d within. register_row (slice_index_or registers k d)
+      (AllPass-from_list_all (λ (r : Row). is_address (address_in registers r.name) r.address) registers registers_read
+      k d within);
+  bit = λ k d within. bit_row (slice_index_or bits k d)
+      (AllPass-from_list_all
+      (λ (r : Row). not (is_some (address_in registers r.name)) && is_address (address_in bits r.name) r.address) bits
+      bits_read k d within);
 }

@@ -1,5 +1,6 @@
 -- The lists and lines of the map, one more at a time.
-use Rattle.std.proofs.Common.{◌≡◌, ◌≢◌, ℕ, ◌+◌, ◌<◌, ◌/◌, ◌%◌, true, false, cond, List, [], ◌∷◌, ◌++◌, map, length, drop, get_or, refl, ap, sym, ◌∙◌, append_assoc, arith}
+use Rattle.std.proofs.Common.{◌≡◌, ◌≢◌, ℕ, ◌+◌, ◌<◌, ◌/◌, ◌%◌, true, false, cond, List, [], ◌∷◌, ◌++◌, map, length}
+use Rattle.std.proofs.Common.{drop, get_or, refl, ap, sym, ◌∙◌, append_assoc, arith}
 use Rattle.std.specs.List.{list_any}
 use Rattle.std.proofs.lemmas.Bool.{eq-eqb, ne_eqb}
 use Rattle.std.proofs.lemmas.List.{drop_more}
@@ -11,7 +12,8 @@ use Rattle.m51_print.proofs.Ranges.{texts_more, counted_more}
 
 -- the roots of a byte and of the vectors that are left, where the byte is odd or even
 pub root_set : (titles : List (List ℕ)) (bits : ℕ) (vectors : List ℕ) (i : ℕ) → i < length vectors → bits % 2 ≡ 1
-    → titles ++ map title_at (roots_among bits (drop i vectors)) ≡ (titles ++ title_at (get_or vectors i 0) ∷ []) ++ map title_at (roots_among (bits / 2) (drop (i + 1) vectors))
+    → titles ++ map title_at (roots_among bits (drop i vectors)) ≡ (titles ++ title_at (get_or vectors i 0) ∷ [])
+    ++ map title_at (roots_among (bits / 2) (drop (i + 1) vectors))
 root_set titles bits vectors i h odd =
     let vector = get_or vectors i 0 in
     let more = roots_among (bits / 2) (drop (i + 1) vectors) in
@@ -20,7 +22,8 @@ root_set titles bits vectors i h odd =
     ∙ sym (append_assoc titles (title_at vector ∷ []) (map title_at more))
 
 pub root_clear : (titles : List (List ℕ)) (bits : ℕ) (vectors : List ℕ) (i : ℕ) → i < length vectors → bits % 2 ≢ 1
-    → titles ++ map title_at (roots_among bits (drop i vectors)) ≡ titles ++ map title_at (roots_among (bits / 2) (drop (i + 1) vectors))
+    → titles ++ map title_at (roots_among bits (drop i vectors)) ≡ titles
+    ++ map title_at (roots_among (bits / 2) (drop (i + 1) vectors))
 root_clear titles bits vectors i h even =
     let vector = get_or vectors i 0 in
     let more = roots_among (bits / 2) (drop (i + 1) vectors) in
@@ -32,7 +35,8 @@ pub no_unit_lines : (l : LayoutParts) (roots : List ℕ) → unit_lines l roots 
 unfolding unit_lines
 no_unit_lines l roots = refl
 
-pub unit_lines_more : (l : LayoutParts) (roots : List ℕ) (count : ℕ) → unit_lines l roots (count + 1) ≡ unit_lines l roots count ++ line_of_unit l roots count
+pub unit_lines_more : (l : LayoutParts) (roots : List ℕ) (count : ℕ)
+    → unit_lines l roots (count + 1) ≡ unit_lines l roots count ++ line_of_unit l roots count
 unfolding unit_lines
 unit_lines_more l roots count = texts_more (line_of_unit l roots) count
 
@@ -41,15 +45,19 @@ pub none_overlaid : (placed : List Placed) → overlaid_below placed 0 ≡ 0
 unfolding overlaid_below
 none_overlaid placed = refl
 
-pub overlaid_yes : (placed : List Placed) (address : ℕ) → list_any (overlays address) placed ≡ true → overlaid_below placed (address + 1) ≡ overlaid_below placed address + 1
+pub overlaid_yes : (placed : List Placed) (address : ℕ) → list_any (overlays address) placed ≡ true
+    → overlaid_below placed (address + 1) ≡ overlaid_below placed address + 1
 unfolding overlaid_below
-overlaid_yes placed address h = counted_more (λ a. list_any (overlays a) placed) address ∙ ap (λ b. overlaid_below placed address + cond b 1 0) h
+overlaid_yes placed address h = counted_more (λ a. list_any (overlays a) placed) address
+    ∙ ap (λ b. overlaid_below placed address + cond b 1 0) h
 
-pub overlaid_no : (placed : List Placed) (address : ℕ) → list_any (overlays address) placed ≡ false → overlaid_below placed (address + 1) ≡ overlaid_below placed address
+pub overlaid_no : (placed : List Placed) (address : ℕ) → list_any (overlays address) placed ≡ false
+    → overlaid_below placed (address + 1) ≡ overlaid_below placed address
 unfolding overlaid_below
 overlaid_no placed address h =
     let e : overlaid_below placed address + 0 ≡ overlaid_below placed address = omega arith in
-    counted_more (λ a. list_any (overlays a) placed) address ∙ ap (λ b. overlaid_below placed address + cond b 1 0) h ∙ e
+    counted_more (λ a. list_any (overlays a) placed) address ∙ ap (λ b. overlaid_below placed address + cond b 1 0) h
+    ∙ e
 
 -- the overlaid bytes, one more address at a time
 pub ruleset overlaid_steps = (none_overlaid, overlaid_yes, overlaid_no)

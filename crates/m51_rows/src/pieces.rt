@@ -17,22 +17,22 @@ const LONGEST: usize = 7;
 
 /// How long the pieces of a shelf are.
 #[derive(Clone, Copy)]
-enum Pieces {
+enum InputPieces {
     // As long as the slice.
     Whole,
     // This many bytes, and one more the next time.
     Short(usize),
 }
 
-impl Pieces {
+impl InputPieces {
     // The most bytes of the next piece into a slice of this length.
     fn next(&mut self, room: usize) -> usize
         ensures { result ≤ room }
     {
         match *self {
-            Pieces::Whole => room,
-            Pieces::Short(count) => {
-                *self = Pieces::Short(if count < LONGEST { count + 1 } else { 1 });
+            InputPieces::Whole => room,
+            InputPieces::Short(count) => {
+                *self = InputPieces::Short(if count < LONGEST { count + 1 } else { 1 });
                 room.min(count)
             }
         }
@@ -43,7 +43,7 @@ impl Pieces {
 #[derive(Drop)]
 pub(crate) struct PieceShelf {
     shelf: MemShelf,
-    pieces: Pieces,
+    pieces: InputPieces,
 }
 
 impl PieceShelf {
@@ -55,8 +55,8 @@ impl PieceShelf {
     ) -> Result<PieceShelf, NoMemory> {
         let shelf = MemShelf::make(alloc, files, failure.calls(alloc)?, KEEPS, ROOM)?;
         let pieces = match failure {
-            Failure::Short => Pieces::Short(1),
-            _ => Pieces::Whole,
+            Failure::Short => InputPieces::Short(1),
+            _ => InputPieces::Whole,
         };
         Ok(PieceShelf { shelf, pieces })
     }

@@ -1,5 +1,6 @@
 -- A text is cut at its first blanks where it was joined by them.
-use Rattle.std.proofs.Common.{◌≡◌, ℕ, suc, ◌+◌, ◌<◌, ◌≤◌, Bool, true, false, not, cond, nat_lt, List, [], ◌∷◌, ◌++◌, length, take, drop, Some, None, refl, sym, ap, ◌∙◌, subst, arith, length-append}
+use Rattle.std.proofs.Common.{◌≡◌, ℕ, suc, ◌+◌, ◌<◌, ◌≤◌, Bool, true, false, not, cond, nat_lt, List, [], ◌∷◌, ◌++◌}
+use Rattle.std.proofs.Common.{length, take, drop, Some, None, refl, sym, ap, ◌∙◌, subst, arith, length-append}
 use Rattle.std.specs.List.{list_all, prefix_len, position_or_len}
 use Rattle.std.proofs.lemmas.Bool.{and_parts, le-ltb, lt-ltb, ltb-true, not-true}
 use Rattle.std.proofs.lemmas.Option.{cond_some}
@@ -24,16 +25,23 @@ all_len p (x ∷ xs) all =
     let parts : (p x ≡ true) × (list_all p xs ≡ true) = and_parts (p x) (list_all p xs) all in
     all_step (prefix_len p xs) (length xs) (p x) parts.0 (all_len p xs parts.1)
 
-some_step : (x : ℕ) (xs : List ℕ) (b : Bool) (n : ℕ) → is_blank x ≡ b → cond (not b) (1 + n) 0 < length (x ∷ xs) → (n < length xs → 0 < length (take (prefix_len is_blank (drop n xs)) (drop n xs)))
-    → 0 < length (take (prefix_len is_blank (drop (cond (not b) (1 + n) 0) (x ∷ xs))) (drop (cond (not b) (1 + n) 0) (x ∷ xs)))
+some_step : (x : ℕ) (xs : List ℕ) (b : Bool) (n : ℕ) → is_blank x ≡ b → cond (not b) (1 + n) 0 < length (x ∷ xs)
+    → (n < length xs → 0 < length (take (prefix_len is_blank (drop n xs)) (drop n xs)))
+    → 0 < length (take (prefix_len is_blank (drop (cond (not b) (1 + n) 0) (x ∷ xs)))
+    (drop (cond (not b) (1 + n) 0) (x ∷ xs)))
 some_step x xs true n is h more =
-    let one : prefix_len is_blank (x ∷ xs) ≡ suc (prefix_len is_blank xs) = ap (λ b. cond b (1 + prefix_len is_blank xs) 0) is ∙ (let e : 1 + prefix_len is_blank xs ≡ suc (prefix_len is_blank xs) = omega arith in e) in
+    let one : prefix_len is_blank (x ∷ xs) ≡ suc (prefix_len is_blank xs) =
+    ap (λ b. cond b (1 + prefix_len is_blank xs) 0) is
+    ∙ (let e : 1 + prefix_len is_blank xs ≡ suc (prefix_len is_blank xs) = omega arith in e) in
     subst (λ k. 0 < length (take k (x ∷ xs))) (sym one) (omega arith)
 some_step x xs false n is h more =
-    subst (λ k. 0 < length (take (prefix_len is_blank (drop k (x ∷ xs))) (drop k (x ∷ xs)))) (let e : suc n ≡ 1 + n = omega arith in e) (more (omega (arith, h)))
+    subst (λ k. 0 < length (take (prefix_len is_blank (drop k (x ∷ xs))) (drop k (x ∷ xs))))
+    (let e : suc n ≡ 1 + n = omega arith in e) (more (omega (arith, h)))
 
 -- a blank is where the part ends
-some_blank : (text : List ℕ) → position_or_len is_blank text < length text → 0 < length (take (prefix_len is_blank (drop (position_or_len is_blank text) text)) (drop (position_or_len is_blank text) text))
+some_blank : (text : List ℕ) → position_or_len is_blank text < length text
+    → 0 < length (take (prefix_len is_blank (drop (position_or_len is_blank text) text))
+    (drop (position_or_len is_blank text) text))
 some_blank [] h = absurd (omega (arith, h))
 some_blank (x ∷ xs) h = some_step x xs (is_blank x) (position_or_len is_blank xs) refl h (some_blank xs)
 
@@ -48,7 +56,8 @@ cut_sound text parts h =
     let n = position_or_len is_blank text in
     let rest = drop n text in
     let m = prefix_len is_blank rest in
-    let found : (nat_lt n (length text) ≡ true) × ((take n text, drop m rest) ≡ parts) = cond_some (nat_lt n (length text)) (take n text, drop m rest) parts h in
+    let found : (nat_lt n (length text) ≡ true) × ((take n text, drop m rest) ≡ parts) =
+    cond_some (nat_lt n (length text)) (take n text, drop m rest) parts h in
     let here : IsCut text (take n text) (drop m rest) = record {
       blanks = take m rest;
       blank = record { some = some_blank text (ltb-true n (length text) found.0); each = front_passes is_blank rest };
@@ -56,19 +65,26 @@ cut_sound text parts h =
     } in
     subst (λ (p : List ℕ × List ℕ). IsCut text p.0 p.1) found.1 here
 
-cut_where : (n : ℕ) (text part behind rest : List ℕ) → position_or_len is_blank text ≡ n → n < length text → take n text ≡ part → drop n text ≡ behind → drop (prefix_len is_blank behind) behind ≡ rest → cut text ≡ Some (part, rest)
+cut_where : (n : ℕ) (text part behind rest : List ℕ) → position_or_len is_blank text ≡ n → n < length text
+    → take n text ≡ part → drop n text ≡ behind → drop (prefix_len is_blank behind) behind ≡ rest
+    → cut text ≡ Some (part, rest)
 cut_where n text part behind rest place inside front back after =
-    ap (λ n. cond (nat_lt n (length text)) (Some (take n text, drop (prefix_len is_blank (drop n text)) (drop n text))) None) place
-    ∙ ap (λ t. cond t (Some (take n text, drop (prefix_len is_blank (drop n text)) (drop n text))) None) (lt-ltb n (length text) inside)
+    ap (λ n. cond (nat_lt n (length text)) (Some (take n text, drop (prefix_len is_blank (drop n text)) (drop n text)))
+    None) place
+    ∙ ap (λ t. cond t (Some (take n text, drop (prefix_len is_blank (drop n text)) (drop n text))) None)
+    (lt-ltb n (length text) inside)
     ∙ ap (λ l. Some (take n text, drop (prefix_len is_blank l) l)) back
     ∙ ap (λ l. Some (l, drop (prefix_len is_blank behind) behind)) front
     ∙ ap (λ l. Some (part, l)) after
 
 blank_first : (blanks rest : List ℕ) → AreBlanks blanks → prefix_len (λ b. not (is_blank b)) (blanks ++ rest) ≡ 0
 blank_first [] rest h = absurd (omega (arith, h.some))
-blank_first (x ∷ blanks) rest h = stops_at (λ b. not (is_blank b)) x (blanks ++ rest) (ap not (and_parts (is_blank x) (list_all is_blank blanks) h.each).0)
+blank_first (x ∷ blanks) rest h =
+    stops_at (λ b. not (is_blank b)) x (blanks ++ rest)
+    (ap not (and_parts (is_blank x) (list_all is_blank blanks) h.each).0)
 
-pub cut_complete : (part blanks rest : List ℕ) → NoBlanks part → AreBlanks blanks → prefix_len is_blank rest ≡ 0 → cut (part ++ (blanks ++ rest)) ≡ Some (part, rest)
+pub cut_complete : (part blanks rest : List ℕ) → NoBlanks part → AreBlanks blanks → prefix_len is_blank rest ≡ 0
+    → cut (part ++ (blanks ++ rest)) ≡ Some (part, rest)
 cut_complete part blanks rest lacks blank stops =
     cut_where (length part) (part ++ (blanks ++ rest)) part (blanks ++ rest) rest
     (run_len (λ b. not (is_blank b)) part (blanks ++ rest) lacks (blank_first blanks rest blank))
@@ -82,13 +98,18 @@ pub cut_none : (text : List ℕ) → NoBlanks text → cut text ≡ None
 cut_none text lacks =
     let n = position_or_len is_blank text in
     let whole : length text ≤ n = omega (arith, all_len (λ b. not (is_blank b)) text lacks) in
-    ap (λ t. cond t (Some (take n text, drop (prefix_len is_blank (drop n text)) (drop n text))) None) (le-ltb n (length text) whole)
+    ap (λ t. cond t (Some (take n text, drop (prefix_len is_blank (drop n text)) (drop n text))) None)
+    (le-ltb n (length text) whole)
 
 -- a text that begins with no blank
 pub starts : (text rest : List ℕ) → 0 < length text → NoBlanks text → prefix_len is_blank (text ++ rest) ≡ 0
 starts [] rest h lacks = absurd (omega (arith, h))
-starts (x ∷ text) rest h lacks = stops_at is_blank x (text ++ rest) (not-true (is_blank x) (and_parts (not (is_blank x)) (list_all (λ b. not (is_blank b)) text) lacks).0)
+starts (x ∷ text) rest h lacks =
+    stops_at is_blank x (text ++ rest)
+    (not-true (is_blank x) (and_parts (not (is_blank x)) (list_all (λ b. not (is_blank b)) text) lacks).0)
 
 pub starts_alone : (text : List ℕ) → NoBlanks text → prefix_len is_blank text ≡ 0
 starts_alone [] lacks = refl
-starts_alone (x ∷ text) lacks = stops_at is_blank x text (not-true (is_blank x) (and_parts (not (is_blank x)) (list_all (λ b. not (is_blank b)) text) lacks).0)
+starts_alone (x ∷ text) lacks =
+    stops_at is_blank x text
+    (not-true (is_blank x) (and_parts (not (is_blank x)) (list_all (λ b. not (is_blank b)) text) lacks).0)

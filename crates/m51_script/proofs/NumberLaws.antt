@@ -1,5 +1,6 @@
 -- A number is read exactly if digits write it.
-use Rattle.std.proofs.Common.{◌≡◌, ℕ, ◌+◌, ◌*◌, ◌≤◌, Bool, true, false, not, ◌||◌, ◌==◌, cond, nat_lt, List, [], ◌∷◌, length, Option, Some, None, refl, sym, ap, ◌∙◌, arith}
+use Rattle.std.proofs.Common.{◌≡◌, ℕ, ◌+◌, ◌*◌, ◌≤◌, Bool, true, false, not, ◌||◌, ◌==◌, cond, nat_lt, List, [], ◌∷◌}
+use Rattle.std.proofs.Common.{length, Option, Some, None, refl, sym, ap, ◌∙◌, arith}
 use Rattle.std.specs.Char.{digit_value}
 use Rattle.std.specs.List.{list_all}
 use Rattle.std.proofs.lemmas.Bool.{and_from, le-ltb, ltb-false}
@@ -11,17 +12,20 @@ use Rattle.m51_script.specs.Written.{WritesNumber}
 use Rattle.m51_cells.proofs.Small.{not_zero, positive}
 use Rattle.m51_script.proofs.CutLaws.{NoBlanks}
 
-number_parts : (a b : Bool) (v : Option ℕ) (n : ℕ) → cond a None (cond b None v) ≡ Some n → (a ≡ false) × (b ≡ false) × (v ≡ Some n)
+number_parts : (a b : Bool) (v : Option ℕ) (n : ℕ) → cond a None (cond b None v) ≡ Some n
+    → (a ≡ false) × (b ≡ false) × (v ≡ Some n)
 number_parts true b v n h = absurd (cc)
 number_parts false true v n h = absurd (cc)
 number_parts false false v n h = (refl, refl, h)
 
-pub number_sound : (base most : ℕ) (text : List ℕ) (n : ℕ) → number_of base most text ≡ Some n → WritesNumber base most text n
+pub number_sound : (base most : ℕ) (text : List ℕ) (n : ℕ) → number_of base most text ≡ Some n
+    → WritesNumber base most text n
 number_sound base most text n h =
     let p = number_parts (length text == 0) (nat_lt most (length text)) (value_in base 0 text) n h in
     record { some = positive (length text) p.0; few = ltb-false most (length text) p.1; is = p.2 }
 
-pub number_complete : (base most : ℕ) (text : List ℕ) (n : ℕ) → WritesNumber base most text n → number_of base most text ≡ Some n
+pub number_complete : (base most : ℕ) (text : List ℕ) (n : ℕ) → WritesNumber base most text n
+    → number_of base most text ≡ Some n
 number_complete base most text n w =
     ap (λ a. cond a None (cond (nat_lt most (length text)) None (value_in base 0 text))) (not_zero (length text) w.some)
     ∙ ap (λ b. cond b None (value_in base 0 text)) (le-ltb most (length text) w.few)
@@ -33,9 +37,14 @@ space_is_no_digit = refl
 tab_is_no_digit : nat_lt (digit_value 9) 16 ≡ false
 tab_is_no_digit = refl
 
-blank_or_not : (c : ℕ) (s t : Bool) → (c == 32) ≡ s → (c == 9) ≡ t → nat_lt (digit_value c) 16 ≡ true → not (s || t) ≡ true
-blank_or_not c true t e f h = absurd (let is : c ≡ 32 = grind (arith, nat_tests, e) in let k : true ≡ false = sym h ∙ ap (λ c. nat_lt (digit_value c) 16) is ∙ space_is_no_digit in cc)
-blank_or_not c false true e f h = absurd (let is : c ≡ 9 = grind (arith, nat_tests, f) in let k : true ≡ false = sym h ∙ ap (λ c. nat_lt (digit_value c) 16) is ∙ tab_is_no_digit in cc)
+blank_or_not : (c : ℕ) (s t : Bool) → (c == 32) ≡ s → (c == 9) ≡ t → nat_lt (digit_value c) 16 ≡ true
+    → not (s || t) ≡ true
+blank_or_not c true t e f h =
+    absurd (let is : c ≡ 32 = grind (arith, nat_tests, e) in
+    let k : true ≡ false = sym h ∙ ap (λ c. nat_lt (digit_value c) 16) is ∙ space_is_no_digit in cc)
+blank_or_not c false true e f h =
+    absurd (let is : c ≡ 9 = grind (arith, nat_tests, f) in
+    let k : true ≡ false = sym h ∙ ap (λ c. nat_lt (digit_value c) 16) is ∙ tab_is_no_digit in cc)
 blank_or_not c false false e f h = refl
 
 wider : (d base : ℕ) → base ≤ 16 → nat_lt d base ≡ true → nat_lt d 16 ≡ true

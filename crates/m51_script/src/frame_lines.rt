@@ -57,6 +57,10 @@ impl FrameLines {
     pub(crate) fn at(&self, cycle: u64) -> &[Frame]
         ensures { result.now ≡ those (λ d. d == cycle) self.now.cycles self.now.items }
     {
+        // Most scripts have no line.
+        if self.cycles.is_empty() {
+            return &[];
+        }
         let start = count_before(self.cycles.as_slice(), cycle);
         let end = count_until(self.cycles.as_slice(), cycle);
         let from = &self.frames[start..];

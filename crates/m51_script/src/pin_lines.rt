@@ -100,6 +100,10 @@ impl PinLines {
     pub(crate) fn at(&self, cycle: u64) -> Pins
         ensures { result ≡ levels_after all_high (those (λ d. nat_le d cycle) self.now.cycles self.now.items) }
     {
+        // Most scripts have no line.
+        if self.cycles.is_empty() {
+            return ALL_HIGH;
+        }
         let count = count_until(self.cycles.as_slice(), cycle);
         if count == 0 {
             ALL_HIGH

@@ -1,6 +1,7 @@
 -- A map that has the values of the stores.
 use Rattle.std.proofs.lemmas.Bool.{lt-ltb}
-use Rattle.std.proofs.Common.{◌≡◌, ℕ, Bool, true, false, not, ◌&&◌, Option, Some, None, refl, sym, ap, subst, ◌∙◌, ⊎_elim}
+use Rattle.std.proofs.Common.{◌≡◌, ℕ, Bool, true, false, not, ◌&&◌, Option, Some, None, refl, sym, ap, subst, ◌∙◌}
+use Rattle.std.proofs.Common.{⊎_elim}
 use Rattle.std.proofs.lemmas.Option.{same_Some}
 use Rattle.std.specs.Prelude.{slice_get, if◌then◌else◌}
 use Rattle.m51_cells.specs.declared.cell.Cell.{Cell}
@@ -16,7 +17,9 @@ use Rattle.m51_flat.specs.States.{CellState, Holds, Absent, ram_cell, written_in
 use Rattle.m51_cells.specs.Cells.{IsDataCell}
 use Rattle.m51_monitor.specs.Masks.{IsCellAt}
 use Rattle.m51_monitor.specs.Resolved.{resolved, resolved_cells, held_in, segment_over}
-use Rattle.m51_monitor.specs.Stores.{Stores, IsOver, Live, Resolves, InSegment, InCommon, Nowhere, held, is_overlaid_at, over, has_cell, is_common, is_data, put_into, unset_dead, fill_in, filled_stores, AreStores}
+use Rattle.m51_monitor.specs.Stores.{Stores, IsOver, Live, Resolves, InSegment, InCommon, Nowhere, held, is_overlaid_at}
+use Rattle.m51_monitor.specs.Stores.{over, has_cell, is_common, is_data, put_into, unset_dead, fill_in, filled_stores}
+use Rattle.m51_monitor.specs.Stores.{AreStores}
 use Rattle.m51_monitor.proofs.Liveness.{overlaid_tells}
 use Rattle.m51_monitor.proofs.Resolved.{resolves}
 use Rattle.m51_monitor.proofs.Resolving.{common_or_over, data_cell_is, is_has_cell}
@@ -25,10 +28,12 @@ use Rattle.m51_sim.specs.Laws.{FilledHasFill, HasFill, value_at}
 
 -- where a store has a value, the map has it
 pub record AgreesWith (l : LayoutParts) (s : Stores) (m : CellMap) : Type 0 where
-  pub segment : (t : ℕ) (c : Cell) (v : ℕ) → IsDataCell c → IsOver l t c → s.segment t c ≡ Some v → value_at m c.space c.at ≡ v
+  pub segment : (t : ℕ) (c : Cell) (v : ℕ) → IsDataCell c → IsOver l t c → s.segment t c ≡ Some v
+      → value_at m c.space c.at ≡ v
   pub common : (c : Cell) (v : ℕ) → IsDataCell c → s.common c ≡ Some v → value_at m c.space c.at ≡ v
 
-value_after : (put : Put) (m : CellMap) (s : Space) (n : ℕ) → IsCellAt s n → value_at (map_after put m) s n ≡ replaced (written_in put s n) (value_at m s n)
+value_after : (put : Put) (m : CellMap) (s : Space) (n : ℕ) → IsCellAt s n
+    → value_at (map_after put m) s n ≡ replaced (written_in put s n) (value_at m s n)
 value_after put m Ram n h = refl
 value_after put m Xram n h = refl
 value_after put m Code n h = absurd h.0
@@ -38,7 +43,8 @@ over_agrees None old x v e h = h e
 over_agrees (Some y) old x v e h = cc e
 
 -- a put into one store's cell: one that is not written to has no value
-cell_agrees : (b : Bool) (w old : Option ℕ) (x v : ℕ) → (b ≡ false → old ≡ None) → (if b then over w old else old) ≡ Some v → (old ≡ Some v → x ≡ v) → replaced w x ≡ v
+cell_agrees : (b : Bool) (w old : Option ℕ) (x v : ℕ) → (b ≡ false → old ≡ None)
+    → (if b then over w old else old) ≡ Some v → (old ≡ Some v → x ≡ v) → replaced w x ≡ v
 cell_agrees true w old x v none e h = over_agrees w old x v e h
 cell_agrees false w old x v none e h = cc (none refl, e)
 
@@ -46,20 +52,24 @@ and_dead : (a b : Bool) → (a && b) ≡ false → b ≡ true → a ≡ false
 and_dead true b e f = cc (e, f)
 and_dead false b e f = refl
 
-pub put_agrees : (l : LayoutParts) (live : Live) (put : Put) (s : Stores) (m : CellMap) → AreStores l live s → AgreesWith l s m → AgreesWith l (put_into l live put s) (map_after put m)
+pub put_agrees : (l : LayoutParts) (live : Live) (put : Put) (s : Stores) (m : CellMap) → AreStores l live s
+    → AgreesWith l s m → AgreesWith l (put_into l live put s) (map_after put m)
 put_agrees l live put s m are h = record {
   segment = λ t c v is at e. value_after put m c.space c.at is
       ∙ cell_agrees (live t && has_cell l t c) (written_to put c) (s.segment t c) (value_at m c.space c.at) v
-      (λ f. are.dead t c (and_dead (live t) (has_cell l t c) f (is_has_cell l t c is at))) e (λ k. h.segment t c v is at k);
+      (λ f. are.dead t c (and_dead (live t) (has_cell l t c) f (is_has_cell l t c is at))) e
+      (λ k. h.segment t c v is at k);
   common = λ c v is e. value_after put m c.space c.at is
-      ∙ cell_agrees (is_common l c) (written_to put c) (s.common c) (value_at m c.space c.at) v (λ f. are.of_common c f) e (λ k. h.common c v is k);
+      ∙ cell_agrees (is_common l c) (written_to put c) (s.common c) (value_at m c.space c.at) v (λ f. are.of_common c f)
+      e (λ k. h.common c v is k);
 }
 
 pub if_some : (b : Bool) (x : Option ℕ) (v : ℕ) → (if b then x else None) ≡ Some v → (b ≡ true) × (x ≡ Some v)
 if_some true x v e = (refl, e)
 if_some false x v e = cc e
 
-pub unset_agrees : (l : LayoutParts) (live : Live) (s : Stores) (m : CellMap) → AgreesWith l s m → AgreesWith l (unset_dead live s) m
+pub unset_agrees : (l : LayoutParts) (live : Live) (s : Stores) (m : CellMap) → AgreesWith l s m
+    → AgreesWith l (unset_dead live s) m
 unset_agrees l live s m h = record {
   segment = λ t c v is at e. h.segment t c v is at (if_some (live t) (s.segment t c) v e).1;
   common = h.common;
@@ -69,8 +79,10 @@ held_some : (o : Option ℕ) (v : ℕ) → held o ≡ Holds v → o ≡ Some v
 held_some None v e = cc e
 held_some (Some w) v e = let same : w ≡ v = cc e in ap Some same
 
-by_resolves : (l : LayoutParts) (live : Live) (s : Stores) (m : CellMap) (c : Cell) (state : CellState) (v : ℕ) → AgreesWith l s m → IsDataCell c → Resolves l live s c state → state ≡ Holds v → value_at m c.space c.at ≡ v
-by_resolves l live s m c state v h is (InSegment t at alive f) e = h.segment t c v is at (held_some (s.segment t c) v (sym f ∙ e))
+by_resolves : (l : LayoutParts) (live : Live) (s : Stores) (m : CellMap) (c : Cell) (state : CellState) (v : ℕ)
+    → AgreesWith l s m → IsDataCell c → Resolves l live s c state → state ≡ Holds v → value_at m c.space c.at ≡ v
+by_resolves l live s m c state v h is (InSegment t at alive f) e =
+    h.segment t c v is at (held_some (s.segment t c) v (sym f ∙ e))
 by_resolves l live s m c state v h is (InCommon free f) e = h.common c v is (held_some (s.common c) v (sym f ∙ e))
 by_resolves l live s m c state v h is (Nowhere t at free f) e = cc (f, e)
 
@@ -78,31 +90,42 @@ if_held : (b : Bool) (x : CellState) (v : ℕ) → (if b then x else Absent) ≡
 if_held true x v e = refl
 if_held false x v e = cc e
 
-cell_held : (l : LayoutParts) (live : Live) (s : Stores) (m : CellMap) (c : Cell) (v : ℕ) → AgreesWith l s m → resolved l live s c ≡ Holds v → value_at m c.space c.at ≡ v
+cell_held : (l : LayoutParts) (live : Live) (s : Stores) (m : CellMap) (c : Cell) (v : ℕ) → AgreesWith l s m
+    → resolved l live s c ≡ Holds v → value_at m c.space c.at ≡ v
 cell_held l live s m c v h e =
     let is = data_cell_is c (if_held (is_data c) (held_in s c (is_common l c) (segment_over l live c)) v e) in
     by_resolves l live s m c (resolved l live s c) v h is (resolves l live s c is) e
 
 -- so it agrees with what the stores answer
-pub agrees_cells : (l : LayoutParts) (live : Live) (s : Stores) (m : CellMap) → AgreesWith l s m → Agrees (resolved_cells l live s) m
-agrees_cells l live s m h = record { ram = λ n v e. cell_held l live s m (ram_cell n) v h e; xram = λ n v e. cell_held l live s m (xram_cell n) v h e }
+pub agrees_cells : (l : LayoutParts) (live : Live) (s : Stores) (m : CellMap) → AgreesWith l s m
+    → Agrees (resolved_cells l live s) m
+agrees_cells l live s m h =
+    record {
+      ram = λ n v e. cell_held l live s m (ram_cell n) v h e;
+      xram = λ n v e. cell_held l live s m (xram_cell n) v h e;
+    }
 
 parts : (a b : Bool) → (not a && b) ≡ true → a ≡ false
 parts true b e = cc e
 parts false b e = refl
 
 -- at the start
-pub start_agrees : (l : LayoutParts) (fill : ℕ) (m : CellMap) → IsSound l → HasFill l fill m → AgreesWith l (filled_stores l fill) m
+pub start_agrees : (l : LayoutParts) (fill : ℕ) (m : CellMap) → IsSound l → HasFill l fill m
+    → AgreesWith l (filled_stores l fill) m
 start_agrees l fill m sound has = record {
   segment = λ t c v is at e.
-      let k = if_some (not (is_overlaid_at (slice_get l.placed t)) && has_cell l t c) (Some (fill_in fill c.space c.at)) v e in
-      let plain : IsOverlaid l t → ⊥ = plain_is t (parts (is_overlaid_at (slice_get l.placed t)) (has_cell l t c) k.0) in
-      has.each c is (λ u o over_u. sound.apart t u at.is over_u.is at.placed over_u.placed (λ same. plain (subst (IsOverlaid l) (sym same) o)) (FirstPlain plain) (c, at.covers, over_u.covers))
+      let k = if_some (not (is_overlaid_at (slice_get l.placed t)) && has_cell l t c) (Some (fill_in fill c.space c.at))
+      v e in
+      let plain : IsOverlaid l t
+      → ⊥ = plain_is t (parts (is_overlaid_at (slice_get l.placed t)) (has_cell l t c) k.0) in
+      has.each c is (λ u o over_u. sound.apart t u at.is over_u.is at.placed over_u.placed
+      (λ same. plain (subst (IsOverlaid l) (sym same) o)) (FirstPlain plain) (c, at.covers, over_u.covers))
       ∙ same_Some (fill_in fill c.space c.at) v k.1;
   common = λ c v is e.
       let k = if_some (is_common l c) (Some (fill_in fill c.space c.at)) v e in
       ⊎_elim
-      (λ (f : (is_common l c ≡ true) × ((t : ℕ) → IsOver l t c → ⊥)). has.each c is (λ u o over_u. f.1 u over_u) ∙ same_Some (fill_in fill c.space c.at) v k.1)
+      (λ (f : (is_common l c ≡ true) × ((t : ℕ) → IsOver l t c → ⊥)). has.each c is (λ u o over_u. f.1 u over_u)
+      ∙ same_Some (fill_in fill c.space c.at) v k.1)
       (λ (f : (is_common l c ≡ false) × ((t : ℕ) × IsOver l t c)). cc (f.0, k.0))
       (common_or_over l c is);
 }

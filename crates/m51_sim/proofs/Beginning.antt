@@ -25,9 +25,17 @@ unit_is l u None sound at found = absurd (found u at)
 
 -- what a chip has after a reset
 abbrev pub chip_at_reset : List ℕ → Script → ChipState
-chip_at_reset image script = record { image = image; script = script; cpu = reset_cpu; periph = reset_periph ((inputs_of script).pins 0); cycle = 0 }
+chip_at_reset image script =
+    record {
+      image = image;
+      script = script;
+      cpu = reset_cpu;
+      periph = reset_periph ((inputs_of script).pins 0);
+      cycle = 0;
+    }
 
-module _ (l : LayoutParts) (fill : ℕ) (m : Monitored) (sound : IsSound m.layout) (may : AreActivations m.layout m.records) (start : IsStart l fill m) where
+module _ (l : LayoutParts) (fill : ℕ) (m : Monitored) (sound : IsSound m.layout)
+    (may : AreActivations m.layout m.records) (start : IsStart l fill m) where
   is_sound : IsSound l
   is_sound = subst IsSound start.layout sound
 
@@ -51,7 +59,8 @@ module _ (l : LayoutParts) (fill : ℕ) (m : Monitored) (sound : IsSound m.layou
   pub start_memory : memory_of m ≡ separate_start l fill
   start_memory = rw (start_stores, start.records, root_is) refl
 
-  pub is_started : (image : List ℕ) (script : Script) (chip : ChipState) → script.fill ≡ fill → chip ≡ chip_at_reset image script → IsStarted l image script (record { chip = chip; monitor = m })
+  pub is_started : (image : List ℕ) (script : Script) (chip : ChipState) → script.fill ≡ fill
+      → chip ≡ chip_at_reset image script → IsStarted l image script (record { chip = chip; monitor = m })
   is_started image script chip fills is = rw (is, fills) (record {
     layout_is = start.layout;
     image_is = refl;

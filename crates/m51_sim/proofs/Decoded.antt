@@ -1,5 +1,6 @@
 -- The instructions of an image, decoded one after another.
-use Rattle.std.proofs.Common.{◌≡◌, ℕ, ◌+◌, ◌<◌, ◌≤◌, List, [], ◌∷◌, ◌++◌, Option, length, refl, sym, ap, subst, ◌∙◌, ⊎_elim, arith, length-append}
+use Rattle.std.proofs.Common.{◌≡◌, ℕ, ◌+◌, ◌<◌, ◌≤◌, List, [], ◌∷◌, ◌++◌, Option, length, refl, sym, ap, subst, ◌∙◌}
+use Rattle.std.proofs.Common.{⊎_elim, arith, length-append}
 use Rattle.std.specs.Prelude.{slice_index_or}
 use Rattle.std.proofs.Math.ListN.{get_or-append}
 use Rattle.std.proofs.Math.Seq.{get_or-append_seam}
@@ -11,7 +12,8 @@ use Rattle.m51_sim.specs.Rows.{AreRows}
 pub no_rows : (image : List ℕ) → AreRows image [] 0
 no_rows image = record { len = refl; row = λ a d h. absurd (omega (arith, h)) }
 
-pub one_row : (image : List ℕ) (rows : List (Option Instr)) (count : ℕ) (row : Option Instr) → row ≡ instr_at image count → AreRows image rows count → AreRows image (rows ++ row ∷ []) (count + 1)
+pub one_row : (image : List ℕ) (rows : List (Option Instr)) (count : ℕ) (row : Option Instr)
+    → row ≡ instr_at image count → AreRows image rows count → AreRows image (rows ++ row ∷ []) (count + 1)
 one_row image rows count row e are = record {
   len = let len = length-append rows (row ∷ []) in omega (arith, len, are.len);
   row = λ a d h. ⊎_elim

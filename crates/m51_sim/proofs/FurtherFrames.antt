@@ -1,39 +1,66 @@
 -- The further frames of a cycle, one after another.
-use Rattle.std.proofs.Common.{◌≡◌, ℕ, ◌+◌, ◌≤◌, ◌<◌, Bool, true, false, List, [], ◌∷◌, ◌++◌, length, get_or, take, drop, refl, sym, ap, ◌∙◌, arith, length-append}
+use Rattle.std.proofs.Common.{◌≡◌, ℕ, ◌+◌, ◌≤◌, ◌<◌, Bool, true, false, List, [], ◌∷◌, ◌++◌, length, get_or, take, drop}
+use Rattle.std.proofs.Common.{refl, sym, ap, ◌∙◌, arith, length-append}
 use Rattle.std.specs.Prelude.{◌==◌, if◌then◌else◌}
 use Rattle.std.proofs.lemmas.List.{take-append-drop, take_more}
 use Rattle.m51_timers_uart.specs.declared.receiving.Frame.{Frame}
 use Rattle.m51_sim.specs.declared.cycles.Timed.{Timed}
 use Rattle.m51_sim.specs.Cycles.{AreFew, frames_in}
 
-pub joined : (b : Bool) (f : Frame) (xs ys : List Frame) → (if b then f ∷ (xs ++ ys) else xs ++ ys) ≡ (if b then f ∷ xs else xs) ++ ys
+pub joined : (b : Bool) (f : Frame) (xs ys : List Frame)
+    → (if b then f ∷ (xs ++ ys) else xs ++ ys) ≡ (if b then f ∷ xs else xs) ++ ys
 joined true f xs ys = refl
 joined false f xs ys = refl
 
-pub frames_join : (cycle : ℕ) (xs ys : List Timed) → frames_in cycle (xs ++ ys) ≡ frames_in cycle xs ++ frames_in cycle ys
+pub frames_join : (cycle : ℕ) (xs ys : List Timed)
+    → frames_in cycle (xs ++ ys) ≡ frames_in cycle xs ++ frames_in cycle ys
 frames_join cycle [] ys = refl
-frames_join cycle (t ∷ ts) ys = ap (λ fs. if t.cycle == cycle then t.frame ∷ fs else fs) (frames_join cycle ts ys) ∙ joined (t.cycle == cycle) t.frame (frames_in cycle ts) (frames_in cycle ys)
+frames_join cycle (t ∷ ts) ys = ap (λ fs. if t.cycle == cycle then t.frame ∷ fs else fs) (frames_join cycle ts ys)
+    ∙ joined (t.cycle == cycle) t.frame (frames_in cycle ts) (frames_in cycle ys)
 
 -- with one more
-pub frames_more : (cycle : ℕ) (xs : List Timed) (i : ℕ) (d : Timed) → i < length xs → frames_in cycle (take (i + 1) xs) ≡ frames_in cycle (take i xs) ++ frames_in cycle (get_or xs i d ∷ [])
-frames_more cycle xs i d below = ap (frames_in cycle) (take_more xs i d below) ∙ frames_join cycle (take i xs) (get_or xs i d ∷ [])
+pub frames_more : (cycle : ℕ) (xs : List Timed) (i : ℕ) (d : Timed) → i < length xs
+    → frames_in cycle (take (i + 1) xs) ≡ frames_in cycle (take i xs) ++ frames_in cycle (get_or xs i d ∷ [])
+frames_more cycle xs i d below = ap (frames_in cycle) (take_more xs i d below)
+    ∙ frames_join cycle (take i xs) (get_or xs i d ∷ [])
 
 -- and there is room for it
-pub frames_fit : (cycle : ℕ) (xs : List Timed) (i : ℕ) (d : Timed) (count : ℕ) → i < length xs → AreFew xs → count ≡ length (frames_in cycle (take i xs)) → count + length (frames_in cycle (get_or xs i d ∷ [])) ≤ 7
+pub frames_fit : (cycle : ℕ) (xs : List Timed) (i : ℕ) (d : Timed) (count : ℕ) → i < length xs → AreFew xs
+    → count ≡ length (frames_in cycle (take i xs)) → count + length (frames_in cycle (get_or xs i d ∷ [])) ≤ 7
 frames_fit cycle xs i d count below few is =
     let one = frames_in cycle (get_or xs i d ∷ []) in
     let front = frames_in cycle (take i xs) in
     let more = ap length (frames_more cycle xs i d below) in
-    let all = ap length (sym (frames_join cycle (take (i + 1) xs) (drop (i + 1) xs)) ∙ ap (frames_in cycle) (take-append-drop (i + 1) xs)) in
-    omega (arith, few.each cycle, is, more, all, length-append front one, length-append (frames_in cycle (take (i + 1) xs)) (frames_in cycle (drop (i + 1) xs)))
+    let all = ap length (sym (frames_join cycle (take (i + 1) xs) (drop (i + 1) xs))
+    ∙ ap (frames_in cycle) (take-append-drop (i + 1) xs)) in
+    omega (
+      arith,
+      few.each cycle,
+      is,
+      more,
+      all,
+      length-append front one,
+      length-append (frames_in cycle (take (i + 1) xs)) (frames_in cycle (drop (i + 1) xs)),
+    )
 
 -- so a step of the loop continues with it
-pub frames_step : (cycle : ℕ) (xs : List Timed) (i : ℕ) (d : Timed) (old new : List Frame) → i < length xs → old ≡ frames_in cycle (take i xs) → new ≡ old ++ frames_in cycle (get_or xs i d ∷ []) → new ≡ frames_in cycle (take (i + 1) xs)
-frames_step cycle xs i d old new below so_far is = is ∙ ap (λ fs. fs ++ frames_in cycle (get_or xs i d ∷ [])) so_far ∙ sym (frames_more cycle xs i d below)
+pub frames_step : (cycle : ℕ) (xs : List Timed) (i : ℕ) (d : Timed) (old new : List Frame) → i < length xs
+    → old ≡ frames_in cycle (take i xs) → new ≡ old ++ frames_in cycle (get_or xs i d ∷ [])
+    → new ≡ frames_in cycle (take (i + 1) xs)
+frames_step cycle xs i d old new below so_far is = is ∙ ap (λ fs. fs ++ frames_in cycle (get_or xs i d ∷ [])) so_far
+    ∙ sym (frames_more cycle xs i d below)
 
-pub count_step : (cycle : ℕ) (xs : List Timed) (i : ℕ) (d : Timed) (old new : ℕ) → i < length xs → old ≡ length (frames_in cycle (take i xs)) → new ≡ old + length (frames_in cycle (get_or xs i d ∷ [])) → new ≡ length (frames_in cycle (take (i + 1) xs))
+pub count_step : (cycle : ℕ) (xs : List Timed) (i : ℕ) (d : Timed) (old new : ℕ) → i < length xs
+    → old ≡ length (frames_in cycle (take i xs)) → new ≡ old + length (frames_in cycle (get_or xs i d ∷ []))
+    → new ≡ length (frames_in cycle (take (i + 1) xs))
 count_step cycle xs i d old new below so_far is =
-    omega (arith, so_far, is, ap length (frames_more cycle xs i d below), length-append (frames_in cycle (take i xs)) (frames_in cycle (get_or xs i d ∷ [])))
+    omega (
+      arith,
+      so_far,
+      is,
+      ap length (frames_more cycle xs i d below),
+      length-append (frames_in cycle (take i xs)) (frames_in cycle (get_or xs i d ∷ [])),
+    )
 
 -- one frame is not too many
 one_or_none : (b : Bool) (f : Frame) → length (if b then f ∷ [] else []) ≤ 7

@@ -13,23 +13,31 @@ use Rattle.m51_sim.specs.Run.{Ended}
 use Rattle.m51_sim.specs.Runs.{Machine, State, record_of}
 use Rattle.m51_sim.specs.SeparateMachine.{separate_machine, separate_start}
 
-reports : {M : Type 0} (before after : Option (List ℕ)) (titles : List (List ℕ)) (machine : Machine M) (n : ℕ) (first now : State M) (end : RunEnd)
-    → Ended before after titles machine n first now end → IsReported (reported titles (record_of machine n first)) before after end
+reports : {M : Type 0} (before after : Option (List ℕ)) (titles : List (List ℕ)) (machine : Machine M) (n : ℕ)
+    (first now : State M) (end : RunEnd)
+    → Ended before after titles machine n first now end
+    → IsReported (reported titles (record_of machine n first)) before after end
 reports before after titles machine n first now ends.Finished h = (h.event_is, h.text)
 reports before after titles machine n first now (ends.Stopped event) h = (h.event_is, h.text)
 reports before after titles machine n first now ends.WriteFault h = h.front
 
-pub is_report : (l : LayoutParts) (image : List ℕ) (script : Script) (n : ℕ) (before after : Option (List ℕ)) (board new : BoardState) (end : RunEnd) → IsStarted l image script board
-    → Ended before after (titles_of board.monitor.layout.placed) (separate_machine board.monitor.layout board.chip.image (inputs_of board.chip.script)) n (separate_of board) (separate_of new) end
+pub is_report : (l : LayoutParts) (image : List ℕ) (script : Script) (n : ℕ) (before after : Option (List ℕ))
+    (board new : BoardState) (end : RunEnd) → IsStarted l image script board
+    → Ended before after (titles_of board.monitor.layout.placed)
+    (separate_machine board.monitor.layout board.chip.image (inputs_of board.chip.script)) n (separate_of board)
+    (separate_of new) end
     → IsReport l image script n before after end
 unfolding report_of
 is_report l image script n before after board new end start h =
     let inputs = inputs_of script in
-    reports before after (titles_of l.placed) (separate_machine l image inputs) n (reset_with inputs (separate_start l script.fill)) (separate_of new) end
+    reports before after (titles_of l.placed) (separate_machine l image inputs) n
+    (reset_with inputs (separate_start l script.fill)) (separate_of new) end
     (rw (start.state, start.layout_is, start.image_is, start.script_is) at h)
 
-pub is_flat_report : (image : List ℕ) (script : Script) (n : ℕ) (before after : Option (List ℕ)) (board new : FlatState) (end : RunEnd) → IsFlatStarted image script board
-    → Ended before after [] (flat_machine board.chip.image (inputs_of board.chip.script)) n (flat_of board) (flat_of new) end
+pub is_flat_report : (image : List ℕ) (script : Script) (n : ℕ) (before after : Option (List ℕ)) (board new : FlatState)
+    (end : RunEnd) → IsFlatStarted image script board
+    → Ended before after [] (flat_machine board.chip.image (inputs_of board.chip.script)) n (flat_of board)
+    (flat_of new) end
     → IsFlatReport image script n before after end
 unfolding flat_report_of
 is_flat_report image script n before after board new end start h =

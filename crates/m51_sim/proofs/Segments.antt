@@ -8,10 +8,12 @@ use Rattle.m51_monitor.specs.Resolved.{segment_over}
 use Rattle.m51_monitor.proofs.Resolved.{NoOne, One, Segments, segments_over}
 
 -- it is the one that is found
-pub segment_is : (m : Monitored) (c : Cell) (o : Option ℕ) → IsDataCell c → IfSome o (λ t. AnswersAt m c t) → ((t : ℕ) → AnswersAt m c t → o ≡ Some t) → o ≡ segment_over m.layout (live_in m.layout m.records) c
+pub segment_is : (m : Monitored) (c : Cell) (o : Option ℕ) → IsDataCell c → IfSome o (λ t. AnswersAt m c t)
+    → ((t : ℕ) → AnswersAt m c t → o ≡ Some t) → o ≡ segment_over m.layout (live_in m.layout m.records) c
 segment_is m c o is some only = by_segment (segments_over m.layout (live_in m.layout m.records) c) o some only
   where
-    by_segment : Segments m.layout (live_in m.layout m.records) c (segment_over m.layout (live_in m.layout m.records) c) → (o : Option ℕ) → IfSome o (λ t. AnswersAt m c t) → ((t : ℕ) → AnswersAt m c t → o ≡ Some t)
+    by_segment : Segments m.layout (live_in m.layout m.records) c (segment_over m.layout (live_in m.layout m.records) c)
+        → (o : Option ℕ) → IfSome o (λ t. AnswersAt m c t) → ((t : ℕ) → AnswersAt m c t → o ≡ Some t)
         → o ≡ segment_over m.layout (live_in m.layout m.records) c
     by_segment (One t over alive e) o some only = only t (record { of_data = is; over = over; live = alive }) ∙ sym e
     by_segment (NoOne none e) (Some t) some only = absurd (none t some.over some.live)

@@ -36,7 +36,8 @@ unfolding cycle_passed
 one_counts inputs p = refl
 
 -- each cycle that passes is counted
-cycles_count : (inputs : Inputs) (more : ℕ) (p : Passing) → (cycles_passed inputs (suc more) p).cycle ≡ min (p.cycle + suc more) (2 ^ 64 - 1)
+cycles_count : (inputs : Inputs) (more : ℕ) (p : Passing)
+    → (cycles_passed inputs (suc more) p).cycle ≡ min (p.cycle + suc more) (2 ^ 64 - 1)
 unfolding cycles_passed
 cycles_count inputs zero p = one_counts inputs p
 cycles_count inputs (suc more) p =
@@ -44,7 +45,8 @@ cycles_count inputs (suc more) p =
     let before = cycles_count inputs more p in
     omega (arith, last, before)
 
-some_count : (inputs : Inputs) (count : ℕ) (p : Passing) → 1 ≤ count → (cycles_passed inputs count p).cycle ≡ min (p.cycle + count) (2 ^ 64 - 1)
+some_count : (inputs : Inputs) (count : ℕ) (p : Passing) → 1 ≤ count
+    → (cycles_passed inputs count p).cycle ≡ min (p.cycle + count) (2 ^ 64 - 1)
 some_count inputs zero p some = absurd (omega (arith, some))
 some_count inputs (suc more) p some = cycles_count inputs more p
 
@@ -65,7 +67,8 @@ one : (count : ℕ) → count ≡ 1 → IsCount Idling count
 one count is = record { takes = is; some = omega (arith, is); few = omega (arith, is) }
 
 of_row : (instr : Instr) (count : ℕ) → count ≡ cycles_of instr → IsCount (Executing instr) count
-of_row instr count is = record { takes = is; some = omega (arith, is, row_some instr); few = omega (arith, is, row_few instr) }
+of_row instr count is =
+    record { takes = is; some = omega (arith, is, row_some instr); few = omega (arith, is, row_few instr) }
 
 module _ (l : LayoutParts) (image : List ℕ) (cpu : Cpu) (m : Separate) (pins : Pins) where
   effect_count : (t : Attempt) (a : Allowed) → separate_effect l image cpu m pins t ≡ Ok a → IsCount t a.effect.cycles
@@ -73,15 +76,23 @@ module _ (l : LayoutParts) (image : List ℕ) (cpu : Cpu) (m : Separate) (pins :
   effect_count (Vectoring source) a h =
       let e = vectoring cpu source in
       let barred = outside_of (cells_of l m) in
-      let same = vectored_done (shut_of barred e.first) (shut_of barred e.second) e a.effect (concluded_ok l m cpu (vectored cpu barred source) a h) in
+      let same = vectored_done (shut_of barred e.first) (shut_of barred e.second) e a.effect
+      (concluded_ok l m cpu (vectored cpu barred source) a h) in
       two source a.effect.cycles (ap (λ (e : Effect). e.cycles) (sym same) ∙ vectoring_takes cpu source)
-  effect_count Idling a h = let k : record { effect = idle_effect cpu; step = Stay } ≡ a = cc h in one a.effect.cycles (ap (λ (a : Allowed). a.effect.cycles) (sym k))
+  effect_count Idling a h = let k : record { effect = idle_effect cpu; step = Stay } ≡ a = cc h in
+      one a.effect.cycles (ap (λ (a : Allowed). a.effect.cycles) (sym k))
   effect_count (Executing instr) a h =
       let cells = cells_of l m in
       let o = instr_outcome l m cpu instr image pins in
-      let is = concluded_ok l m cpu o a (inside_ok (lie_inside l (current m.records) cpu.pc (length_of instr)) (concludes l m cpu o) (Transfer PastEnd cpu.pc ((cpu.pc + length_of instr) % 65536)) a h).1 in
-      of_row instr a.effect.cycles (done_fact (λ e. e.cycles ≡ cycles_of instr) cpu cells (outside_of cells) instr image pins a.effect (row_takes cpu instr image pins) is)
-  effect_count Refusing a h = let k = (inside_ok (lie_inside l (current m.records) cpu.pc 1) (Err (Reserved cpu.pc)) (Transfer PastEnd cpu.pc ((cpu.pc + 1) % 65536)) a h).1 in cc k
+      let is = concluded_ok l m cpu o a
+      (inside_ok (lie_inside l (current m.records) cpu.pc (length_of instr)) (concludes l m cpu o)
+      (Transfer PastEnd cpu.pc ((cpu.pc + length_of instr) % 65536)) a h).1 in
+      of_row instr a.effect.cycles
+      (done_fact (λ e. e.cycles ≡ cycles_of instr) cpu cells (outside_of cells) instr image pins a.effect
+      (row_takes cpu instr image pins) is)
+  effect_count Refusing a h = let k =
+      (inside_ok (lie_inside l (current m.records) cpu.pc 1) (Err (Reserved cpu.pc))
+      (Transfer PastEnd cpu.pc ((cpu.pc + 1) % 65536)) a h).1 in cc k
 
 pub steps_short : StepsAreShort
 steps_short l image inputs s done h =
@@ -94,5 +105,6 @@ steps_short l image inputs s done h =
       takes = c.takes;
       some = c.some;
       few = c.few;
-      cycle = ap (λ (d : Performed Separate). d.state.cycle) (sym p.2) ∙ some_count inputs e.cycles (changed_by s.cycle s.periph e) c.some;
+      cycle = ap (λ (d : Performed Separate). d.state.cycle) (sym p.2)
+          ∙ some_count inputs e.cycles (changed_by s.cycle s.periph e) c.some;
     }

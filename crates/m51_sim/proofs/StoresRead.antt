@@ -19,25 +19,31 @@ held_back None = refl
 held_back (Some v) = refl
 
 -- at most one live segment covers a cell
-pub one_covers : (m : Monitored) → IsSound m.layout → AreActivations m.layout m.records → OneLive m.layout (live_in m.layout m.records)
+pub one_covers : (m : Monitored) → IsSound m.layout → AreActivations m.layout m.records
+    → OneLive m.layout (live_in m.layout m.records)
 one_covers m sound may = one_live m.layout (units_named m.records) sound (all_related m.layout m.records may.stand)
 
-module _ (m : Monitored) (sound : IsSound m.layout) (may : AreActivations m.layout m.records) (s : Stores) (h : MonitorStandsFor m s) where
-  in_segment : (t : ℕ) (c : Cell) (alive has : Bool) → live_in m.layout m.records t ≡ alive → has_cell m.layout t c ≡ has
+module _ (m : Monitored) (sound : IsSound m.layout) (may : AreActivations m.layout m.records) (s : Stores)
+    (h : MonitorStandsFor m s) where
+  in_segment : (t : ℕ) (c : Cell) (alive has : Bool) → live_in m.layout m.records t ≡ alive
+      → has_cell m.layout t c ≡ has
       → (if alive && has then held_value (cell_state m.store c) else None) ≡ s.segment t c
   in_segment t c true true e f =
       let is = has_cell_data m.layout t c f in
-      ap held_value (one_answer m.layout (live_in m.layout m.records) s c (cell_state m.store c) (held (s.segment t c)) (one_covers m sound may) (h.cells c is) (InSegment t (has_cell_is m.layout t c f) e refl))
+      ap held_value (one_answer m.layout (live_in m.layout m.records) s c (cell_state m.store c) (held (s.segment t c))
+      (one_covers m sound may) (h.cells c is) (InSegment t (has_cell_is m.layout t c f) e refl))
       ∙ held_back (s.segment t c)
   in_segment t c true false e f = sym (h.stores.of_segment t c f)
   in_segment t c false has e f = sym (h.stores.dead t c e)
 
-  in_common : (c : Cell) (common : Bool) → is_common m.layout c ≡ common → (if common then held_value (cell_state m.store c) else None) ≡ s.common c
+  in_common : (c : Cell) (common : Bool) → is_common m.layout c ≡ common
+      → (if common then held_value (cell_state m.store c) else None) ≡ s.common c
   in_common c true e =
       let is = data_cell_is c (and_parts (is_data c) _ e).0 in
       ⊎_elim
       (λ (f : (is_common m.layout c ≡ true) × ((t : ℕ) → IsOver m.layout t c → ⊥)).
-      ap held_value (one_answer m.layout (live_in m.layout m.records) s c (cell_state m.store c) (held (s.common c)) (one_covers m sound may) (h.cells c is) (InCommon f.1 refl)) ∙ held_back (s.common c))
+      ap held_value (one_answer m.layout (live_in m.layout m.records) s c (cell_state m.store c) (held (s.common c))
+      (one_covers m sound may) (h.cells c is) (InCommon f.1 refl)) ∙ held_back (s.common c))
       (λ (f : (is_common m.layout c ≡ false) × ((t : ℕ) × IsOver m.layout t c)). cc (e, f.0))
       (common_or_over m.layout c is)
   in_common c false e = sym (h.stores.of_common c e)
@@ -49,5 +55,6 @@ module _ (m : Monitored) (sound : IsSound m.layout) (may : AreActivations m.layo
   }
 
 -- so it represents these
-pub read_stands : (m : Monitored) → IsSound m.layout → AreActivations m.layout m.records → (s : Stores) × MonitorStandsFor m s → MonitorStandsFor m (stores_read m)
+pub read_stands : (m : Monitored) → IsSound m.layout → AreActivations m.layout m.records
+    → (s : Stores) × MonitorStandsFor m s → MonitorStandsFor m (stores_read m)
 read_stands m sound may (s, h) = subst (MonitorStandsFor m) (sym (read_same m sound may s h)) h

@@ -16,31 +16,48 @@ use Rattle.m51_shelf.specs.Writing.{StopsWithin}
 pub front_of_stop : (a b : Option (List ℕ)) (xs : List ℕ) → StopsWithin a b xs → AppendsFront a b xs
 front_of_stop a b xs q = (q.0, omega (arith, q.1), q.2)
 
-two_lines : (told : Entries) → flat_map entry_line (entries_of told) ≡ flat_map entry_line (option_to_list told.port) ++ flat_map entry_line (option_to_list told.sent)
+two_lines : (told : Entries) → flat_map entry_line (entries_of told) ≡ flat_map entry_line (option_to_list told.port)
+    ++ flat_map entry_line (option_to_list told.sent)
 two_lines told = flat_map-append entry_line (option_to_list told.port) (option_to_list told.sent)
 
 -- both lines are written
-pub both_written : (a b c : Option (List ℕ)) (told : Entries) → Appends a b (flat_map entry_line (option_to_list told.port)) → Appends b c (flat_map entry_line (option_to_list told.sent))
+pub both_written : (a b c : Option (List ℕ)) (told : Entries)
+    → Appends a b (flat_map entry_line (option_to_list told.port))
+    → Appends b c (flat_map entry_line (option_to_list told.sent))
     → Appends a c (flat_map entry_line (entries_of told))
 both_written a b c told p q = rw (two_lines told) (Appends-trans a b c _ _ p q)
 
 -- the first is cut
-pub first_cut : (a b : Option (List ℕ)) (told : Entries) → StopsWithin a b (flat_map entry_line (option_to_list told.port)) → StopsWithin a b (flat_map entry_line (entries_of told))
+pub first_cut : (a b : Option (List ℕ)) (told : Entries)
+    → StopsWithin a b (flat_map entry_line (option_to_list told.port))
+    → StopsWithin a b (flat_map entry_line (entries_of told))
 first_cut a b told q =
     let xs = flat_map entry_line (option_to_list told.port) in
     let ys = flat_map entry_line (option_to_list told.sent) in
-    rw (two_lines told) (q.0, omega (arith, length-append xs ys, q.1), rw (take-append-le q.0 xs ys (omega (arith, q.1))) q.2)
+    rw (two_lines told) (
+      q.0,
+      omega (arith, length-append xs ys, q.1),
+      rw (take-append-le q.0 xs ys (omega (arith, q.1))) q.2,
+    )
 
 -- the first is whole, and the second is cut
-pub second_cut : (a b c : Option (List ℕ)) (told : Entries) → Appends a b (flat_map entry_line (option_to_list told.port)) → StopsWithin b c (flat_map entry_line (option_to_list told.sent))
+pub second_cut : (a b c : Option (List ℕ)) (told : Entries)
+    → Appends a b (flat_map entry_line (option_to_list told.port))
+    → StopsWithin b c (flat_map entry_line (option_to_list told.sent))
     → StopsWithin a c (flat_map entry_line (entries_of told))
 second_cut a b c told p q =
     let xs = flat_map entry_line (option_to_list told.port) in
     let ys = flat_map entry_line (option_to_list told.sent) in
-    rw (two_lines told) (length xs + q.0, omega (arith, length-append xs ys, q.1), rw (take-append-add xs ys q.0) (Appends-trans a b c xs (take q.0 ys) p q.2))
+    rw (two_lines told) (
+      length xs + q.0,
+      omega (arith, length-append xs ys, q.1),
+      rw (take-append-add xs ys q.0) (Appends-trans a b c xs (take q.0 ys) p q.2),
+    )
 
 -- the same of what a call answers
-pub cut_on : {T E : Type 0} (r : Result T E) (a b c : Option (List ℕ)) (told : Entries) → Appends a b (flat_map entry_line (option_to_list told.port)) → OnErr r (StopsWithin b c (flat_map entry_line (option_to_list told.sent)))
+pub cut_on : {T E : Type 0} (r : Result T E) (a b c : Option (List ℕ)) (told : Entries)
+    → Appends a b (flat_map entry_line (option_to_list told.port))
+    → OnErr r (StopsWithin b c (flat_map entry_line (option_to_list told.sent)))
     → OnErr r (StopsWithin a c (flat_map entry_line (entries_of told)))
 cut_on (Ok x) a b c told p q = tt
 cut_on (Err e) a b c told p q = second_cut a b c told p q

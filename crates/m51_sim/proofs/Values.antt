@@ -15,7 +15,8 @@ use Rattle.m51_sim.specs.Boards.{map_of, value_of, values_of}
 pub same_map : (m k : CellMap) → ((n : ℕ) → m.ram n ≡ k.ram n) → ((n : ℕ) → m.xram n ≡ k.xram n) → m ≡ k
 same_map m k p q i = record { ram = λ n. p n i; xram = λ n. q n i }
 
-held_inside : (inside : Bool) (v : ℕ) → inside ≡ true → cond inside (Holds v) Absent ≡ Holds (value_of (cond inside (Holds v) Absent))
+held_inside : (inside : Bool) (v : ℕ) → inside ≡ true
+    → cond inside (Holds v) Absent ≡ Holds (value_of (cond inside (Holds v) Absent))
 held_inside true v e = refl
 held_inside false v e = absurd (cc e)
 
@@ -32,16 +33,20 @@ replaced_value None old = refl
 replaced_value (Some v) old = refl
 
 -- a put into memory is a put into its map
-pub put_map : (put : Put) (old new : FlatBytes) → flat_cells new ≡ states_after put (flat_cells old) → map_of new ≡ map_after put (map_of old)
+pub put_map : (put : Put) (old new : FlatBytes) → flat_cells new ≡ states_after put (flat_cells old)
+    → map_of new ≡ map_after put (map_of old)
 put_map put old new e =
-    ap values_of e ∙ same_map (values_of (states_after put (flat_cells old))) (map_after put (map_of old)) (λ n. replaced_value (ram_written put n) ((flat_cells old).ram n)) (λ n. replaced_value (xram_written put n) ((flat_cells old).xram n))
+    ap values_of e ∙ same_map (values_of (states_after put (flat_cells old))) (map_after put (map_of old))
+    (λ n. replaced_value (ram_written put n) ((flat_cells old).ram n))
+    (λ n. replaced_value (xram_written put n) ((flat_cells old).xram n))
 
 inside_value : (inside : Bool) (v : ℕ) → value_of (cond inside (Holds v) Absent) ≡ cond inside v 0
 inside_value true v = refl
 inside_value false v = refl
 
 -- memory with the fill everywhere has its map
-pub filled_of : (fill : ℕ) (memory : FlatBytes) → flat_cells memory ≡ filled_cells fill → map_of memory ≡ filled_map fill
+pub filled_of : (fill : ℕ) (memory : FlatBytes) → flat_cells memory ≡ filled_cells fill
+    → map_of memory ≡ filled_map fill
 filled_of fill memory e =
     ap values_of e
     ∙ same_map (values_of (filled_cells fill)) (filled_map fill)

@@ -19,7 +19,7 @@ ghost use Rattle.m51_sim.specs.SeparateMachine.{separate_machine};
 use crate::chip::{Chip, place};
 use crate::cycles::Timed;
 use crate::judging::{commit, judge, stand};
-use crate::runs::{Entries, RunEnd, Step, Steps, Told, count_run, run};
+use crate::runs::{Entries, RunEnd, Runnable, Step, Told, count_run, run};
 use m51_cells::{Event, NoMemory};
 use m51_flat::Effect;
 use m51_module::{Image, Layout, Placed, Tally};
@@ -256,7 +256,7 @@ fn advance_alone(
     advance(monitor, chip, effect, &[])
 }
 
-impl Steps for Board {
+impl Runnable for Board {
     ghost use Rattle.std.specs.Prelude.{ℕ, List};
     ghost use Rattle.m51_sim.specs.Boards.{Loaded, separate_of};
     ghost use Rattle.m51_sim.specs.Cycles.{inputs_of};

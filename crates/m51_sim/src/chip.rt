@@ -159,7 +159,7 @@ impl Chip {
     {
         let port = port_entry(self.passing.cycle, effect);
         self.passing.cpu = effect.cpu;
-        self.passing.periph = begun(self.passing.periph, effect);
+        begin_sending(&mut self.passing.periph, effect);
         self.passing.sent = None;
         pass_cycles(&self.script, extra, effect.cycles, &mut self.passing);
         Entries {
@@ -189,15 +189,14 @@ pub(crate) fn place() -> Effect {
     }
 }
 
-// The devices after a byte was written to SBUF, if one was.
-fn begun(periph: Periph, effect: &Effect) -> Periph
-    ensures { result ≡ written_to effect.now.cpu effect.now.sbuf periph }
+// Begins to send the byte that was written to SBUF, if one was.
+#[inline(always)]
+fn begin_sending(periph: &mut Periph, effect: &Effect)
+    ensures { periph.new ≡ written_to effect.now.cpu effect.now.sbuf periph.old }
 {
-    let mut periph = periph;
     if let Some(byte) = effect.sbuf {
         periph.begin(&effect.cpu, byte);
     }
-    periph
 }
 
 // The address of the latch of a port.

@@ -97,14 +97,17 @@ fn sent_in(cycle: u64, sent: Option<Sent>) -> Option<Entry>
     }
 }
 
-// The first of two, or if it is None the second.
+// Keeps the byte whose sending ends with this cycle, if none was sent before.
 #[inline(always)]
-fn first_sent(earlier: Option<Entry>, later: Option<Entry>) -> Option<Entry>
-    ensures { result ≡ first_sent earlier later }
+fn keep_sent(kept: &mut Option<Entry>, cycle: u64, sent: Option<Sent>)
+    ensures { kept.new ≡ first_sent kept.old (sent_in cycle sent) }
 {
-    match earlier {
-        None => later,
-        Some(_) => earlier,
+    match *kept {
+        Some(_) => {}
+        None => match sent {
+            None => {}
+            Some(_) => *kept = sent_in(cycle, sent),
+        },
     }
 }
 
@@ -142,7 +145,7 @@ fn pass_cycle(script: &Script, extra: &[Timed], passing: &mut Passing)
     let cycle = next_cycle(passing.cycle);
     let sent = tick(script, extra, cycle, &mut passing.cpu, &mut passing.periph);
     passing.cycle = cycle;
-    passing.sent = first_sent(passing.sent, sent_in(cycle, sent));
+    keep_sent(&mut passing.sent, cycle, sent);
 }
 
 // This number of machine cycles.

@@ -14,7 +14,7 @@ ghost use Rattle.m51_irq.specs.Vectoring.{vectoring};
 
 use crate::attempt::Attempt;
 use crate::chip::{Chip, idle, place};
-use crate::runs::{Entries, RunEnd, Steps, run};
+use crate::runs::{Entries, RunEnd, Runnable, run};
 use m51_cells::{Event, NoMemory};
 use m51_flat::{CellStore, Cpu, Effect, FlatRam, NoEffect, Put, Source, exec_into};
 use m51_irq::vector_into;
@@ -172,7 +172,7 @@ fn advance(chip: &mut Chip, memory: &mut FlatRam, effect: &mut Effect) -> Result
     }
 }
 
-impl Steps for FlatBoard {
+impl Runnable for FlatBoard {
     ghost use Rattle.std.specs.Prelude.{ℕ, List, []};
     ghost use Rattle.m51_flat.specs.Reads.{CellMap};
     ghost use Rattle.m51_sim.specs.Boards.{FlatLoaded, flat_of};

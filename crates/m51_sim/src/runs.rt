@@ -62,7 +62,7 @@ pub(crate) struct Entries {
 }
 
 // What is run: a machine over some memory, of which the state is at hand.
-pub(crate) trait Steps {
+pub(crate) trait Runnable {
     // The memory of its states.
     ghost Memory: { Type 0 };
 
@@ -93,7 +93,7 @@ pub(crate) trait Steps {
 }
 
 // At most `n` steps, with the lines of what they report and the last line.
-pub(crate) fn run<B: Steps, S: Sink>(board: &mut B, n: u32, out: &mut S) -> RunEnd
+pub(crate) fn run<B: Runnable, S: Sink>(board: &mut B, n: u32, out: &mut S) -> RunEnd
     ensures ended { Ended (S.state out.old).text (S.state out.new).text (titles_of (B.extents (B.fixed board.old)))
         (B.machine (B.fixed board.old)) n (B.state board.old) (B.state board.new) result }
     ensures fixed { B.fixed board.new ≡ B.fixed board.old }
@@ -137,7 +137,7 @@ fn count_of(told: Entries) -> u64
 }
 
 // The numbers of at most `n` steps.
-pub(crate) fn count_run<B: Steps>(board: &mut B, n: u32) -> Tally
+pub(crate) fn count_run<B: Runnable>(board: &mut B, n: u32) -> Tally
     ensures tally { result ≡ tally_of (record_of (B.machine (B.fixed board.old)) n (B.state board.old)) }
     ensures last { B.state board.new ≡ (record_of (B.machine (B.fixed board.old)) n (B.state board.old)).last }
     ensures fixed { B.fixed board.new ≡ B.fixed board.old }

@@ -1,10 +1,12 @@
 -- The whole run: what holds at the reset, and after each step.
-use Rattle.std.proofs.Common.{◌≡◌, ◌≤◌, ◌+◌, ℕ, Bool, true, false, not, List, length, refl, sym, ap, subst, ◌∙◌, arith, inl, inr, Some}
+use Rattle.std.proofs.Common.{◌≡◌, ◌≤◌, ◌+◌, ℕ, Bool, true, false, not, List, length, refl, sym, ap, subst, ◌∙◌, arith}
+use Rattle.std.proofs.Common.{inl, inr, Some}
 use Rattle.std.specs.Prelude.{◌&&◌, Result, Ok, Err}
 use Rattle.m51_cells.specs.declared.cell.Cell.{Cell}
 use Rattle.m51_cells.specs.declared.event.Event.{Event}
 use Rattle.m51_isa.specs.declared.instr.Flow.{Flow}
-use Rattle.m51_isa.specs.declared.instr.Flow.TheVariants.{Next as FlowNext, Branch, Call as FlowCall, Ret as FlowRet, Reti as FlowReti}
+use Rattle.m51_isa.specs.declared.instr.Flow.TheVariants.{Next as FlowNext, Branch, Call as FlowCall, Ret as FlowRet}
+use Rattle.m51_isa.specs.declared.instr.Flow.TheVariants.{Reti as FlowReti}
 use Rattle.m51_isa.specs.declared.instr.Instr.{Instr}
 use Rattle.m51_isa.specs.Table.{flow_of}
 use Rattle.m51_flat.specs.declared.state.Cpu.{Cpu}
@@ -70,7 +72,8 @@ pub record IsDone (cpu : Cpu) (instr : Instr) (e : Effect) : Type 0 where
   pub parity : HasParity e.cpu
   pub len : length e.cpu.regs ≡ 128
 
-module _ (l : LayoutParts) (image : List ℕ) (sound : IsSound l) (b : StackBound) (bounded : IsBound l image b) (few : b.total ≤ 255) where
+module _ (l : LayoutParts) (image : List ℕ) (sound : IsSound l) (b : StackBound) (bounded : IsBound l image b)
+    (few : b.total ≤ 255) where
   -- what holds between steps
   pub record InOrder (a : Records) (cpu : Cpu) : Type 0 where
     pub step : InStep l image sound b bounded few a cpu.pc (latch cpu sp)
@@ -81,62 +84,89 @@ module _ (l : LayoutParts) (image : List ℕ) (sound : IsSound l) (b : StackBoun
   pub two_levels : (a : Records) (cpu : Cpu) → InOrder a cpu → interrupts a.returns ≤ 2
   two_levels a cpu h = let k = few_levels cpu.low cpu.high in omega (arith, k, h.counted)
 
-  module _ (a : Records) (cpu : Cpu) (h : InOrder a cpu) (instr : Instr) (at : instruction l image cpu.pc ≡ Some instr) (e : Effect) (step : Move) (is : Ok step ≡ judged l a cpu e (unit_found l e.cpu.pc) (root_found l e.transfer)) where
-    abbrev After : Type 0
-    After = InStep l image sound b bounded few (moved a e step) e.cpu.pc (latch e.cpu sp)
+  module _ (a : Records) (cpu : Cpu) (h : InOrder a cpu) (instr : Instr) (at : instruction l image cpu.pc ≡ Some instr)
+      (e : Effect) (step : Move) (is : Ok step ≡ judged l a cpu e (unit_found l e.cpu.pc) (root_found l e.transfer))
+    where
+      abbrev After : Type 0
+      After = InStep l image sound b bounded few (moved a e step) e.cpu.pc (latch e.cpu sp)
 
-    abbrev Counted : Type 0
-    Counted = interrupts (moved a e step).returns ≡ length (levels e.cpu)
+      abbrev Counted : Type 0
+      Counted = interrupts (moved a e step).returns ≡ length (levels e.cpu)
 
-    abbrev count : interrupts a.returns ≤ 2
-    count = two_levels a cpu h
+      abbrev count : interrupts a.returns ≤ 2
+      count = two_levels a cpu h
 
-    -- the count of interrupts, by the flow of the instruction
-    counted : (f : Flow) (w : Bool) → Follows f (next_address cpu instr) (latch cpu sp) e → LevelsFollow f w cpu e → Counted
-    counted FlowNext w k v = run.count_next l image sound b bounded few a cpu h.step count instr at e step is k.0 (same_levels w cpu e v) h.counted
-    counted Branch w (inl g) v = run.count_next l image sound b bounded few a cpu h.step count instr at e step is g.0 (same_levels w cpu e v) h.counted
-    counted Branch w (inr j) v = run.count_jump l image sound b bounded few a cpu h.step count instr at e step is j (same_levels w cpu e v) h.counted
-    counted FlowCall w k v = run.count_call l image sound b bounded few a cpu h.step count instr at e step is k.transfer (same_levels w cpu e v) h.counted
-    counted FlowRet w k v = run.count_ret l image sound b bounded few a cpu h.step count instr at e step is k.transfer (same_levels w cpu e v) h.counted
-    counted FlowReti w k v = run.count_reti l image sound b bounded few a cpu h.step count instr at e step is k.transfer (ended_levels cpu e v) h.counted
+      -- the count of interrupts, by the flow of the instruction
+      counted : (f : Flow) (w : Bool) → Follows f (next_address cpu instr) (latch cpu sp) e → LevelsFollow f w cpu e
+          → Counted
+      counted FlowNext w k v = run.count_next l image sound b bounded few a cpu h.step count instr at e step is k.0
+          (same_levels w cpu e v) h.counted
+      counted Branch w (inl g) v = run.count_next l image sound b bounded few a cpu h.step count instr at e step is g.0
+          (same_levels w cpu e v) h.counted
+      counted Branch w (inr j) v =
+          run.count_jump l image sound b bounded few a cpu h.step count instr at e step is j (same_levels w cpu e v)
+          h.counted
+      counted FlowCall w k v =
+          run.count_call l image sound b bounded few a cpu h.step count instr at e step is k.transfer
+          (same_levels w cpu e v) h.counted
+      counted FlowRet w k v = run.count_ret l image sound b bounded few a cpu h.step count instr at e step is k.transfer
+          (same_levels w cpu e v) h.counted
+      counted FlowReti w k v =
+          run.count_reti l image sound b bounded few a cpu h.step count instr at e step is k.transfer
+          (ended_levels cpu e v) h.counted
 
-    -- where control continues with the next instruction or jumps
-    goes : is_return instr ≡ false → is_call instr ≡ false → (is_jump instr ≡ true → e.transfer ≡ Jump) → Leads (next_address cpu instr) (instr_top instr (latch cpu sp)) (target_of instr (next_address cpu instr)) e → After
-    goes ret call jumps k = elim k.goes as (λ _. After) [
-      | inr j ↦ run.by_jump l image sound b bounded few a cpu h.step count instr at e step is ret call j.0 j.1 k.stack
-      | inl n ↦ on (is_jump instr) refl n.0 n.1
-    ]
-      where
-        on : (x : Bool) → is_jump instr ≡ x → e.transfer ≡ Next → e.cpu.pc ≡ next_address cpu instr → After
-        on false jump t pc = run.by_next l image sound b bounded few a cpu h.step count instr at e step is ret call jump t pc k.stack
-        on true jump t pc = absurd (cc (t, jumps jump))
+      -- where control continues with the next instruction or jumps
+      goes : is_return instr ≡ false → is_call instr ≡ false → (is_jump instr ≡ true → e.transfer ≡ Jump)
+          → Leads (next_address cpu instr) (instr_top instr (latch cpu sp)) (target_of instr (next_address cpu instr)) e
+          → After
+      goes ret call jumps k = elim k.goes as (λ _. After) [
+        | inr j ↦ run.by_jump l image sound b bounded few a cpu h.step count instr at e step is ret call j.0 j.1 k.stack
+        | inl n ↦ on (is_jump instr) refl n.0 n.1
+      ]
+        where
+          on : (x : Bool) → is_jump instr ≡ x → e.transfer ≡ Next → e.cpu.pc ≡ next_address cpu instr → After
+          on false jump t pc = run.by_next l image sound b bounded few a cpu h.step count instr at e step is ret call
+              jump
+              t pc k.stack
+          on true jump t pc = absurd (cc (t, jumps jump))
 
-    module _ (cells : States) (barred : Cell → Bool) (ext : Pins) (done : outcome_of cpu cells barred instr image ext ≡ outcome.Done e) where
-      control : Follows (flow_of instr) (next_address cpu instr) (latch cpu sp) e
-      control = subst (λ o. IfDone o (λ e. Follows (flow_of instr) (next_address cpu instr) (latch cpu sp) e)) done (outcome_control cpu cells barred instr image ext h.len)
+      module _ (cells : States) (barred : Cell → Bool) (ext : Pins)
+          (done : outcome_of cpu cells barred instr image ext ≡ outcome.Done e) where
+        control : Follows (flow_of instr) (next_address cpu instr) (latch cpu sp) e
+        control = subst (λ o. IfDone o (λ e. Follows (flow_of instr) (next_address cpu instr) (latch cpu sp) e)) done
+            (outcome_control cpu cells barred instr image ext h.len)
 
-      by_kind : (ret call : Bool) → is_return instr ≡ ret → is_call instr ≡ call → After
-      by_kind true call r c = run.by_return l image sound b bounded few a cpu h.step count instr at e step is (instr_returns cpu instr e r control)
-      by_kind false true r c =
-          let k = done_fact (λ e. Calls cpu instr image ext h.len e) cpu cells barred instr image ext e (instr_calls cpu instr image ext h.len c) done in
-          run.by_call l image sound b bounded few a cpu h.step count instr at e step is c k.call k.target
-      by_kind false false r c =
-          let computed = computed_none l image sound b bounded few a cpu.pc (latch cpu sp) h.step count instr at in
-          let spoiled = spoiled_none l image sound b bounded few a cpu.pc (latch cpu sp) h.step count instr at in
-          let leads = done_fact (λ e. Leads (next_address cpu instr) (instr_top instr (latch cpu sp)) (target_of instr (next_address cpu instr)) e) cpu cells barred instr image ext e
-          (instr_leads cpu instr image ext h.len spoiled (rw (r, c, computed) refl)) done in
-          goes r c (λ j. done_fact (λ e. e.transfer ≡ Jump) cpu cells barred instr image ext e (instr_jumps cpu instr image ext j) done) leads
+        by_kind : (ret call : Bool) → is_return instr ≡ ret → is_call instr ≡ call → After
+        by_kind true call r c =
+            run.by_return l image sound b bounded few a cpu h.step count instr at e step is
+            (instr_returns cpu instr e r control)
+        by_kind false true r c =
+            let k = done_fact (λ e. Calls cpu instr image ext h.len e) cpu cells barred instr image ext e
+            (instr_calls cpu instr image ext h.len c) done in
+            run.by_call l image sound b bounded few a cpu h.step count instr at e step is c k.call k.target
+        by_kind false false r c =
+            let computed = computed_none l image sound b bounded few a cpu.pc (latch cpu sp) h.step count instr at in
+            let spoiled = spoiled_none l image sound b bounded few a cpu.pc (latch cpu sp) h.step count instr at in
+            let leads = done_fact
+            (λ e. Leads (next_address cpu instr) (instr_top instr (latch cpu sp))
+            (target_of instr (next_address cpu instr)) e) cpu cells barred instr image ext e
+            (instr_leads cpu instr image ext h.len spoiled (rw (r, c, computed) refl)) done in
+            goes r c (λ j. done_fact (λ e. e.transfer ≡ Jump) cpu cells barred instr image ext e
+            (instr_jumps cpu instr image ext j) done) leads
 
-      pub instr_in_order : length e.cpu.regs ≡ 128 → InOrder (moved a e step) e.cpu
-      instr_in_order len = record {
-        step = by_kind (is_return instr) (is_call instr) refl refl;
-        counted = counted (flow_of instr) (writes_ie_or_ip cpu instr) control
-            (done_fact (λ e. LevelsFollow (flow_of instr) (writes_ie_or_ip cpu instr) cpu e) cpu cells barred instr image ext e (levels_are_kept cpu instr image ext) done);
-        len = len;
-        parity = subst (λ o. IfDone o (λ e. HasParity e.cpu)) done (outcome_parity cpu cells barred instr image ext h.len h.parity);
-      }
+        pub instr_in_order : length e.cpu.regs ≡ 128 → InOrder (moved a e step) e.cpu
+        instr_in_order len = record {
+          step = by_kind (is_return instr) (is_call instr) refl refl;
+          counted = counted (flow_of instr) (writes_ie_or_ip cpu instr) control
+              (done_fact (λ e. LevelsFollow (flow_of instr) (writes_ie_or_ip cpu instr) cpu e) cpu cells barred instr
+              image ext e (levels_are_kept cpu instr image ext) done);
+          len = len;
+          parity = subst (λ o. IfDone o (λ e. HasParity e.cpu)) done
+              (outcome_parity cpu cells barred instr image ext h.len h.parity);
+        }
 
-pub plan_len : (cpu : Cpu) (instr : Instr) (image : List ℕ) (ext : Pins) → length cpu.regs ≡ 128 → HasParity cpu → Always (λ e. IsRight e.cpu) (plan_of cpu instr image ext)
+pub plan_len : (cpu : Cpu) (instr : Instr) (image : List ℕ) (ext : Pins) → length cpu.regs ≡ 128 → HasParity cpu
+    → Always (λ e. IsRight e.cpu) (plan_of cpu instr image ext)
 plan_len cpu instr image ext len parity =
     let r = right_of cpu len parity in
     plan_right image ext (started cpu instr) (action_of instr) (record { len = r.len; parity = r.parity })
@@ -150,22 +180,26 @@ pub record IsJudged (l : LayoutParts) (m : Separate) (cpu : Cpu) (o : Outcome) (
   pub done : o ≡ outcome.Done e
   pub judged_is : Ok step ≡ judged l m.records cpu e (unit_found l e.cpu.pc) (root_found l e.transfer)
 
-judged_by : (l : LayoutParts) (m : Separate) (cpu : Cpu) (e : Effect) (r : Result Move Event) (x : Held l m) → judge_of l m.records cpu e ≡ r → with_move e r ≡ Ok x → IsJudged l m cpu (outcome.Done e) x.effect x.step
+judged_by : (l : LayoutParts) (m : Separate) (cpu : Cpu) (e : Effect) (r : Result Move Event) (x : Held l m)
+    → judge_of l m.records cpu e ≡ r → with_move e r ≡ Ok x → IsJudged l m cpu (outcome.Done e) x.effect x.step
 judged_by l m cpu e (Ok step) x is h =
     let same : x ≡ record { effect = e; step = step } = cc h in
     subst (λ (y : Held l m). IsJudged l m cpu (outcome.Done e) y.effect y.step) (sym same) (record {
       done = refl;
-      judged_is = event_ok cpu.pc e.cpu.pc (judged l m.records cpu e (unit_found l e.cpu.pc) (root_found l e.transfer)) step is;
+      judged_is = event_ok cpu.pc e.cpu.pc (judged l m.records cpu e (unit_found l e.cpu.pc) (root_found l e.transfer))
+          step is;
     })
 judged_by l m cpu e (Err event) x is h = absurd (cc h)
 
-pub judged_of : (l : LayoutParts) (m : Separate) (cpu : Cpu) (o : Outcome) (x : Held l m) → concludes l m cpu o ≡ Ok x → IsJudged l m cpu o x.effect x.step
+pub judged_of : (l : LayoutParts) (m : Separate) (cpu : Cpu) (o : Outcome) (x : Held l m) → concludes l m cpu o ≡ Ok x
+    → IsJudged l m cpu o x.effect x.step
 judged_of l m cpu (outcome.Done e) x h = judged_by l m cpu e (judge_of l m.records cpu e) x refl h
 judged_of l m cpu (outcome.Outside c) x h = absurd (cc h)
 judged_of l m cpu (outcome.Unset c) x h = absurd (cc h)
 judged_of l m cpu outcome.PowerDown x h = absurd (cc h)
 
-added_low : (low high : Bool) → (not low && not high) ≡ true → length (in_progress true high) ≡ length (in_progress low high) + 1
+added_low : (low high : Bool) → (not low && not high) ≡ true
+    → length (in_progress true high) ≡ length (in_progress low high) + 1
 added_low false false h = refl
 added_low false true h = absurd (cc h)
 added_low true high h = absurd (cc h)
@@ -176,7 +210,8 @@ added_high true false h = refl
 added_high low true h = absurd (cc h)
 
 -- a level that is entered is one more
-level_added : (level : Level) (cpu c : Cpu) → c.low ≡ cpu.low → c.high ≡ cpu.high → is_allowed cpu level ≡ true → length (levels (entered level c)) ≡ length (levels cpu) + 1
+level_added : (level : Level) (cpu c : Cpu) → c.low ≡ cpu.low → c.high ≡ cpu.high → is_allowed cpu level ≡ true
+    → length (levels (entered level c)) ≡ length (levels cpu) + 1
 level_added Low cpu c low high h = ap (λ b. length (in_progress true b)) high ∙ added_low cpu.low cpu.high h
 level_added High cpu c low high h = ap (λ b. length (in_progress b true)) low ∙ added_high cpu.low cpu.high h
 
@@ -187,22 +222,30 @@ pub record IsVectored (cpu : Cpu) (s : Source) (e : Effect) : Type 0 where
   pub counted : length (levels e.cpu) ≡ length (levels cpu) + 1
   pub parity : HasParity e.cpu
 
-vectored_levels : (cpu : Cpu) (s : Source) → length cpu.regs ≡ 128 → (length (vectoring cpu s).cpu.regs ≡ 128) × (levels (vectoring cpu s).cpu ≡ levels (acknowledged s cpu))
+vectored_levels : (cpu : Cpu) (s : Source) → length cpu.regs ≡ 128
+    → (length (vectoring cpu s).cpu.regs ≡ 128) × (levels (vectoring cpu s).cpu ≡ levels (acknowledged s cpu))
 unfolding vectoring
 vectored_levels cpu s len =
     let e = interrupted cpu s in
-    let on_stack : IsStacked e (stacked e) = pc_is_stacked e (acknowledged_kept s cpu len).len in
-    (on_stack.registers, ap (λ b. in_progress b (stacked e).cpu.high) on_stack.control.low ∙ ap (λ b. in_progress (acknowledged s cpu).low b) on_stack.control.high)
+    let on_stack : IsStacked e (stacked e) = pc_is_stacked e (acknowledged_kept s cpu len).len in (
+      on_stack.registers,
+      ap (λ b. in_progress b (stacked e).cpu.high) on_stack.control.low
+          ∙ ap (λ b. in_progress (acknowledged s cpu).low b) on_stack.control.high,
+    )
 
-pub vectored_is : (cpu : Cpu) (barred : Cell → Bool) (s : Source) (e : Effect) → length cpu.regs ≡ 128 → HasParity cpu → chosen cpu ≡ Some s → vectored cpu barred s ≡ outcome.Done e → IsVectored cpu s e
+pub vectored_is : (cpu : Cpu) (barred : Cell → Bool) (s : Source) (e : Effect) → length cpu.regs ≡ 128 → HasParity cpu
+    → chosen cpu ≡ Some s → vectored cpu barred s ≡ outcome.Done e → IsVectored cpu s e
 vectored_is cpu barred s e len parity taken h =
-    let same = vectored_done (shut_of barred (vectoring cpu s).first) (shut_of barred (vectoring cpu s).second) (vectoring cpu s) e h in
+    let same = vectored_done (shut_of barred (vectoring cpu s).first) (shut_of barred (vectoring cpu s).second)
+    (vectoring cpu s) e h in
     let k = vectored_levels cpu s len in
     let before = shape_before s cpu in
-    let more = level_added (level_of cpu s) cpu (with_flag (cleared s cpu) pcon idl false) before.low before.high (is_taken cpu s taken).ready.allowed in
+    let more = level_added (level_of cpu s) cpu (with_flag (cleared s cpu) pcon idl false) before.low before.high
+    (is_taken cpu s taken).ready.allowed in
     record {
       by = subst (λ o. IfDone o (IsVectoring cpu s)) h (vector_control (vectored cpu barred s) cpu barred s refl len);
       len = subst (λ (f : Effect). length f.cpu.regs ≡ 128) same k.0;
       counted = subst (λ (f : Effect). length (levels f.cpu) ≡ length (levels cpu) + 1) same (ap length k.1 ∙ more);
-      parity = subst (λ o. IfDone o (λ e. HasParity e.cpu)) h (vector_parity (vectored cpu barred s) cpu barred s refl len parity);
+      parity = subst (λ o. IfDone o (λ e. HasParity e.cpu)) h
+          (vector_parity (vectored cpu barred s) cpu barred s refl len parity);
     }

@@ -1,10 +1,12 @@
 -- What the table allows, read backwards.
-use Rattle.std.proofs.Common.{◌≡◌, ℕ, Bool, true, false, not, List, [], ◌∷◌, refl, sym, ap, ◌⊎◌, inl, inr, Option, Some, None}
+use Rattle.std.proofs.Common.{◌≡◌, ℕ, Bool, true, false, not, List, [], ◌∷◌, refl, sym, ap, ◌⊎◌, inl, inr, Option, Some}
+use Rattle.std.proofs.Common.{None}
 use Rattle.std.specs.Prelude.{if◌then◌else◌, nat_eq, Result, Ok, Err}
 use Rattle.std.proofs.lemmas.Bool.{eqb-true, not-false}
 use Rattle.m51_cells.specs.declared.event.Event.{Event}
 use Rattle.m51_cells.specs.declared.event.Why.{Why}
-use Rattle.m51_cells.specs.declared.event.Why.TheVariants.{NoEdge, NotCalled, WrongAddress, SpMoved, SpBelow, RootBusy, PastEnd}
+use Rattle.m51_cells.specs.declared.event.Why.TheVariants.{NoEdge, NotCalled, WrongAddress, SpMoved, SpBelow, RootBusy}
+use Rattle.m51_cells.specs.declared.event.Why.TheVariants.{PastEnd}
 use Rattle.m51_flat.specs.declared.state.Source.{Source}
 use Rattle.m51_flat.specs.Vectors.{vector_of}
 use Rattle.m51_module.specs.declared.parts.LayoutParts.{LayoutParts}
@@ -13,11 +15,13 @@ use Rattle.m51_module.proofs.EdgeTests.{edge_from_test}
 use Rattle.m51_monitor.specs.declared.step.Move.{Move}
 use Rattle.m51_monitor.specs.declared.step.Move.TheVariants.{Stay, Return, Interrupt as InterruptTo}
 use Rattle.m51_monitor.specs.Records.{ReturnRecord, Records, first_or, named_over}
-use Rattle.m51_monitor.specs.Transfers.{as_event, interrupts_to, is_at, is_busy, is_by, jump_or_call, move_to, return_move, returns_to, unless, within}
+use Rattle.m51_monitor.specs.Transfers.{as_event, interrupts_to, is_at, is_busy, is_by, jump_or_call, move_to}
+use Rattle.m51_monitor.specs.Transfers.{return_move, returns_to, unless, within}
 use Rattle.m51_monitor.proofs.Moving.{ok_is, unless_ok}
 
 -- the move is no event
-pub event_ok : (from to : ℕ) (r : Result Move Why) (step : Move) → ◌≡◌ {A = Result Move Event} (as_event from to r) (Ok step) → Ok step ≡ r
+pub event_ok : (from to : ℕ) (r : Result Move Why) (step : Move)
+    → ◌≡◌ {A = Result Move Event} (as_event from to r) (Ok step) → Ok step ≡ r
 event_ok from to (Ok other) step h = let same : other ≡ step = cc h in ap Ok (sym same)
 event_ok from to (Err why) step h = absurd (cc h)
 
@@ -27,19 +31,32 @@ pub record Way (l : LayoutParts) (from : ℕ) (call : Bool) (at : Option ℕ) (s
   pub found : at ≡ Some unit
   pub way : ((from ≡ unit) × (step ≡ within call)) ⊎ (HasEdge l.edges from unit × (step ≡ move_to call unit))
 
-way_by : (l : LayoutParts) (from : ℕ) (low call : Bool) (u : ℕ) (at : Option ℕ) (step : Move) (same : Bool) → nat_eq u from ≡ same → at ≡ Some u
-    → Ok step ≡ (if same then unless low SpBelow (Ok (within call)) else unless (not (has_edge l.edges from u)) NoEdge (unless low SpBelow (Ok (move_to call u)))) → Way l from call at step
+way_by : (l : LayoutParts) (from : ℕ) (low call : Bool) (u : ℕ) (at : Option ℕ) (step : Move) (same : Bool)
+    → nat_eq u from ≡ same → at ≡ Some u
+    → Ok step ≡ (if same then unless low SpBelow (Ok (within call)) else unless (not (has_edge l.edges from u)) NoEdge
+    (unless low SpBelow (Ok (move_to call u)))) → Way l from call at step
 way_by l from low call u at step true e is k =
-    record { unit = u; found = is; way = inl (sym (eqb-true u from e), ok_is step (within call) (unless_ok low SpBelow (Ok (within call)) step k).1) }
+    record {
+      unit = u;
+      found = is;
+      way = inl (
+        sym (eqb-true u from e),
+        ok_is step (within call) (unless_ok low SpBelow (Ok (within call)) step k).1,
+      );
+    }
 way_by l from low call u at step false e is k =
     let p = unless_ok (not (has_edge l.edges from u)) NoEdge (unless low SpBelow (Ok (move_to call u))) step k in
     record {
       unit = u;
       found = is;
-      way = inr (edge_from_test l.edges from u (not-false (has_edge l.edges from u) p.0), ok_is step (move_to call u) (unless_ok low SpBelow (Ok (move_to call u)) step p.1).1);
+      way = inr (
+        edge_from_test l.edges from u (not-false (has_edge l.edges from u) p.0),
+        ok_is step (move_to call u) (unless_ok low SpBelow (Ok (move_to call u)) step p.1).1,
+      );
     }
 
-pub way_of : (l : LayoutParts) (from : ℕ) (low call : Bool) (at o : Option ℕ) (step : Move) → at ≡ o → Ok step ≡ jump_or_call l from low call o → Way l from call at step
+pub way_of : (l : LayoutParts) (from : ℕ) (low call : Bool) (at o : Option ℕ) (step : Move) → at ≡ o
+    → Ok step ≡ jump_or_call l from low call o → Way l from call at step
 way_of l from low call at None step is k = absurd (cc k)
 way_of l from low call at (Some u) step is k = way_by l from low call u at step (nat_eq u from) refl is k
 
@@ -48,13 +65,18 @@ pub record StaysIn (from : ℕ) (at : Option ℕ) (step : Move) : Type 0 where
   pub inside : is_at at from ≡ true
   pub step_is : step ≡ Stay
 
-pub stays_in : (from : ℕ) (low : Bool) (at : Option ℕ) (step : Move) → Ok step ≡ unless (not (is_at at from)) PastEnd (unless low SpBelow (Ok Stay)) → StaysIn from at step
+pub stays_in : (from : ℕ) (low : Bool) (at : Option ℕ) (step : Move)
+    → Ok step ≡ unless (not (is_at at from)) PastEnd (unless low SpBelow (Ok Stay)) → StaysIn from at step
 stays_in from low at step k =
     let p = unless_ok (not (is_at at from)) PastEnd (unless low SpBelow (Ok Stay)) step k in
-    record { inside = not-false (is_at at from) p.0; step_is = ok_is step Stay (unless_ok low SpBelow (Ok Stay) step p.1).1 }
+    record {
+      inside = not-false (is_at at from) p.0;
+      step_is = ok_is step Stay (unless_ok low SpBelow (Ok Stay) step p.1).1;
+    }
 
 -- control goes back to where the topmost record says
-pub record GoesBack (reset : List ℕ) (returns : List ReturnRecord) (call : Bool) (top to : ℕ) (at : Option ℕ) (step : Move) : Type 0 where
+pub record GoesBack (reset : List ℕ) (returns : List ReturnRecord) (call : Bool) (top to : ℕ) (at : Option ℕ)
+    (step : Move) : Type 0 where
   pub r : ReturnRecord
   pub rs : List ReturnRecord
   pub are : returns ≡ r ∷ rs
@@ -64,13 +86,17 @@ pub record GoesBack (reset : List ℕ) (returns : List ReturnRecord) (call : Boo
   pub inside : is_at at (first_or (named_over reset rs) 0) ≡ true
   pub step_is : step ≡ Return
 
-pub goes_back : (reset : List ℕ) (returns rs : List ReturnRecord) (call : Bool) (top to : ℕ) (at : Option ℕ) (step : Move) → returns ≡ rs → Ok step ≡ return_move reset rs call top to at → GoesBack reset returns call top to at step
+pub goes_back : (reset : List ℕ) (returns rs : List ReturnRecord) (call : Bool) (top to : ℕ) (at : Option ℕ)
+    (step : Move) → returns ≡ rs → Ok step ≡ return_move reset rs call top to at
+    → GoesBack reset returns call top to at step
 goes_back reset returns [] call top to at step are k = absurd (cc k)
 goes_back reset returns (r ∷ rs) call top to at step are k =
     let inside = is_at at (first_or (named_over reset rs) 0) in
     let o = unless_ok (not (is_by call r.cause)) NotCalled (returns_to r.sp r.return_address top to inside) step k in
-    let p = unless_ok (not (nat_eq top r.sp)) SpMoved (unless (not (nat_eq to r.return_address)) WrongAddress (unless (not inside) PastEnd (Ok Return))) step o.1 in
-    let q = unless_ok (not (nat_eq to r.return_address)) WrongAddress (unless (not inside) PastEnd (Ok Return)) step p.1 in
+    let p = unless_ok (not (nat_eq top r.sp)) SpMoved
+    (unless (not (nat_eq to r.return_address)) WrongAddress (unless (not inside) PastEnd (Ok Return))) step o.1 in
+    let q = unless_ok (not (nat_eq to r.return_address)) WrongAddress (unless (not inside) PastEnd (Ok Return)) step
+    p.1 in
     let s = unless_ok (not inside) PastEnd (Ok Return) step q.1 in
     record {
       r = r;
@@ -89,8 +115,14 @@ pub record Begins (source : Source) (root : Option ℕ) (step : Move) : Type 0 w
   pub found : root ≡ Some unit
   pub step_is : step ≡ InterruptTo source unit
 
-pub begins_at : (a : Records) (source : Source) (low : Bool) (root o : Option ℕ) (step : Move) → root ≡ o → Ok step ≡ interrupts_to a source low o → Begins source root step
+pub begins_at : (a : Records) (source : Source) (low : Bool) (root o : Option ℕ) (step : Move) → root ≡ o
+    → Ok step ≡ interrupts_to a source low o → Begins source root step
 begins_at a source low root None step is k = absurd (cc k)
 begins_at a source low root (Some u) step is k =
-    let p = unless_ok (is_busy a.returns (vector_of source)) RootBusy (unless low SpBelow (Ok (InterruptTo source u))) step k in
-    record { unit = u; found = is; step_is = ok_is step (InterruptTo source u) (unless_ok low SpBelow (Ok (InterruptTo source u)) step p.1).1 }
+    let p = unless_ok (is_busy a.returns (vector_of source)) RootBusy (unless low SpBelow (Ok (InterruptTo source u)))
+    step k in
+    record {
+      unit = u;
+      found = is;
+      step_is = ok_is step (InterruptTo source u) (unless_ok low SpBelow (Ok (InterruptTo source u)) step p.1).1;
+    }

@@ -1,5 +1,6 @@
 -- The same notions in the words of the machine and of the bound: units at addresses, instructions, bytes inside.
-use Rattle.std.proofs.Common.{◌≡◌, ◌≤◌, ◌+◌, ◌%◌, ◌-◌, ℕ, zero, suc, Bool, true, false, List, [], ◌++◌, refl, sym, ap, subst, ◌∙◌, arith, ◌⊎◌, inl, inr, Option, Some, None}
+use Rattle.std.proofs.Common.{◌≡◌, ◌≤◌, ◌+◌, ◌%◌, ◌-◌, ℕ, zero, suc, Bool, true, false, List, [], ◌++◌, refl, sym, ap}
+use Rattle.std.proofs.Common.{subst, ◌∙◌, arith, ◌⊎◌, inl, inr, Option, Some, None}
 use Rattle.std.specs.Prelude.{◌&&◌, ◌||◌, IfSome, if◌then◌else◌, is_some, nat_eq}
 use Rattle.std.specs.Option.{unwrap_or}
 use Rattle.std.specs.List.{Contains}
@@ -28,8 +29,11 @@ use Rattle.m51_sim.specs.SeparateMachine as separate
 use Rattle.m51_sim.proofs.Agreeing.{if_some}
 use Rattle.m51_stackbound.specs.declared.point.Point.{Point}
 use Rattle.m51_stackbound.specs.Instructions.{instr_at, is_call, is_jump, next_of, sets_sp, target_of, writes_sp}
-use Rattle.m51_stackbound.specs.Points.{after_call, after_instr, at_next, at_target, call_by, call_of, called, ends_at, entry_at, follow, follow_by, height_after, if_inside, instruction, point_at, successors}
-use Rattle.m51_stackbound.specs.Units.{counts, handlers, in_one_unit, interrupts, joined, lie_inside, root_of, same, unit_of}
+use Rattle.m51_stackbound.specs.Points.{after_call, after_instr, at_next, at_target, call_by, call_of, called, ends_at}
+use Rattle.m51_stackbound.specs.Points.{entry_at, follow, follow_by, height_after, if_inside, instruction, point_at}
+use Rattle.m51_stackbound.specs.Points.{successors}
+use Rattle.m51_stackbound.specs.Units.{counts, handlers, in_one_unit, interrupts, joined, lie_inside, root_of, same}
+use Rattle.m51_stackbound.specs.Units.{unit_of}
 use Rattle.m51_stackbound.proofs.Finding.{root_found as root_there, root_is, unit_is}
 use Rattle.m51_stackbound.proofs.Inside.{interrupt_is_vector}
 use Rattle.m51_stackbound.proofs.Raised.{call_goes}
@@ -43,19 +47,23 @@ module _ (l : LayoutParts) (sound : IsSound l) where
 
   pub in_one : (from to u : ℕ) → IsUnitAt l from u → IsUnitAt l to u → in_one_unit l from to ≡ true
   unfolding in_one_unit
-  in_one from to u h k = ap (λ o. same o (unit_of l to)) (unit_at from u h) ∙ (ap (λ o. same (Some u) o) (unit_at to u k) ∙ eq-eqb u u refl)
+  in_one from to u h k = ap (λ o. same o (unit_of l to)) (unit_at from u h)
+      ∙ (ap (λ o. same (Some u) o) (unit_at to u k) ∙ eq-eqb u u refl)
 
   or_holds : (a b : Bool) → (a ≡ true) ⊎ (b ≡ true) → (a || b) ≡ true
   or_holds true b h = refl
   or_holds false b (inl e) = absurd (cc e)
   or_holds false b (inr e) = e
 
-  pub target_counts : (from to u v : ℕ) → IsUnitAt l from u → IsUnitAt l to v → (u ≡ v) ⊎ HasEdge l.edges u v → counts l from to ≡ true
+  pub target_counts : (from to u v : ℕ) → IsUnitAt l from u → IsUnitAt l to v → (u ≡ v) ⊎ HasEdge l.edges u v
+      → counts l from to ≡ true
   unfolding counts
   target_counts from to u v h k way =
       ap (λ o. joined l.edges o (unit_of l to)) (unit_at from u h)
       ∙ (ap (λ o. joined l.edges (Some u) o) (unit_at to v k)
-      ∙ or_holds (nat_eq u v) (has_edge l.edges u v) (elim way as (λ _. (nat_eq u v ≡ true) ⊎ (has_edge l.edges u v ≡ true)) [ inl e ↦ inl (eq-eqb u v e) | inr edge ↦ inr (test_from_edge l.edges u v edge) ]))
+      ∙ or_holds (nat_eq u v) (has_edge l.edges u v)
+      (elim way as (λ _. (nat_eq u v ≡ true) ⊎ (has_edge l.edges u v ≡ true))
+      [ inl e ↦ inl (eq-eqb u v e) | inr edge ↦ inr (test_from_edge l.edges u v edge) ]))
 
   pub found_unit : (address unit : ℕ) → is_at (unit_found l address) unit ≡ true → IsUnitAt l address unit
   found_unit address unit h = by (unit_found l address) (unit_found_is l address) h
@@ -68,21 +76,27 @@ module _ (l : LayoutParts) (sound : IsSound l) where
   both true b h k = k
   both false b h k = absurd (cc h)
 
-  bytes_inside : (unit pc count : ℕ) → IsUnitAt l pc unit → separate.lie_inside l unit pc count ≡ true → lie_inside l pc count ≡ true
+  bytes_inside : (unit pc count : ℕ) → IsUnitAt l pc unit → separate.lie_inside l unit pc count ≡ true
+      → lie_inside l pc count ≡ true
   bytes_inside unit pc zero at h = refl
   bytes_inside unit pc (suc count) at h =
-      let parts = and_parts (separate.lie_inside l unit pc count) (is_at (unit_found l ((pc + count) % 65536)) unit) h in
-      both (lie_inside l pc count) (in_one_unit l pc ((pc + count) % 65536)) (bytes_inside unit pc count at parts.0) (in_one pc ((pc + count) % 65536) unit at (found_unit ((pc + count) % 65536) unit parts.1))
+      let parts = and_parts (separate.lie_inside l unit pc count) (is_at (unit_found l ((pc + count) % 65536)) unit)
+      h in
+      both (lie_inside l pc count) (in_one_unit l pc ((pc + count) % 65536)) (bytes_inside unit pc count at parts.0)
+      (in_one pc ((pc + count) % 65536) unit at (found_unit ((pc + count) % 65536) unit parts.1))
 
   same_instr : (image : List ℕ) (at : ℕ) → machine.instr_at image at ≡ instr_at image at
   unfolding machine.instr_at instr_at
   same_instr image at = refl
 
   -- the instruction that the machine performs is one of the bound
-  pub instruction_is : (image : List ℕ) (pc unit : ℕ) (instr : Instr) → machine.instr_at image pc ≡ Some instr → IsUnitAt l pc unit → separate.lie_inside l unit pc (length_of instr) ≡ true → instruction l image pc ≡ Some instr
+  pub instruction_is : (image : List ℕ) (pc unit : ℕ) (instr : Instr) → machine.instr_at image pc ≡ Some instr
+      → IsUnitAt l pc unit → separate.lie_inside l unit pc (length_of instr) ≡ true
+      → instruction l image pc ≡ Some instr
   unfolding instruction
   instruction_is image pc unit instr e at h =
-      ap (if_inside l pc) (sym (same_instr image pc) ∙ e) ∙ ap (λ b. if b then Some instr else None) (bytes_inside unit pc (length_of instr) at h)
+      ap (if_inside l pc) (sym (same_instr image pc) ∙ e)
+      ∙ ap (λ b. if b then Some instr else None) (bytes_inside unit pc (length_of instr) at h)
 
   is_interrupt : (source : Source) → Contains interrupts (vector_of source)
   unfolding vector_of
@@ -94,10 +108,12 @@ module _ (l : LayoutParts) (sound : IsSound l) where
   is_interrupt Timer2 = (5, omega arith, refl)
 
   -- the root of an interrupt is a handler
-  pub handler_is : (source : Source) (unit : ℕ) → IsRootAt l (vector_of source) unit → Contains (handlers l) (vector_of source)
+  pub handler_is : (source : Source) (unit : ℕ) → IsRootAt l (vector_of source) unit
+      → Contains (handlers l) (vector_of source)
   handler_is source unit h =
       let v = vector_of source in
-      let is : Some unit ≡ root_of l v = root_is l sound v (Some unit) h.vector_is h (λ w k. ap Some (one_root l sound v unit w h k)) in
+      let is : Some unit ≡ root_of l v =
+      root_is l sound v (Some unit) h.vector_is h (λ w k. ap Some (one_root l sound v unit w h k)) in
       filter_keeps (λ vector. is_some (root_of l vector)) interrupts v (is_interrupt source) (ap is_some (sym is))
 
   -- the root that the machine finds
@@ -106,7 +122,8 @@ module _ (l : LayoutParts) (sound : IsSound l) where
       let v = vector_of source in
       let k = is_interrupt source in
       let is : Contains vectors v = subst (λ n. Contains vectors n) k.2 (interrupt_is_vector k.0 v k.1) in
-      let same : root_of l v ≡ root_found l (Vector source) = same_root_found l source (root_of l v) (some v is (root_of l v) refl)
+      let same : root_of l v ≡ root_found l (Vector source) =
+      same_root_found l source (root_of l v) (some v is (root_of l v) refl)
       (λ w h. sym (root_is l sound v (Some w) is h (λ x n. ap Some (one_root l sound v w x h n)))) in
       root_there l sound v u is (same ∙ e)
     where
@@ -115,45 +132,61 @@ module _ (l : LayoutParts) (sound : IsSound l) where
       some v is (Some u) h = root_there l sound v u is h
 
 -- where control continues
-module _ (l : LayoutParts) (image : List ℕ) (p : Point) (instr : Instr) (at : instruction l image p.address ≡ Some instr) (goes : ends_at p instr ≡ false) (call : is_call instr ≡ false) where
-  abbrev next : ℕ
-  next = next_of instr p.address
+module _ (l : LayoutParts) (image : List ℕ) (p : Point) (instr : Instr)
+    (at : instruction l image p.address ≡ Some instr) (goes : ends_at p instr ≡ false) (call : is_call instr ≡ false)
+  where
+    abbrev next : ℕ
+    next = next_of instr p.address
 
-  after_is : successors l image p ≡ after_instr l p instr next
-  unfolding follow_by
-  after_is =
-      ap (follow_by l p) at
-      ∙ (ap (λ b. if b then [] else follow l p instr next) goes
-      ∙ ap (λ b. if b then after_call l p next (called l p (target_of instr next)) else after_instr l p instr next) call)
+    after_is : successors l image p ≡ after_instr l p instr next
+    unfolding follow_by
+    after_is =
+        ap (follow_by l p) at
+        ∙ (ap (λ b. if b then [] else follow l p instr next) goes
+        ∙ ap (λ b. if b then after_call l p next (called l p (target_of instr next)) else after_instr l p instr next)
+        call)
 
-  next_listed : in_one_unit l p.address next ≡ true → (h : ℕ) → Contains (at_next l p next h) (point_at p.start next h)
-  unfolding at_next
-  next_listed one h = rw one (0, omega arith, refl)
+    next_listed : in_one_unit l p.address next ≡ true → (h : ℕ)
+        → Contains (at_next l p next h) (point_at p.start next h)
+    unfolding at_next
+    next_listed one h = rw one (0, omega arith, refl)
 
-  target_listed : (to : ℕ) → target_of instr next ≡ Some to → counts l p.address to ≡ true → (h : ℕ) → Contains (at_target l p (target_of instr next) h) (point_at p.start to h)
-  unfolding at_target
-  target_listed to is count h = rw (is, count) (0, omega arith, refl)
+    target_listed : (to : ℕ) → target_of instr next ≡ Some to → counts l p.address to ≡ true → (h : ℕ)
+        → Contains (at_target l p (target_of instr next) h) (point_at p.start to h)
+    unfolding at_target
+    target_listed to is count h = rw (is, count) (0, omega arith, refl)
 
-  abbrev height : ℕ
-  height = height_after p.height instr
+    abbrev height : ℕ
+    height = height_after p.height instr
 
-  pub next_there : is_jump instr ≡ false → in_one_unit l p.address next ≡ true → Contains (successors l image p) (point_at p.start next height)
-  next_there jump one =
-      subst (λ ps. Contains ps (point_at p.start next height)) (sym after_is)
-      (subst (λ b. Contains (if b then at_target l p (target_of instr next) p.height else at_next l p next height ++ at_target l p (target_of instr next) height) (point_at p.start next height)) (sym jump)
-      (Contains-append_left (at_next l p next height) (at_target l p (target_of instr next) height) (point_at p.start next height) (next_listed one height)))
+    pub next_there : is_jump instr ≡ false → in_one_unit l p.address next ≡ true
+        → Contains (successors l image p) (point_at p.start next height)
+    next_there jump one =
+        subst (λ ps. Contains ps (point_at p.start next height)) (sym after_is)
+        (subst (λ b. Contains
+        (if b then at_target l p (target_of instr next) p.height else at_next l p next height
+        ++ at_target l p (target_of instr next) height) (point_at p.start next height)) (sym jump)
+        (Contains-append_left (at_next l p next height) (at_target l p (target_of instr next) height)
+        (point_at p.start next height) (next_listed one height)))
 
-  pub target_there : (to : ℕ) → target_of instr next ≡ Some to → counts l p.address to ≡ true → height ≡ p.height → Contains (successors l image p) (point_at p.start to p.height)
-  target_there to is count same = subst (λ ps. Contains ps (point_at p.start to p.height)) (sym after_is) (by (is_jump instr))
-    where
-      by : (b : Bool) → Contains (if b then at_target l p (target_of instr next) p.height else at_next l p next height ++ at_target l p (target_of instr next) height) (point_at p.start to p.height)
-      by true = target_listed to is count p.height
-      by false =
-          Contains-append_right (at_next l p next height) (at_target l p (target_of instr next) height) (point_at p.start to p.height)
-          (subst (λ h. Contains (at_target l p (target_of instr next) h) (point_at p.start to p.height)) (sym same) (target_listed to is count p.height))
+    pub target_there : (to : ℕ) → target_of instr next ≡ Some to → counts l p.address to ≡ true → height ≡ p.height
+        → Contains (successors l image p) (point_at p.start to p.height)
+    target_there to is count same =
+        subst (λ ps. Contains ps (point_at p.start to p.height)) (sym after_is) (by (is_jump instr))
+      where
+        by : (b : Bool) → Contains
+            (if b then at_target l p (target_of instr next) p.height else at_next l p next height
+            ++ at_target l p (target_of instr next) height) (point_at p.start to p.height)
+        by true = target_listed to is count p.height
+        by false =
+            Contains-append_right (at_next l p next height) (at_target l p (target_of instr next) height)
+            (point_at p.start to p.height)
+            (subst (λ h. Contains (at_target l p (target_of instr next) h) (point_at p.start to p.height)) (sym same)
+            (target_listed to is count p.height))
 
 -- a branch keeps SP
-pub branch_keeps : (instr : Instr) (n to h : ℕ) → target_of instr n ≡ Some to → (height_after h instr ≡ h) × (instr_top instr h ≡ h)
+pub branch_keeps : (instr : Instr) (n to h : ℕ) → target_of instr n ≡ Some to
+    → (height_after h instr ≡ h) × (instr_top instr h ≡ h)
 unfolding height_after
 branch_keeps (names.PushDirect a) n to h e = absurd (cc e)
 branch_keeps (names.PopDirect a) n to h e = absurd (cc e)
@@ -172,24 +205,31 @@ sets_writes Nop h = absurd (cc h)
 sets_writes _ h = absurd (cc h)
 
 -- SP and the height go together
-pub tops : (push pop : Bool) (o : Option ℕ) (base h : ℕ) → (push ≡ true → base + (h + 1) ≤ 255) → (pop ≡ true → 1 ≤ h) → base + h ≤ 255 → (is_some o ≡ true → base ≡ 0)
-    → (if push then (base + h + 1) % 256 else if pop then (base + h + 255) % 256 else unwrap_or o (base + h)) ≡ base + (if push then h + 1 else if pop then h - 1 else unwrap_or o h)
+pub tops : (push pop : Bool) (o : Option ℕ) (base h : ℕ) → (push ≡ true → base + (h + 1) ≤ 255) → (pop ≡ true → 1 ≤ h)
+    → base + h ≤ 255 → (is_some o ≡ true → base ≡ 0)
+    → (if push then (base + h + 1) % 256 else if pop then (base + h + 255) % 256 else unwrap_or o (base + h))
+    ≡ base + (if push then h + 1 else if pop then h - 1 else unwrap_or o h)
 tops true pop o base h up down few low = let k = up refl in omega (arith, k)
 tops false true o base h up down few low = let k = down refl in omega (arith, k, few)
 tops false false (Some v) base h up down few low = let k = low refl in omega (arith, k)
 tops false false None base h up down few low = refl
 
 -- after a call whose target counts, control comes back to the next address
-pub call_returns : (l : LayoutParts) (image : List ℕ) (p : Point) (instr : Instr) (to : ℕ) → instruction l image p.address ≡ Some instr → call_of l image p ≡ Some to
-    → in_one_unit l p.address (next_of instr p.address) ≡ true → Contains (successors l image p) (point_at p.start (next_of instr p.address) p.height)
+pub call_returns : (l : LayoutParts) (image : List ℕ) (p : Point) (instr : Instr) (to : ℕ)
+    → instruction l image p.address ≡ Some instr → call_of l image p ≡ Some to
+    → in_one_unit l p.address (next_of instr p.address) ≡ true
+    → Contains (successors l image p) (point_at p.start (next_of instr p.address) p.height)
 unfolding follow_by call_by at_next
 call_returns l image p instr to at calls one =
     let next = next_of instr p.address in
     let target = called l p (target_of instr next) in
-    let by : (is_call instr ≡ true) × (target ≡ Some to) = if_some (is_call instr) target to (sym (ap (call_by l p) at) ∙ calls) in
+    let by : (is_call instr ≡ true) × (target ≡ Some to) =
+    if_some (is_call instr) target to (sym (ap (call_by l p) at) ∙ calls) in
     let is : successors l image p ≡ after_call l p next (Some to) =
     ap (follow_by l p) at
     ∙ (ap (λ b. if b then [] else follow l p instr next) (call_goes p instr by.0)
-    ∙ (ap (λ b. if b then after_call l p next target else after_instr l p instr next) by.0 ∙ ap (after_call l p next) by.1)) in
+    ∙ (ap (λ b. if b then after_call l p next target else after_instr l p instr next) by.0
+    ∙ ap (after_call l p next) by.1)) in
     subst (λ ps. Contains ps (point_at p.start next p.height)) (sym is)
-    (contains_after (entry_at to) (at_next l p next p.height) (point_at p.start next p.height) (rw one (0, omega arith, refl)))
+    (contains_after (entry_at to) (at_next l p next p.height) (point_at p.start next p.height)
+    (rw one (0, omega arith, refl)))

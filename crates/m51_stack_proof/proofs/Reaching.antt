@@ -1,5 +1,6 @@
 -- From the reset on: what holds after each step, and so the law.
-use Rattle.std.proofs.Common.{◌≡◌, ◌≤◌, ◌+◌, ◌*◌, ◌/◌, ◌%◌, ℕ, zero, suc, List, [], ◌∷◌, length, refl, sym, ap, subst, ◌∙◌, arith, lit≤, Option, Some, None}
+use Rattle.std.proofs.Common.{◌≡◌, ◌≤◌, ◌+◌, ◌*◌, ◌/◌, ◌%◌, ℕ, zero, suc, List, [], ◌∷◌, length, refl, sym, ap, subst}
+use Rattle.std.proofs.Common.{◌∙◌, arith, lit≤, Option, Some, None}
 use Rattle.std.specs.Prelude.{Result, Ok, Err}
 use Rattle.std.specs.List.{Contains}
 use Rattle.std.specs.Int.{bit_at}
@@ -41,7 +42,8 @@ use Rattle.m51_sim.specs.Cycles.{Inputs, cycle_passed, cycles_passed, next_cycle
 use Rattle.m51_sim.specs.Effects.{attempt_by, attempt_of, changed_by, executing, idle_effect, instr_at, performed}
 use Rattle.m51_sim.specs.FlatMachine.{reset_with}
 use Rattle.m51_sim.specs.Runs.{State, Performed, record_from, record_of}
-use Rattle.m51_sim.specs.SeparateMachine.{Separate, cells_of, concludes, instr_outcome, lie_inside, memory_after, or_zero, separate_effect, separate_machine, separate_performs, separate_start}
+use Rattle.m51_sim.specs.SeparateMachine.{Separate, cells_of, concludes, instr_outcome, lie_inside, memory_after}
+use Rattle.m51_sim.specs.SeparateMachine.{or_zero, separate_effect, separate_machine, separate_performs, separate_start}
 use Rattle.m51_sim.proofs.Fitting.{KeepsControl}
 use Rattle.m51_sim.proofs.Keeping.{inside_ok}
 use Rattle.m51_sim.proofs.Preparing.{done_fact}
@@ -51,43 +53,64 @@ use Rattle.m51_stackbound.proofs.Covering.{root_covers}
 use Rattle.m51_stackbound.proofs.Rooted.{reset_first}
 use Rattle.m51_timers_uart.proofs.Kept.{the_rest_is_kept}
 use Rattle.m51_stack_proof.specs.Laws.{SpIsBounded}
-use Rattle.m51_stack_proof.proofs.Bounded.{Held, InOrder, IsVectored, few_levels, instr_in_order, judged_of, plan_len, two_levels, vectored_is}
+use Rattle.m51_stack_proof.proofs.Bounded.{Held, InOrder, IsVectored, few_levels, instr_in_order, judged_of, plan_len}
+use Rattle.m51_stack_proof.proofs.Bounded.{two_levels, vectored_is}
 use Rattle.m51_stack_proof.proofs.Frames.{AtReset}
 use Rattle.m51_stack_proof.proofs.Judged.{begins_at}
 use Rattle.m51_stack_proof.proofs.Meeting.{handler_is, instruction_is, root_at}
 use Rattle.m51_stack_proof.proofs.Steps.{InStep, in_room, interrupted as interrupted_at, put_byte}
 
-module _ (l : LayoutParts) (image : List ℕ) (sound : IsSound l) (b : StackBound) (bounded : IsBound l image b) (few : b.total ≤ 255) where
+module _ (l : LayoutParts) (image : List ℕ) (sound : IsSound l) (b : StackBound) (bounded : IsBound l image b)
+    (few : b.total ≤ 255) where
   abbrev Order : Records → Cpu → Type 0
   Order = InOrder l image sound b bounded few
 
   -- after an interrupt was taken
-  vector_in_order : (a : Records) (cpu : Cpu) (source : Source) (e : Effect) (step : Move) → Order a cpu → IsVectored cpu source e
+  vector_in_order : (a : Records) (cpu : Cpu) (source : Source) (e : Effect) (step : Move) → Order a cpu
+      → IsVectored cpu source e
       → Ok step ≡ judged l a cpu e (unit_found l e.cpu.pc) (root_found l e.transfer) → Order (moved a e step) e.cpu
   vector_in_order a cpu source e step h k is =
       let v = vector_of source in
-      let at : Ok step ≡ judged_as l a (latch cpu sp) (latch e.cpu sp) e.cpu.pc (Vector source) (unit_found l e.cpu.pc) (root_found l (Vector source)) =
-      subst (λ t. Ok step ≡ judged_as l a (latch cpu sp) (latch e.cpu sp) e.cpu.pc t (unit_found l e.cpu.pc) (root_found l t)) k.by.transfer is in
+      let at : Ok step ≡ judged_as l a (latch cpu sp) (latch e.cpu sp) e.cpu.pc (Vector source) (unit_found l e.cpu.pc)
+      (root_found l (Vector source)) =
+      subst (λ t. Ok step ≡ judged_as l a (latch cpu sp) (latch e.cpu sp) e.cpu.pc t (unit_found l e.cpu.pc)
+      (root_found l t)) k.by.transfer is in
       let low = is_sp_below a.returns 2 (latch e.cpu sp) in
       let begins = begins_at a source low (root_found l (Vector source)) (root_found l (Vector source)) step refl at in
       let root : IsRootAt l v begins.unit = root_there source begins.unit begins.found in
-      let allowed_it = allowed l a (latch cpu sp) (latch e.cpu sp) e.cpu.pc (Vector source) (unit_found l e.cpu.pc) (Some begins.unit) (InterruptTo source begins.unit) root
-      (subst (λ o. Ok (InterruptTo source begins.unit) ≡ judged_as l a (latch cpu sp) (latch e.cpu sp) e.cpu.pc (Vector source) (unit_found l e.cpu.pc) o) begins.found
-      (subst (λ m. Ok m ≡ judged_as l a (latch cpu sp) (latch e.cpu sp) e.cpu.pc (Vector source) (unit_found l e.cpu.pc) (root_found l (Vector source))) begins.step_is at)) in
+      let allowed_it = allowed l a (latch cpu sp) (latch e.cpu sp) e.cpu.pc (Vector source) (unit_found l e.cpu.pc)
+      (Some begins.unit) (InterruptTo source begins.unit) root
+      (subst (λ o. Ok (InterruptTo source begins.unit) ≡ judged_as l a (latch cpu sp) (latch e.cpu sp) e.cpu.pc
+      (Vector source) (unit_found l e.cpu.pc) o) begins.found
+      (subst (λ m. Ok m ≡ judged_as l a (latch cpu sp) (latch e.cpu sp) e.cpu.pc (Vector source) (unit_found l e.cpu.pc)
+      (root_found l (Vector source))) begins.step_is at)) in
       let free = free_of source begins.unit allowed_it in
-      let one : interrupts a.returns ≤ 1 = let two = few_levels e.cpu.low e.cpu.high in omega (arith, two, k.counted, h.counted) in
-      let r : ReturnRecord = record { cause = ByInterrupt source; return_address = return_address_of e; sp = latch e.cpu sp; units = begins.unit ∷ [] } in
-      let new = interrupted_at l image sound b bounded few a cpu.pc (latch cpu sp) h.step (two_levels l image sound b bounded few a cpu h) r (moved a e (InterruptTo source begins.unit)) source (latch e.cpu sp) one
-      (handler_is l sound source begins.unit root) free refl (back_is) refl k.by.stack refl refl (root_covers l sound v begins.unit root) in
+      let one : interrupts a.returns ≤ 1 = let two = few_levels e.cpu.low e.cpu.high in
+      omega (arith, two, k.counted, h.counted) in
+      let r : ReturnRecord =
+      record {
+        cause = ByInterrupt source;
+        return_address = return_address_of e;
+        sp = latch e.cpu sp;
+        units = begins.unit ∷ [];
+      } in
+      let new = interrupted_at l image sound b bounded few a cpu.pc (latch cpu sp) h.step
+      (two_levels l image sound b bounded few a cpu h) r (moved a e (InterruptTo source begins.unit)) source
+      (latch e.cpu sp) one
+      (handler_is l sound source begins.unit root) free refl (back_is) refl k.by.stack refl refl
+      (root_covers l sound v begins.unit root) in
       subst (λ m. Order (moved a e m) e.cpu) (sym begins.step_is) (record {
-        step = subst (λ n. InStep l image sound b bounded few (moved a e (InterruptTo source begins.unit)) n (latch e.cpu sp)) (sym k.by.at) new;
+        step = subst (λ n. InStep l image sound b bounded few (moved a e (InterruptTo source begins.unit)) n
+            (latch e.cpu sp)) (sym k.by.at) new;
         counted = omega (arith, h.counted, k.counted);
         len = k.len;
         parity = k.parity;
       })
     where
       back_is : return_address_of e ≡ cpu.pc
-      back_is = two (byte_put e.first) (byte_put e.second) (put_byte e.first ((latch cpu sp + 1) % 256) (cpu.pc % 256) k.by.low) (put_byte e.second ((latch cpu sp + 2) % 256) (cpu.pc / 256) k.by.high)
+      back_is = two (byte_put e.first) (byte_put e.second)
+          (put_byte e.first ((latch cpu sp + 1) % 256) (cpu.pc % 256) k.by.low)
+          (put_byte e.second ((latch cpu sp + 2) % 256) (cpu.pc / 256) k.by.high)
         where
           two : (x y : ℕ) → x ≡ cpu.pc % 256 → y ≡ cpu.pc / 256 → x + 256 * y ≡ cpu.pc
           two x y p q = ap (λ x. x + 256 * y) p ∙ (ap (λ y. cpu.pc % 256 + 256 * y) q ∙ mod-add-div cpu.pc 256)
@@ -95,7 +118,9 @@ module _ (l : LayoutParts) (image : List ℕ) (sound : IsSound l) (b : StackBoun
       root_there : (source : Source) (u : ℕ) → root_found l (Vector source) ≡ Some u → IsRootAt l (vector_of source) u
       root_there source u e = root_at l sound source u e
 
-      free_of : (source : Source) (u : ℕ) → Permitted l a (latch cpu sp) (latch e.cpu sp) e.cpu.pc (unit_found l e.cpu.pc) (Some u) (InterruptTo source u) → Contains (running a.returns) (vector_of source) → ⊥
+      free_of : (source : Source) (u : ℕ)
+          → Permitted l a (latch cpu sp) (latch e.cpu sp) e.cpu.pc (unit_found l e.cpu.pc) (Some u)
+          (InterruptTo source u) → Contains (running a.returns) (vector_of source) → ⊥
       free_of source u (IsInterrupt _ _ root free above) = free
 
   -- after an idle cycle
@@ -108,16 +133,20 @@ module _ (l : LayoutParts) (image : List ℕ) (sound : IsSound l) (b : StackBoun
     abbrev Then : Type 0
     Then = Order (moved m.records x.effect x.step) x.effect.cpu
 
-    by_instr : (i : Option Instr) → instr_at image cpu.pc ≡ i → separate_effect l image cpu m pins (executing i) ≡ Ok x → Then
+    by_instr : (i : Option Instr) → instr_at image cpu.pc ≡ i → separate_effect l image cpu m pins (executing i) ≡ Ok x
+        → Then
     unfolding separate_effect
     by_instr (Some instr) is done =
         let cells = cells_of l m in
         let o = instr_outcome l m cpu instr image pins in
-        let inside = inside_ok (lie_inside l (current m.records) cpu.pc (length_of instr)) (concludes l m cpu o) _ x done in
+        let inside = inside_ok (lie_inside l (current m.records) cpu.pc (length_of instr)) (concludes l m cpu o) _ x
+        done in
         let j = judged_of l m cpu o x inside.1 in
         let at = instruction_is l sound image cpu.pc (current m.records) instr is h.step.covers inside.0 in
-        let right = done_fact (λ e. IsRight e.cpu) cpu cells (outside_of cells) instr image pins x.effect (plan_len cpu instr image pins h.len h.parity) j.done in
-        instr_in_order l image sound b bounded few m.records cpu h instr at x.effect x.step j.judged_is cells (outside_of cells) pins j.done right.len
+        let right = done_fact (λ e. IsRight e.cpu) cpu cells (outside_of cells) instr image pins x.effect
+        (plan_len cpu instr image pins h.len h.parity) j.done in
+        instr_in_order l image sound b bounded few m.records cpu h instr at x.effect x.step j.judged_is cells
+        (outside_of cells) pins j.done right.len
     by_instr None is done =
         let inside = inside_ok (lie_inside l (current m.records) cpu.pc 1) _ _ x done in
         absurd (cc inside.1)
@@ -127,14 +156,17 @@ module _ (l : LayoutParts) (image : List ℕ) (sound : IsSound l) (b : StackBoun
     by_idle = cond_both (flag cpu pcon idl) _ _ (λ t. separate_effect l image cpu m pins t ≡ Ok x → Then)
         (λ yes done.
         let same : x ≡ record { effect = idle_effect cpu; step = Stay } = cc done in
-        subst (λ (y : Held l m). Order (moved m.records y.effect y.step) y.effect.cpu) (sym same) (idle_in_order m.records cpu h))
+        subst (λ (y : Held l m). Order (moved m.records y.effect y.step) y.effect.cpu) (sym same)
+        (idle_in_order m.records cpu h))
         (λ no. by_instr (instr_at image cpu.pc) refl)
 
-    by_chosen : (o : Option Source) → chosen cpu ≡ o → separate_effect l image cpu m pins (attempt_by image cpu o) ≡ Ok x → Then
+    by_chosen : (o : Option Source) → chosen cpu ≡ o → separate_effect l image cpu m pins (attempt_by image cpu o)
+        ≡ Ok x → Then
     unfolding separate_effect
     by_chosen (Some source) is done =
         let j = judged_of l m cpu (vectored cpu (outside_of (cells_of l m)) source) x done in
-        vector_in_order m.records cpu source x.effect x.step h (vectored_is cpu (outside_of (cells_of l m)) source x.effect h.len h.parity is j.done) j.judged_is
+        vector_in_order m.records cpu source x.effect x.step h
+        (vectored_is cpu (outside_of (cells_of l m)) source x.effect h.len h.parity is j.done) j.judged_is
     by_chosen None is done = by_idle done
 
     effect_in_order : separate_effect l image cpu m pins (attempt_of image cpu) ≡ Ok x → Then
@@ -153,7 +185,8 @@ module _ (l : LayoutParts) (image : List ℕ) (sound : IsSound l) (b : StackBoun
 
   cycles_keep_all : (inputs : Inputs) (n : ℕ) (p : Passed inputs) → Keeps p.cpu (cycles_passed inputs n p).cpu
   unfolding cycles_passed cycle_passed
-  cycles_keep_all inputs zero p = record { control = record { pc = refl; low = refl; high = refl; stack = refl }; len = refl; parity = λ h. h }
+  cycles_keep_all inputs zero p =
+      record { control = record { pc = refl; low = refl; high = refl; stack = refl }; len = refl; parity = λ h. h }
   cycles_keep_all inputs (suc n) p =
       let q = cycles_passed inputs n p in
       let before = cycles_keep_all inputs n p in
@@ -161,35 +194,52 @@ module _ (l : LayoutParts) (image : List ℕ) (sound : IsSound l) (b : StackBoun
       let k = the_rest_is_kept q.cpu (inputs.pins cycle) (inputs.frames cycle) q.periph in
       let c = before.control in
       record {
-        control = record { pc = k.pc ∙ c.pc; low = k.low ∙ c.low; high = k.high ∙ c.high; stack = k.latches sp (lit≤ tt) refl ∙ c.stack };
+        control = record {
+          pc = k.pc ∙ c.pc;
+          low = k.low ∙ c.low;
+          high = k.high ∙ c.high;
+          stack = k.latches sp (lit≤ tt) refl ∙ c.stack;
+        };
         len = k.size ∙ before.len;
-        parity = λ h. ap (λ n. bit_at n 0) (k.latches psw (lit≤ tt) refl) ∙ (before.parity h ∙ ap (λ n. bit_of (parity_of n)) (sym (k.latches acc (lit≤ tt) refl)));
+        parity = λ h. ap (λ n. bit_at n 0) (k.latches psw (lit≤ tt) refl)
+            ∙ (before.parity h ∙ ap (λ n. bit_of (parity_of n)) (sym (k.latches acc (lit≤ tt) refl)));
       }
 
   kept_in_order : (a : Records) (old new : Cpu) → Keeps old new → Order a old → Order a new
   kept_in_order a old new k h = record {
-    step = subst (λ n. InStep l image sound b bounded few a new.pc n) (sym k.control.stack) (subst (λ n. InStep l image sound b bounded few a n (latch old sp)) (sym k.control.pc) h.step);
-    counted = h.counted ∙ ap length (sym (ap (λ x. in_progress x new.high) k.control.low ∙ ap (λ x. in_progress old.low x) k.control.high));
+    step = subst (λ n. InStep l image sound b bounded few a new.pc n) (sym k.control.stack)
+        (subst (λ n. InStep l image sound b bounded few a n (latch old sp)) (sym k.control.pc) h.step);
+    counted = h.counted ∙ ap length
+        (sym (ap (λ x. in_progress x new.high) k.control.low ∙ ap (λ x. in_progress old.low x) k.control.high));
     len = k.len ∙ h.len;
     parity = k.parity h.parity;
   }
 
   module _ (inputs : Inputs) where
-    step_in_order : (s : State Separate) (r : Result (Held l s.memory) Event) (done : Performed Separate) → separate_effect l image s.cpu s.memory (inputs.pins s.cycle) (attempt_of image s.cpu) ≡ r → Order s.memory.records s.cpu
+    step_in_order : (s : State Separate) (r : Result (Held l s.memory) Event) (done : Performed Separate)
+        → separate_effect l image s.cpu s.memory (inputs.pins s.cycle) (attempt_of image s.cpu) ≡ r
+        → Order s.memory.records s.cpu
         → separate_performs l inputs s r ≡ Ok done → Order done.state.memory.records done.state.cpu
     step_in_order s (Ok x) done is h e =
         let same : performed inputs s x.effect (memory_after l s.memory x) ≡ done = cc e in
         let after = effect_in_order s.memory s.cpu (inputs.pins s.cycle) x h is in
         subst (λ (d : Performed Separate). Order d.state.memory.records d.state.cpu) same
-        (kept_in_order (moved s.memory.records x.effect x.step) x.effect.cpu _ (cycles_keep_all inputs x.effect.cycles (changed_by s.cycle s.periph x.effect)) after)
+        (kept_in_order (moved s.memory.records x.effect x.step) x.effect.cpu _
+        (cycles_keep_all inputs x.effect.cycles (changed_by s.cycle s.periph x.effect)) after)
     step_in_order s (Err event) done is h e = absurd (cc e)
 
     abbrev Ends : ℕ → State Separate → Type 0
-    Ends n s = Order (record_of (separate_machine l image inputs) n s).last.memory.records (record_of (separate_machine l image inputs) n s).last.cpu
+    Ends n s = Order (record_of (separate_machine l image inputs) n s).last.memory.records
+        (record_of (separate_machine l image inputs) n s).last.cpu
 
-    run_by : (n : ℕ) (s : State Separate) (r : Result (Performed Separate) Event) → separate_machine l image inputs s ≡ r → Order s.memory.records s.cpu → ((t : State Separate) → Order t.memory.records t.cpu → Ends n t)
-        → Order (record_from s (record_of (separate_machine l image inputs) n) r).last.memory.records (record_from s (record_of (separate_machine l image inputs) n) r).last.cpu
-    run_by n s (Ok done) is h rest = rest done.state (step_in_order s (separate_effect l image s.cpu s.memory (inputs.pins s.cycle) (attempt_of image s.cpu)) done refl h is)
+    run_by : (n : ℕ) (s : State Separate) (r : Result (Performed Separate) Event)
+        → separate_machine l image inputs s ≡ r → Order s.memory.records s.cpu
+        → ((t : State Separate) → Order t.memory.records t.cpu → Ends n t)
+        → Order (record_from s (record_of (separate_machine l image inputs) n) r).last.memory.records
+        (record_from s (record_of (separate_machine l image inputs) n) r).last.cpu
+    run_by n s (Ok done) is h rest =
+        rest done.state (step_in_order s
+        (separate_effect l image s.cpu s.memory (inputs.pins s.cycle) (attempt_of image s.cpu)) done refl h is)
     run_by n s (Err event) is h rest = h
 
     run_in_order : (n : ℕ) (s : State Separate) → Order s.memory.records s.cpu → Ends n s
@@ -200,7 +250,15 @@ module _ (l : LayoutParts) (image : List ℕ) (sound : IsSound l) (b : StackBoun
     start_in_order : (fill unit : ℕ) → IsRootAt l 0 unit → Order (separate_start l fill).records reset_cpu
     unfolding latch has_register lib.Count.ones
     start_in_order fill unit root = record {
-      step = record { start = Reset; base = 0; height = 7; stands = AtReset; is_point = reset_first l image; stack = refl; covers = at_reset (unit_found l 0) (unit_found_is l 0) };
+      step = record {
+        start = Reset;
+        base = 0;
+        height = 7;
+        stands = AtReset;
+        is_point = reset_first l image;
+        stack = refl;
+        covers = at_reset (unit_found l 0) (unit_found_is l 0);
+      };
       counted = refl;
       len = refl;
       parity = refl;
@@ -210,11 +268,15 @@ module _ (l : LayoutParts) (image : List ℕ) (sound : IsSound l) (b : StackBoun
         at_reset (Some u) h = h
         at_reset None h = absurd (h unit (root_covers l sound 0 unit root))
 
-    pub bounded_at : (fill n unit : ℕ) → IsRootAt l 0 unit → latch (record_of (separate_machine l image inputs) n (reset_with inputs (separate_start l fill))).last.cpu sp ≤ b.total
+    pub bounded_at : (fill n unit : ℕ) → IsRootAt l 0 unit
+        → latch (record_of (separate_machine l image inputs) n (reset_with inputs (separate_start l fill))).last.cpu
+        sp ≤ b.total
     bounded_at fill n unit root =
         let last = (record_of (separate_machine l image inputs) n (reset_with inputs (separate_start l fill))).last in
         let h = run_in_order n (reset_with inputs (separate_start l fill)) (start_in_order fill unit root) in
-        in_room l image sound b bounded few last.memory.records last.cpu.pc (latch last.cpu sp) h.step (two_levels l image sound b bounded few last.memory.records last.cpu h)
+        in_room l image sound b bounded few last.memory.records last.cpu.pc (latch last.cpu sp) h.step
+        (two_levels l image sound b bounded few last.memory.records last.cpu h)
 
 pub sp_is_bounded : SpIsBounded
-sp_is_bounded l image b inputs fill n sound unit root few bounded = bounded_at l image sound b bounded few inputs fill n unit root
+sp_is_bounded l image b inputs fill n sound unit root few bounded =
+    bounded_at l image sound b bounded few inputs fill n unit root

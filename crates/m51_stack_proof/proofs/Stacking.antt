@@ -1,5 +1,7 @@
 -- What an instruction does with SP, and where it leads, whatever is read.
-use Rattle.std.proofs.Common.{◌≡◌, ◌≢◌, ◌+◌, ◌%◌, ◌-◌, ◌<◌, ℕ, Bool, true, false, cond, List, length, get_or, get_or-set_other, Option, Some, None, refl, rules, sym, ap, ◌∙◌, arith, lit<, ◌⊎◌, inl, inr}
+use Rattle.std.proofs.Common.{◌≡◌, ◌≢◌, ◌+◌, ◌%◌, ◌-◌, ◌<◌, ℕ, Bool, true, false, cond, List, length, get_or}
+use Rattle.std.proofs.Common.{get_or-set_other, Option, Some, None, refl, rules, sym, ap, ◌∙◌, arith, lit<, ◌⊎◌, inl}
+use Rattle.std.proofs.Common.{inr}
 use Rattle.std.proofs.lemmas.Bool.{ne_eqb}
 use Rattle.std.specs.Prelude.{◌==◌, ◌&&◌, ◌||◌, slice_set}
 use Rattle.std.specs.Option.{option_or}
@@ -31,9 +33,11 @@ other_place a h e = let same : a ≡ 129 = omega (arith, e) in absurd (cc (h, ap
 far : (n : ℕ) → n < 80 → n ≢ 80
 far n h e = omega (arith, h, e)
 
-regs_kept : (regs : List ℕ) (a v : ℕ) → (a == sp) ≡ false → get_or (with_parity (slice_set regs (a - 128) v)) 1 0 ≡ get_or regs 1 0
+regs_kept : (regs : List ℕ) (a v : ℕ) → (a == sp) ≡ false → get_or (with_parity (slice_set regs (a - 128) v)) 1 0
+    ≡ get_or regs 1 0
 unfolding with_parity
-regs_kept regs a v h = get_or-set_other (slice_set regs (a - 128) v) 80 1 _ 0 (far 1 (lit< tt)) ∙ get_or-set_other regs (a - 128) 1 v 0 (other_place a h)
+regs_kept regs a v h = get_or-set_other (slice_set regs (a - 128) v) 80 1 _ 0 (far 1 (lit< tt))
+    ∙ get_or-set_other regs (a - 128) 1 v 0 (other_place a h)
 
 -- control continues with the next instruction, or with the target, and SP is `top`
 pub record Leads (n top : ℕ) (target : Option ℕ) (e : Effect) : Type 0 where
@@ -67,7 +71,8 @@ module _ (n top : ℕ) (target : Option ℕ) where
   pub good_of : (e : Effect) → Follows e → Leads n top target e
   good_of e h = record { stack = h.0; goes = inl (h.1, h.2) }
 
-  pub follows_then : {A : Type 0} (p : Reads A) (go : A → Reads Effect) → ((a : A) → AlwaysFollows (go a)) → AlwaysFollows (then_read p go)
+  pub follows_then : {A : Type 0} (p : Reads A) (go : A → Reads Effect) → ((a : A) → AlwaysFollows (go a))
+      → AlwaysFollows (then_read p go)
   follows_then (Ends a) go h = h a
   follows_then (Read x more) go h = λ v. follows_then (more v) go h
 
@@ -81,16 +86,22 @@ module _ (n top : ℕ) (target : Option ℕ) where
   pick false false x y z hx hy hz = hz
 
   register_follows : (a v : ℕ) (e : Effect) (held : Bool) (port : Option ℕ) → (a == sp) ≡ false → Follows e
-      → Follows (record e { cpu = record e.cpu { regs = with_parity (slice_set e.cpu.regs (a - 128) v); held = held }; port = port })
+      → Follows (record e {
+        cpu = record e.cpu { regs = with_parity (slice_set e.cpu.regs (a - 128) v); held = held };
+        port = port;
+      })
   unfolding latch has_register
   register_follows a v e held port ne h = (regs_kept e.cpu.regs a v ne ∙ h.0, h.1, h.2)
 
   pub plain_follows : (a v : ℕ) (e : Effect) → (a == sp) ≡ false → Follows e → Follows (with_sfr a v e)
   unfolding with_sfr
-  plain_follows a v e ne h = pick (a == sbuf) (has_register a) _ _ e h (register_follows a v e (e.cpu.held || a == ie || a == ip) (option_or (port_of a) e.port) ne h) h
+  plain_follows a v e ne h =
+      pick (a == sbuf) (has_register a) _ _ e h
+      (register_follows a v e (e.cpu.held || a == ie || a == ip) (option_or (port_of a) e.port) ne h) h
 
   -- a direct address is in internal RAM, or a register
-  pub either_follows : {L : Type 0} (write : L → ℕ → Effect → Effect) (ram sfr : L) (v : ℕ) (b : Bool) (e : Effect) → Follows (write ram v e) → Follows (write sfr v e) → Follows (write (cond b ram sfr) v e)
+  pub either_follows : {L : Type 0} (write : L → ℕ → Effect → Effect) (ram sfr : L) (v : ℕ) (b : Bool) (e : Effect)
+      → Follows (write ram v e) → Follows (write sfr v e) → Follows (write (cond b ram sfr) v e)
   either_follows write ram sfr v true e h k = h
   either_follows write ram sfr v false e h k = k
 
@@ -107,9 +118,11 @@ module _ (n top : ℕ) (target : Option ℕ) where
   jumps_after true to e is h = tt
   jumps_after false to e is h = record { stack = h.0; goes = inr (refl, is) }
 
-  branches_after : (b : Bool) (rel : ℕ) (e : Effect) → IsTarget target (relative n rel) → Before b e → After b (jumped (relative e.cpu.pc rel) Jump e)
+  branches_after : (b : Bool) (rel : ℕ) (e : Effect) → IsTarget target (relative n rel) → Before b e
+      → After b (jumped (relative e.cpu.pc rel) Jump e)
   branches_after true rel e is h = tt
-  branches_after false rel e is h = jumps_after false (relative e.cpu.pc rel) e (is ∙ ap (λ k. Some (relative k rel)) (sym h.2)) h
+  branches_after false rel e is h =
+      jumps_after false (relative e.cpu.pc rel) e (is ∙ ap (λ k. Some (relative k rel)) (sym h.2)) h
 
   pub leads_kept : IsKept is_sp Before After n (IsTarget target)
   leads_kept = record {

@@ -1,5 +1,6 @@
 -- The two greatest numbers that interrupts add.
-use Rattle.std.proofs.Common.{◌≡◌, ◌≢◌, ◌<◌, ◌≤◌, ◌+◌, ℕ, Bool, true, false, List, [], length, get_or, take, refl, sym, subst, ◌∙◌, arith, ◌⊎◌, inl, inr}
+use Rattle.std.proofs.Common.{◌≡◌, ◌≢◌, ◌<◌, ◌≤◌, ◌+◌, ℕ, Bool, true, false, List, [], length, get_or, take, refl, sym}
+use Rattle.std.proofs.Common.{subst, ◌∙◌, arith, ◌⊎◌, inl, inr}
 use Rattle.std.specs.Prelude.{if◌then◌else◌, nat_lt, slice_index}
 use Rattle.std.specs.List.{Contains}
 use Rattle.std.proofs.lemmas.Grind.{common_steps}
@@ -45,7 +46,11 @@ module _ (depths : List ℕ) where
         omega (arith, at, less, same, e)
 
     kept : (b : ℕ) → OneAdds depths front b → OneAdds depths longer b
-    kept b o = record { vector = o.vector; listed = front_kept vectors i 0 o.vector below o.listed; bytes_are = o.bytes_are }
+    kept b o = record {
+      vector = o.vector;
+      listed = front_kept vectors i 0 o.vector below o.listed;
+      bytes_are = o.bytes_are;
+    }
 
     newest : OneAdds depths longer bytes
     newest = record { vector = here; listed = front_next vectors i 0 below; bytes_are = refl }
@@ -62,18 +67,21 @@ module _ (depths : List ℕ) where
     ]
 
     -- sums of two different vectors
-    sums : (most : ℕ) → ((v w : ℕ) → Contains front v → Contains front w → v ≢ w → added depths v + added depths w ≤ most)
-        → ((v : ℕ) → Contains front v → added depths v + bytes ≤ most) → (v w : ℕ) → Contains longer v → Contains longer w → v ≢ w → added depths v + added depths w ≤ most
-    sums most old new v w k m other = elim (front_cases vectors i 0 v below k) as (λ _. added depths v + added depths w ≤ most) [
-      | inl one ↦ elim (front_cases vectors i 0 w below m) as (λ _. added depths v + added depths w ≤ most) [
-        | inl two ↦ old v w one two other
-        | inr is ↦ subst (λ x. added depths v + added depths x ≤ most) is (new v one)
-      ]
-      | inr is ↦ elim (front_cases vectors i 0 w below m) as (λ _. added depths v + added depths w ≤ most) [
-        | inl two ↦ let h = new w two in subst (λ x. added depths x + added depths w ≤ most) is (omega (arith, h))
-        | inr same ↦ absurd (other (sym is ∙ same))
-      ]
-    ]
+    sums : (most : ℕ) → ((v w : ℕ) → Contains front v → Contains front w → v ≢ w
+        → added depths v + added depths w ≤ most)
+        → ((v : ℕ) → Contains front v → added depths v + bytes ≤ most) → (v w : ℕ) → Contains longer v
+        → Contains longer w → v ≢ w → added depths v + added depths w ≤ most
+    sums most old new v w k m other =
+        elim (front_cases vectors i 0 v below k) as (λ _. added depths v + added depths w ≤ most) [
+          | inl one ↦ elim (front_cases vectors i 0 w below m) as (λ _. added depths v + added depths w ≤ most) [
+            | inl two ↦ old v w one two other
+            | inr is ↦ subst (λ x. added depths v + added depths x ≤ most) is (new v one)
+          ]
+          | inr is ↦ elim (front_cases vectors i 0 w below m) as (λ _. added depths v + added depths w ≤ most) [
+            | inl two ↦ let h = new w two in subst (λ x. added depths x + added depths w ≤ most) is (omega (arith, h))
+            | inr same ↦ absurd (other (sym is ∙ same))
+          ]
+        ]
 
     module _ (g : Greatest) (h : AreGreatest depths front g) where
       greater : g.first < bytes → AreGreatest depths longer (record { first = bytes; second = g.first })
@@ -82,14 +90,20 @@ module _ (depths : List ℕ) where
         one = inr newest;
         two = elim h.one as (λ _. (g.first ≡ 0) ⊎ TwoAdd depths longer bytes g.first) [
           | inl none ↦ inl none
-          | inr o ↦ inr (record { first = newest; second = kept g.first o; different = λ e. fresh o.vector o.listed (sym e) })
+          | inr o ↦ inr (record {
+            first = newest;
+            second = kept g.first o;
+            different = λ e. fresh o.vector o.listed (sym e);
+          })
         ];
         order = omega (arith, more);
         most = each (λ v. added depths v ≤ bytes) (λ v k. let m = h.most v k in omega (arith, more, m)) (omega arith);
-        sum = sums (bytes + g.first) (λ v w k m other. let s = h.sum v w k m other in omega (arith, s, more, h.order)) (λ v k. let m = h.most v k in omega (arith, m));
+        sum = sums (bytes + g.first) (λ v w k m other. let s = h.sum v w k m other in omega (arith, s, more, h.order))
+            (λ v k. let m = h.most v k in omega (arith, m));
       }
 
-      between : bytes ≤ g.first → g.second < bytes → AreGreatest depths longer (record { first = g.first; second = bytes })
+      between : bytes ≤ g.first → g.second < bytes
+          → AreGreatest depths longer (record { first = g.first; second = bytes })
       unfolding kept newest
       between few more = record {
         one = elim h.one as (λ _. (g.first ≡ 0) ⊎ OneAdds depths longer g.first) [
@@ -102,7 +116,8 @@ module _ (depths : List ℕ) where
         ];
         order = few;
         most = each (λ v. added depths v ≤ g.first) h.most few;
-        sum = sums (g.first + bytes) (λ v w k m other. let s = h.sum v w k m other in omega (arith, s, more)) (λ v k. let m = h.most v k in omega (arith, m));
+        sum = sums (g.first + bytes) (λ v w k m other. let s = h.sum v w k m other in omega (arith, s, more))
+            (λ v k. let m = h.most v k in omega (arith, m));
       }
 
       less : bytes ≤ g.second → AreGreatest depths longer g
@@ -124,20 +139,25 @@ module _ (depths : List ℕ) where
       unfolding with_bytes
       greatest_more = by (nat_lt g.first bytes) refl
         where
-          second : (b : Bool) → nat_lt g.second bytes ≡ b → bytes ≤ g.first → AreGreatest depths longer (if b then record { first = g.first; second = bytes } else g)
+          second : (b : Bool) → nat_lt g.second bytes ≡ b → bytes ≤ g.first
+              → AreGreatest depths longer (if b then record { first = g.first; second = bytes } else g)
           second true e few = between few (grind (arith, common_steps, e))
           second false e few = less (grind (arith, common_steps, e))
 
           by : (b : Bool) → nat_lt g.first bytes ≡ b
-              → AreGreatest depths longer (if b then record { first = bytes; second = g.first } else if nat_lt g.second bytes then record { first = g.first; second = bytes } else g)
+              → AreGreatest depths longer
+              (if b then record { first = bytes; second = g.first } else if nat_lt g.second bytes then
+              record { first = g.first; second = bytes } else g)
           by true e = greater (grind (arith, common_steps, e))
           by false e = second (nat_lt g.second bytes) refl (grind (arith, common_steps, e))
 
   -- a depth is at most 256 where each in the table is
-  pub depth_few : ((i : ℕ) → i < length depths → slice_index depths i ≤ 256) → (vector : ℕ) → depth_in depths (At vector) ≤ 256
+  pub depth_few : ((i : ℕ) → i < length depths → slice_index depths i ≤ 256) → (vector : ℕ)
+      → depth_in depths (At vector) ≤ 256
   depth_few most vector = let h = most (rank (At vector)) in grind (arith, common_steps, h)
 
-  pub first_few : (vectors : List ℕ) (g : Greatest) → AreGreatest depths vectors g → ((i : ℕ) → i < length depths → slice_index depths i ≤ 256) → g.first ≤ 258
+  pub first_few : (vectors : List ℕ) (g : Greatest) → AreGreatest depths vectors g
+      → ((i : ℕ) → i < length depths → slice_index depths i ≤ 256) → g.first ≤ 258
   first_few vectors g h most = elim h.one as (λ _. g.first ≤ 258) [
     | inl none ↦ omega (arith, none)
     | inr o ↦ let few = depth_few most o.vector in omega (arith, o.bytes_are, few)

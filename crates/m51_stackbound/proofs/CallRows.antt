@@ -1,5 +1,6 @@
 -- The calls of points, and the rows of them.
-use Rattle.std.proofs.Common.{◌≡◌, ◌<◌, ◌+◌, ℕ, List, [], ◌∷◌, ◌++◌, length, get_or, set, take, refl, sym, ap, subst, ◌∙◌, arith, ◌⊎◌, inl, inr, Option, Some, None}
+use Rattle.std.proofs.Common.{◌≡◌, ◌<◌, ◌+◌, ℕ, List, [], ◌∷◌, ◌++◌, length, get_or, set, take, refl, sym, ap, subst}
+use Rattle.std.proofs.Common.{◌∙◌, arith, ◌⊎◌, inl, inr, Option, Some, None}
 use Rattle.std.specs.List.{Contains, cons_option}
 use Rattle.std.proofs.lemmas.List.{get_or-set_same, get_or-set_other, length-set}
 use Rattle.std.proofs.lemmas.List.{take_more}
@@ -14,7 +15,8 @@ use Rattle.m51_module.specs.Kept.{AreEmptyRows}
 use Rattle.m51_module.proofs.Units.{same_or_not}
 use Rattle.m51_stackbound.specs.declared.calls.Call.{Call}
 use Rattle.m51_stackbound.specs.declared.point.Point.{Point}
-use Rattle.m51_stackbound.specs.Callers.{AreCallRows, AreCallsOf, AreRowsOf, call_from, calls_of, IsCalled, row_of, with_call}
+use Rattle.m51_stackbound.specs.Callers.{AreCallRows, AreCallsOf, AreRowsOf, call_from, calls_of, IsCalled, row_of}
+use Rattle.m51_stackbound.specs.Callers.{with_call}
 use Rattle.m51_stackbound.specs.Climb.{AreCalls}
 use Rattle.m51_stackbound.specs.Depths.{CallsAt}
 use Rattle.m51_stackbound.specs.Points.{call_of, IsPoint}
@@ -25,7 +27,8 @@ same_At : (a b : ℕ) → At a ≡ At b → a ≡ b
 same_At a b e = let ranks : rank (At a) ≡ rank (At b) = ap rank e in omega (arith, ranks)
 
 -- of a list that begins with a value if there is one
-cons_cases : {X : Type 0} (o : Option X) (xs : List X) (x : X) → Contains (cons_option o xs) x → (o ≡ Some x) ⊎ Contains xs x
+cons_cases : {X : Type 0} (o : Option X) (xs : List X) (x : X) → Contains (cons_option o xs) x
+    → (o ≡ Some x) ⊎ Contains xs x
 cons_cases None xs x k = inr k
 cons_cases (Some y) xs x k = elim (first_or_after y xs x k) as (λ _. (Some y ≡ Some x) ⊎ Contains xs x) [
   | inl here ↦ inl (ap Some here)
@@ -40,56 +43,78 @@ cons_here : {X : Type 0} (o : Option X) (xs : List X) (x : X) → o ≡ Some x �
 cons_here o xs x is = subst (λ p. Contains (cons_option p xs) x) (sym is) (0, omega arith, refl)
 
 module _ (l : LayoutParts) (image : List ℕ) where
-  call_at : (p : Point) (o : Option ℕ) (c : Call) → IsPoint l image p → call_of l image p ≡ o → call_from p o ≡ Some c → CallsAt l image c.from c.height c.to
+  call_at : (p : Point) (o : Option ℕ) (c : Call) → IsPoint l image p → call_of l image p ≡ o → call_from p o ≡ Some c
+      → CallsAt l image c.from c.height c.to
   call_at p None c is calls e = absurd (cc e)
-  call_at p (Some to) c is calls e = subst (λ (d : Call). CallsAt l image d.from d.height d.to) (same_Some (record { from = p.start; height = p.height; to = to }) c e)
+  call_at p (Some to) c is calls e =
+      subst (λ (d : Call). CallsAt l image d.from d.height d.to)
+      (same_Some (record { from = p.start; height = p.height; to = to }) c e)
       (record { point = p; is_point = is; start_is = refl; height_is = refl; calls = calls })
 
   -- the calls of points of the program are calls of the program
-  pub calls_only : (points : List Point) → ((p : Point) → Contains points p → IsPoint l image p) → AreCalls l image (calls_of l image points)
+  pub calls_only : (points : List Point) → ((p : Point) → Contains points p → IsPoint l image p)
+      → AreCalls l image (calls_of l image points)
   calls_only [] only c k = absurd (none_in_empty c k)
-  calls_only (q ∷ ps) only c k = by (cons_cases (call_from q (call_of l image q)) (calls_of l image ps) c k) (calls_only ps (λ p m. only p (contains_after q ps p m)) c)
+  calls_only (q ∷ ps) only c k =
+      by (cons_cases (call_from q (call_of l image q)) (calls_of l image ps) c k)
+      (calls_only ps (λ p m. only p (contains_after q ps p m)) c)
     where
-      by : (call_from q (call_of l image q) ≡ Some c) ⊎ Contains (calls_of l image ps) c → (Contains (calls_of l image ps) c → CallsAt l image c.from c.height c.to) → CallsAt l image c.from c.height c.to
+      by : (call_from q (call_of l image q) ≡ Some c) ⊎ Contains (calls_of l image ps) c
+          → (Contains (calls_of l image ps) c → CallsAt l image c.from c.height c.to)
+          → CallsAt l image c.from c.height c.to
       by (inl here) on = call_at q (call_of l image q) c (only q (0, omega arith, refl)) refl here
       by (inr after) on = on after
 
   -- and all calls of these points are listed
-  pub calls_all : (points : List Point) (p : Point) (to : ℕ) → Contains points p → call_of l image p ≡ Some to → Contains (calls_of l image points) (record { from = p.start; height = p.height; to = to })
+  pub calls_all : (points : List Point) (p : Point) (to : ℕ) → Contains points p → call_of l image p ≡ Some to
+      → Contains (calls_of l image points) (record { from = p.start; height = p.height; to = to })
   calls_all [] p to k calls = absurd (none_in_empty p k)
   calls_all (q ∷ ps) p to k calls = by (first_or_after q ps p k) (λ m. calls_all ps p to m calls)
     where
       c : Call
       c = record { from = p.start; height = p.height; to = to }
 
-      by : (q ≡ p) ⊎ Contains ps p → (Contains ps p → Contains (calls_of l image ps) c) → Contains (calls_of l image (q ∷ ps)) c
-      by (inl here) on = cons_here (call_from q (call_of l image q)) (calls_of l image ps) c (ap (λ (r : Point). call_from r (call_of l image r)) here ∙ ap (call_from p) calls)
+      by : (q ≡ p) ⊎ Contains ps p → (Contains ps p → Contains (calls_of l image ps) c)
+          → Contains (calls_of l image (q ∷ ps)) c
+      by (inl here) on = cons_here (call_from q (call_of l image q)) (calls_of l image ps) c
+          (ap (λ (r : Point). call_from r (call_of l image r)) here ∙ ap (call_from p) calls)
       by (inr after) on = cons_later (call_from q (call_of l image q)) (calls_of l image ps) c (on after)
 
   -- the calls of one more point
   pub calls_more : (points : List Point) (i : ℕ) (d : Point) → i < length points
-      → calls_of l image (take (i + 1) points) ≡ calls_of l image (take i points) ++ cons_option (call_from (get_or points i d) (call_of l image (get_or points i d))) []
-  calls_more points i d below = ap (calls_of l image) (take_more points i d below) ∙ filter_map-append (λ p. call_from p (call_of l image p)) (take i points) (get_or points i d ∷ [])
+      → calls_of l image (take (i + 1) points) ≡ calls_of l image (take i points)
+      ++ cons_option (call_from (get_or points i d) (call_of l image (get_or points i d))) []
+  calls_more points i d below = ap (calls_of l image) (take_more points i d below)
+      ∙ filter_map-append (λ p. call_from p (call_of l image p)) (take i points) (get_or points i d ∷ [])
 
   -- the list has these calls and no others
-  pub calls_in : (points : List Point) (calls : List Call) (c : Call) → AreCallsOf l image points calls → Contains (calls_of l image points) c → Contains calls c
+  pub calls_in : (points : List Point) (calls : List Call) (c : Call) → AreCallsOf l image points calls
+      → Contains (calls_of l image points) c → Contains calls c
   calls_in points calls c is k = Contains-permutation (calls_of l image points) calls c is k
 
-  pub are_calls : (points : List Point) (calls : List Call) → AreCallsOf l image points calls → ((p : Point) → Contains points p → IsPoint l image p) → AreCalls l image calls
-  are_calls points calls is only c k = calls_only points only c (Contains-permutation calls (calls_of l image points) c (IsPermutation-sym (calls_of l image points) calls is) k)
+  pub are_calls : (points : List Point) (calls : List Call) → AreCallsOf l image points calls
+      → ((p : Point) → Contains points p → IsPoint l image p) → AreCalls l image calls
+  are_calls points calls is only c k =
+      calls_only points only c
+      (Contains-permutation calls (calls_of l image points) c (IsPermutation-sym (calls_of l image points) calls is) k)
 
   -- the rows of the calls of all points
-  pub rows_are : (points : List Point) (calls : List Call) (rows : List (List ℕ)) → ArePoints l image points → AreCallsOf l image points calls → AreRowsOf calls rows → AreCallRows l image rows
+  pub rows_are : (points : List Point) (calls : List Call) (rows : List (List ℕ)) → ArePoints l image points
+      → AreCallsOf l image points calls → AreRowsOf calls rows → AreCallRows l image rows
   rows_are points calls rows are is r = record {
     only = λ from to k.
         let d = r.only from to k in
-        let c = are_calls points calls is are.only d.call d.listed in
-        (d.call.height, subst (λ n. CallsAt l image (At from) d.call.height n) d.to_is (subst (λ s. CallsAt l image s d.call.height d.call.to) d.from_is c));
+        let c = are_calls points calls is are.only d.call d.listed in (
+          d.call.height,
+          subst (λ n. CallsAt l image (At from) d.call.height n) d.to_is
+              (subst (λ s. CallsAt l image s d.call.height d.call.to) d.from_is c),
+        );
     all = λ from to k.
         let g = k.1 in
         r.all from to (record {
           call = record { from = g.point.start; height = g.point.height; to = to };
-          listed = calls_in points calls (record { from = g.point.start; height = g.point.height; to = to }) is (calls_all points g.point to (are.all g.point g.is_point) g.calls);
+          listed = calls_in points calls (record { from = g.point.start; height = g.point.height; to = to }) is
+              (calls_all points g.point to (are.all g.point g.is_point) g.calls);
           from_is = g.start_is;
           to_is = refl;
         });
@@ -103,10 +128,17 @@ rows_none count rows is h = record {
 }
 
 one_more : (calls : List Call) (c : Call) (from to : ℕ) → IsCalled calls from to → IsCalled (calls ++ c ∷ []) from to
-one_more calls c from to k = record { call = k.call; listed = Contains-append_left calls (c ∷ []) k.call k.listed; from_is = k.from_is; to_is = k.to_is }
+one_more calls c from to k =
+    record {
+      call = k.call;
+      listed = Contains-append_left calls (c ∷ []) k.call k.listed;
+      from_is = k.from_is;
+      to_is = k.to_is;
+    }
 
 -- one more call
-pub rows_more : (calls : List Call) (c : Call) (rows : List (List ℕ)) → ((from : ℕ) → c.from ≡ At from → from < 65536) → AreRowsOf calls rows → AreRowsOf (calls ++ c ∷ []) (with_call rows c.from c.to)
+pub rows_more : (calls : List Call) (c : Call) (rows : List (List ℕ)) → ((from : ℕ) → c.from ≡ At from → from < 65536)
+    → AreRowsOf calls rows → AreRowsOf (calls ++ c ∷ []) (with_call rows c.from c.to)
 rows_more calls c rows few h = by c.from refl
   where
     by : (s : Start) → c.from ≡ s → AreRowsOf (calls ++ c ∷ []) (with_call rows s c.to)
@@ -122,18 +154,23 @@ rows_more calls c rows few h = by c.from refl
       len = length-set rows a row ∙ h.len;
       only = λ from to k. elim (same_or_not from a) as (λ _. IsCalled (calls ++ c ∷ []) from to) [
         | inl same ↦ newest from to same (subst (λ (r : List ℕ). Contains r to) (ap (row_of new) same ∙ set_row) k)
-        | inr ne ↦ one_more calls c from to (h.only from to (subst (λ (r : List ℕ). Contains r to) (get_or-set_other rows a from row [] ne) k))
+        | inr ne ↦ one_more calls c from to
+            (h.only from to (subst (λ (r : List ℕ). Contains r to) (get_or-set_other rows a from row [] ne) k))
       ];
       all = λ from to k. elim (same_or_not from a) as (λ _. Contains (row_of new from) to) [
-        | inl same ↦ subst (λ (r : List ℕ). Contains r to) (sym (ap (row_of new) same ∙ set_row)) (elim (Contains-push_cases calls c k.call k.listed) as (λ _. Contains row to) [
-          | inl early ↦ Contains-append_left (row_of rows a) (c.to ∷ []) to
-              (subst (λ n. Contains (row_of rows n) to) same (h.all from to (record { call = k.call; listed = early; from_is = k.from_is; to_is = k.to_is })))
-          | inr here ↦ subst (λ n. Contains row n) (ap (λ (x : Call). x.to) here ∙ k.to_is) (Contains-push (row_of rows a) c.to)
-        ])
-        | inr ne ↦ subst (λ (r : List ℕ). Contains r to) (sym (get_or-set_other rows a from row [] ne)) (elim (Contains-push_cases calls c k.call k.listed) as (λ _. Contains (row_of rows from) to) [
-          | inl early ↦ h.all from to (record { call = k.call; listed = early; from_is = k.from_is; to_is = k.to_is })
-          | inr here ↦ absurd (ne (same_At from a (sym k.from_is ∙ ap (λ (x : Call). x.from) (sym here) ∙ e)))
-        ])
+        | inl same ↦ subst (λ (r : List ℕ). Contains r to) (sym (ap (row_of new) same ∙ set_row))
+            (elim (Contains-push_cases calls c k.call k.listed) as (λ _. Contains row to) [
+              | inl early ↦ Contains-append_left (row_of rows a) (c.to ∷ []) to
+                  (subst (λ n. Contains (row_of rows n) to) same
+                  (h.all from to (record { call = k.call; listed = early; from_is = k.from_is; to_is = k.to_is })))
+              | inr here ↦ subst (λ n. Contains row n) (ap (λ (x : Call). x.to) here ∙ k.to_is)
+                  (Contains-push (row_of rows a) c.to)
+            ])
+        | inr ne ↦ subst (λ (r : List ℕ). Contains r to) (sym (get_or-set_other rows a from row [] ne))
+            (elim (Contains-push_cases calls c k.call k.listed) as (λ _. Contains (row_of rows from) to) [
+              | inl early ↦ h.all from to (record { call = k.call; listed = early; from_is = k.from_is; to_is = k.to_is })
+              | inr here ↦ absurd (ne (same_At from a (sym k.from_is ∙ ap (λ (x : Call). x.from) (sym here) ∙ e)))
+            ])
       ];
     }
       where
@@ -147,7 +184,9 @@ rows_more calls c rows few h = by c.from refl
         set_row = get_or-set_same rows a row [] (omega (arith, few a e, h.len))
 
         newest : (from to : ℕ) → from ≡ a → Contains row to → IsCalled (calls ++ c ∷ []) from to
-        newest from to same k = elim (Contains-push_cases (row_of rows a) c.to to k) as (λ _. IsCalled (calls ++ c ∷ []) from to) [
-          | inl early ↦ one_more calls c from to (h.only from to (subst (λ n. Contains (row_of rows n) to) (sym same) early))
-          | inr here ↦ record { call = c; listed = Contains-push calls c; from_is = e ∙ ap At (sym same); to_is = here }
-        ]
+        newest from to same k =
+            elim (Contains-push_cases (row_of rows a) c.to to k) as (λ _. IsCalled (calls ++ c ∷ []) from to) [
+              | inl early ↦ one_more calls c from to
+                  (h.only from to (subst (λ n. Contains (row_of rows n) to) (sym same) early))
+              | inr here ↦ record { call = c; listed = Contains-push calls c; from_is = e ∙ ap At (sym same); to_is = here }
+            ]

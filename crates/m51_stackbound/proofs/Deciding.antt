@@ -1,5 +1,6 @@
 -- From the tables to the answers of the bound.
-use Rattle.std.proofs.Common.{◌≡◌, ◌<◌, ◌≤◌, ℕ, zero, suc, Bool, true, false, List, [], ◌∷◌, ◌++◌, length, get_or, map, refl, sym, ap, subst, ◌∙◌, arith, inl, inr}
+use Rattle.std.proofs.Common.{◌≡◌, ◌<◌, ◌≤◌, ℕ, zero, suc, Bool, true, false, List, [], ◌∷◌, ◌++◌, length, get_or, map}
+use Rattle.std.proofs.Common.{refl, sym, ap, subst, ◌∙◌, arith, inl, inr}
 use Rattle.std.specs.Prelude.{nat_lt, slice_index}
 use Rattle.std.specs.List.{Any, Contains, list_any}
 use Rattle.std.proofs.lemmas.Bool.{cases_lt}
@@ -18,7 +19,8 @@ use Rattle.m51_module.specs.Sound.{IsSound}
 use Rattle.m51_stackbound.specs.declared.paths.Next.{Next}
 use Rattle.m51_stackbound.specs.declared.point.Point.{Point}
 use Rattle.m51_stackbound.specs.Above.{AreLow, HasLists, IsAbove}
-use Rattle.m51_stackbound.specs.Bounds.{AreEach, IsCyclic, IsFirstCyclic, IsRootDepth, IsStart, IsTooDeep, KeepsHeights, IsBound, IsTotal, Keeps}
+use Rattle.m51_stackbound.specs.Bounds.{AreEach, IsCyclic, IsFirstCyclic, IsRootDepth, IsStart, IsTooDeep, KeepsHeights}
+use Rattle.m51_stackbound.specs.Bounds.{IsBound, IsTotal, Keeps}
 use Rattle.m51_stackbound.specs.declared.judging.Rule.TheVariants.{PushesAbove}
 use Rattle.m51_stackbound.specs.Climb.{cap, depth_in, AreSettled, IsTaken}
 use Rattle.m51_stackbound.specs.Depths.{CallsThrough, HasHeight, IsDepth}
@@ -57,33 +59,39 @@ all_low depths none start = elim (cases_lt (depth_in depths start) 256) as (λ _
 
 module _ (l : LayoutParts) (image : List ℕ) where
   -- a depth above 255 in the table is one of a start that takes as much
-  taken_by : (points : List Point) (depths : List ℕ) (s : AreSettled l image points depths) (start : Start) → 255 < depth_in depths start → IsTaken l image start (depth_in depths start)
-  taken_by points depths s start high = elim (s.are.taken start) as (λ _. IsTaken l image start (depth_in depths start)) [
-    | inl none ↦ absurd (omega (arith, none, high))
-    | inr t ↦ t
-  ]
+  taken_by : (points : List Point) (depths : List ℕ) (s : AreSettled l image points depths) (start : Start)
+      → 255 < depth_in depths start → IsTaken l image start (depth_in depths start)
+  taken_by points depths s start high =
+      elim (s.are.taken start) as (λ _. IsTaken l image start (depth_in depths start)) [
+        | inl none ↦ absurd (omega (arith, none, high))
+        | inr t ↦ t
+      ]
 
   -- so SP may get a value above 255
-  pub depth_above : (points : List Point) (depths : List ℕ) (s : AreSettled l image points depths) → list_any (λ depth. nat_lt 255 depth) depths ≡ true → IsTooDeep l image
+  pub depth_above : (points : List Point) (depths : List ℕ) (s : AreSettled l image points depths)
+      → list_any (λ depth. nat_lt 255 depth) depths ≡ true → IsTooDeep l image
   depth_above points depths s some = by (Any-from_list_any _ depths some) where
     by : Any (λ depth. nat_lt 255 depth ≡ true) depths → IsTooDeep l image
     by (k, depth, below, at, passes) =
         let start = start_of k in
         let same : depth_in depths start.0 ≡ depth = ap (slice_index depths) start.1 ∙ within depths k depth below at in
         let t = taken_by points depths s start.0 (grind (arith, common_steps, passes, same)) in
-        let high : 255 < t.bytes = cap_above (depth_in depths start.0) t.bytes t.depth_is (grind (arith, common_steps, passes, same)) in
+        let high : 255 < t.bytes =
+        cap_above (depth_in depths start.0) t.bytes t.depth_is (grind (arith, common_steps, passes, same)) in
         let above = taken_above l image start.0 t.path t.bytes t.takes in
         inr (above.value, above.comes, omega (arith, above.high, high))
       where
         within : (xs : List ℕ) (i x : ℕ) → i < length xs → get_or xs i x ≡ x → get_or xs i 0 ≡ x
         within xs i x low is = grind (arith, common_steps, low, is)
 
-  pub above_by : (points : List Point) (depths : List ℕ) (s : AreSettled l image points depths) (r : Bool) → r ≡ list_any (λ depth. nat_lt 255 depth) depths → Keeps l image PushesAbove → IsAbove l image depths r
+  pub above_by : (points : List Point) (depths : List ℕ) (s : AreSettled l image points depths) (r : Bool)
+      → r ≡ list_any (λ depth. nat_lt 255 depth) depths → Keeps l image PushesAbove → IsAbove l image depths r
   above_by points depths s true e none = depth_above points depths s (sym e)
   above_by points depths s false e none = (none, all_low depths (sym e))
 
   -- the first start that calls itself
-  pub first_is : (a : ℕ) → CallsThrough l image (At a) a → ((b : ℕ) → b < a → IsCyclic l image (At b) → ⊥) → IsFirstCyclic l image (At a)
+  pub first_is : (a : ℕ) → CallsThrough l image (At a) a → ((b : ℕ) → b < a → IsCyclic l image (At b) → ⊥)
+      → IsFirstCyclic l image (At a)
   first_is a h before = record { cyclic = h; first = least }
     where
       least : (other : Start) → IsCyclic l image other → rank (At a) ≤ rank other
@@ -93,14 +101,16 @@ module _ (l : LayoutParts) (image : List ℕ) where
         | inr not_less ↦ omega (arith, not_less)
       ]
 
-each_push : (Is : ℕ → RootDepth → Type 0) (vs : List ℕ) (v : ℕ) (rs : List RootDepth) (r : RootDepth) → AreEach Is vs rs → Is v r → AreEach Is (vs ++ v ∷ []) (rs ++ r ∷ [])
+each_push : (Is : ℕ → RootDepth → Type 0) (vs : List ℕ) (v : ℕ) (rs : List RootDepth) (r : RootDepth) → AreEach Is vs rs
+    → Is v r → AreEach Is (vs ++ v ∷ []) (rs ++ r ∷ [])
 each_push Is [] v [] r h k = (k, tt)
 each_push Is [] v (q ∷ rs) r h k = absurd h
 each_push Is (w ∷ vs) v [] r h k = absurd h
 each_push Is (w ∷ vs) v (q ∷ rs) r h k = (h.0, each_push Is vs v rs r h.1 k)
 
 -- where no address has a start that calls itself there is none
-pub none_is : (l : LayoutParts) (image : List ℕ) (points : List Point) (depths : List ℕ) → ArePoints l image points → AreSettled l image points depths → ((a : ℕ) → a < 65536 → IsCyclic l image (At a) → ⊥)
+pub none_is : (l : LayoutParts) (image : List ℕ) (points : List Point) (depths : List ℕ) → ArePoints l image points
+    → AreSettled l image points depths → ((a : ℕ) → a < 65536 → IsCyclic l image (At a) → ⊥)
     → (start : Start) → IsCyclic l image start → ⊥
 none_is l image points depths are s none Reset h = h
 none_is l image points depths are s none (At a) h = elim (cases_lt a 65536) as (λ _. ⊥) [
@@ -111,48 +121,75 @@ none_is l image points depths are s none (At a) h = elim (cases_lt a 65536) as (
 ]
 
 -- one more root
-pub rows_more : (l : LayoutParts) (depths : List ℕ) (nexts : List Next) (vs : List ℕ) (v : ℕ) (roots : List RootDepth) (r : RootDepth) → AreRows l depths nexts vs roots → IsRowAt l depths nexts (At v) v r
+pub rows_more : (l : LayoutParts) (depths : List ℕ) (nexts : List Next) (vs : List ℕ) (v : ℕ) (roots : List RootDepth)
+    (r : RootDepth) → AreRows l depths nexts vs roots → IsRowAt l depths nexts (At v) v r
     → AreRows l depths nexts (vs ++ v ∷ []) (roots ++ r ∷ [])
 rows_more l depths nexts vs v roots r h row = record {
   reset = h.reset;
   interrupts = h.interrupts ++ r ∷ [];
   roots_are = ap (λ rs. rs ++ r ∷ []) h.roots_are;
   reset_is = h.reset_is;
-  interrupts_are = each_push (λ vector. IsRowAt l depths nexts (At vector) vector) vs v h.interrupts r h.interrupts_are row;
+  interrupts_are = each_push (λ vector. IsRowAt l depths nexts (At vector) vector) vs v h.interrupts r h.interrupts_are
+      row;
 }
 
 -- each of a list by another fact
-pub each_more : (Is New : ℕ → RootDepth → Type 0) (vs : List ℕ) (rs : List RootDepth) → ((v : ℕ) (r : RootDepth) → Contains vs v → Is v r → New v r) → AreEach Is vs rs → AreEach New vs rs
+pub each_more : (Is New : ℕ → RootDepth → Type 0) (vs : List ℕ) (rs : List RootDepth)
+    → ((v : ℕ) (r : RootDepth) → Contains vs v → Is v r → New v r) → AreEach Is vs rs → AreEach New vs rs
 each_more Is New [] [] on h = h
 each_more Is New [] (r ∷ rs) on h = absurd h
 each_more Is New (v ∷ vs) [] on h = absurd h
-each_more Is New (v ∷ vs) (r ∷ rs) on h = (on v r (0, omega arith, refl) h.0, each_more Is New vs rs (λ w q k. on w q (suc k.0, omega (arith, k.1), k.2)) h.1)
+each_more Is New (v ∷ vs) (r ∷ rs) on h =
+    (on v r (0, omega arith, refl) h.0, each_more Is New vs rs (λ w q k. on w q (suc k.0, omega (arith, k.1), k.2)) h.1)
 
-module _ (l : LayoutParts) (image : List ℕ) (points : List Point) (depths : List ℕ) (nexts : List Next) (are : ArePoints l image points) (s : AreSettled l image points depths) (low : AreLow depths)
+module _ (l : LayoutParts) (image : List ℕ) (points : List Point) (depths : List ℕ) (nexts : List Next)
+    (are : ArePoints l image points) (s : AreSettled l image points depths) (low : AreLow depths)
     (n : AreNexts l image points depths nexts) where
-  row_is : (start : Start) (vector height : ℕ) (r : RootDepth) → HasHeight l image start height → IsRowAt l depths nexts start vector r → IsRootDepth l image start vector r
+  row_is : (start : Start) (vector height : ℕ) (r : RootDepth) → HasHeight l image start height
+      → IsRowAt l depths nexts start vector r → IsRootDepth l image start vector r
   row_is start vector height r h row =
       let is = row.row in
       record {
         root = subst (λ u. IsRootAt l vector u) (sym is.root_is) row.is_root;
-        depth = subst (λ d. IsDepth l image start d) (sym is.depth) (depth_is l image points depths nexts are s low n start height h);
+        depth = subst (λ d. IsDepth l image start d) (sym is.depth)
+            (depth_is l image points depths nexts are s low n start height h);
         path = path_is l image points depths nexts are s low n start height r.path is.more h is.path_is is.leads;
       }
 
   reset_height : HasHeight l image Reset 7
-  reset_height = record { point = point_at Reset 0 7; is_point = reset_first l image; start_is = refl; height_is = refl }
+  reset_height = record {
+    point = point_at Reset 0 7;
+    is_point = reset_first l image;
+    start_is = refl;
+    height_is = refl;
+  }
 
   handler_height : (v : ℕ) → Contains (handlers l) v → HasHeight l image (At v) 0
-  handler_height v h = record { point = entry_at v; is_point = handler_first l image v h; start_is = refl; height_is = refl }
+  handler_height v h = record {
+    point = entry_at v;
+    is_point = handler_first l image v h;
+    start_is = refl;
+    height_is = refl;
+  }
 
   -- a noted start is one of the program
-  noted_start : (starts : List Bool) → AreStarts points starts → (at : ℕ) → is_noted starts at ≡ true → IsStart l image (At at)
+  noted_start : (starts : List Bool) → AreStarts points starts → (at : ℕ) → is_noted starts at ≡ true
+      → IsStart l image (At at)
   noted_start starts ss at h =
-      let k = ss.only at h in
-      (k.point.height, record { point = k.point; is_point = are.only k.point k.listed; start_is = k.start_is; height_is = refl })
+      let k = ss.only at h in (
+        k.point.height,
+        record {
+          point = k.point;
+          is_point = are.only k.point k.listed;
+          start_is = k.start_is;
+          height_is = refl;
+        },
+      )
 
-  start_noted : (starts : List Bool) → AreStarts points starts → (at : ℕ) → IsStart l image (At at) → is_noted starts at ≡ true
-  start_noted starts ss at (height, h) = ss.all at (record { point = h.point; listed = are.all h.point h.is_point; start_is = h.start_is })
+  start_noted : (starts : List Bool) → AreStarts points starts → (at : ℕ) → IsStart l image (At at)
+      → is_noted starts at ≡ true
+  start_noted starts ss at (height, h) =
+      ss.all at (record { point = h.point; listed = are.all h.point h.is_point; start_is = h.start_is })
 
   few_addresses : (starts : List Bool) → length starts ≡ 65536 → (at : ℕ) → is_noted starts at ≡ true → at < 65536
   few_addresses starts len at h = elim (cases_lt at (length starts)) as (λ _. at < 65536) [
@@ -166,11 +203,14 @@ module _ (l : LayoutParts) (image : List ℕ) (points : List Point) (depths : Li
       not_past : (b : Bool) → b ≡ true → b ≡ false → ⊥
       not_past b e k = absurd (cc (e, k))
 
-  pub covered_noted : IsSound l → (starts : List Bool) → AreStarts points starts → (at : ℕ) → is_noted starts at ≡ true → (unit : ℕ) × IsUnitAt l at unit
+  pub covered_noted : IsSound l → (starts : List Bool) → AreStarts points starts → (at : ℕ) → is_noted starts at ≡ true
+      → (unit : ℕ) × IsUnitAt l at unit
   covered_noted sound starts ss at h = start_covered l sound image at (noted_start starts ss at h)
 
-  pub lists : (starts : List Bool) (procs : List Proc) (roots : List RootDepth) (total : ℕ) (b : StackBound) → AreStarts points starts → AreListed l starts depths 65536 procs
-      → AreRows l depths nexts (handlers l) roots → b.total ≡ total → b.procs ≡ procs → b.roots ≡ roots → HasLists l image total b
+  pub lists : (starts : List Bool) (procs : List Proc) (roots : List RootDepth) (total : ℕ) (b : StackBound)
+      → AreStarts points starts → AreListed l starts depths 65536 procs
+      → AreRows l depths nexts (handlers l) roots → b.total ≡ total → b.procs ≡ procs → b.roots ≡ roots
+      → HasLists l image total b
   lists starts procs roots total b ss listed rows total_is procs_are roots_are = record {
     total_is = total_is;
     rising = subst (λ ps. Rises (map (λ (p : Proc). p.at) ps)) (sym procs_are) listed.rising;
@@ -180,31 +220,38 @@ module _ (l : LayoutParts) (image : List ℕ) (points : List Point) (depths : Li
         record {
           is_start = start;
           unit = is.unit;
-          depth = subst (λ d. IsDepth l image (At p.at) d) (sym is.depth) (depth_is l image points depths nexts are s low n (At p.at) start.0 start.1);
+          depth = subst (λ d. IsDepth l image (At p.at) d) (sym is.depth)
+              (depth_is l image points depths nexts are s low n (At p.at) start.0 start.1);
         };
     all = λ at k.
         let noted = start_noted starts ss at k in
-        subst (λ ps. Contains (map (λ (p : Proc). p.at) ps) at) (sym procs_are) (listed.all at (few_addresses starts ss.len at noted) noted);
+        subst (λ ps. Contains (map (λ (p : Proc). p.at) ps) at) (sym procs_are)
+        (listed.all at (few_addresses starts ss.len at noted) noted);
     reset = rows.reset;
     interrupts = rows.interrupts;
     roots = roots_are ∙ rows.roots_are;
     reset_is = row_is Reset 0 7 rows.reset reset_height rows.reset_is;
-    interrupts_are = each_more (λ vector. IsRowAt l depths nexts (At vector) vector) (λ vector. IsRootDepth l image (At vector) vector) (handlers l) rows.interrupts
+    interrupts_are = each_more (λ vector. IsRowAt l depths nexts (At vector) vector)
+        (λ vector. IsRootDepth l image (At vector) vector) (handlers l) rows.interrupts
         (λ v r k row. row_is (At v) v 0 r (handler_height v k) row) rows.interrupts_are;
   }
 
 -- the bound of a program whose depths are not above 255
-module _ (l : LayoutParts) (image : List ℕ) (points : List Point) (depths : List ℕ) (are : ArePoints l image points) (s : AreSettled l image points depths) (low : AreLow depths) where
+module _ (l : LayoutParts) (image : List ℕ) (points : List Point) (depths : List ℕ) (are : ArePoints l image points)
+    (s : AreSettled l image points depths) (low : AreLow depths) where
   deep : (start : Start) (height : ℕ) → HasHeight l image start height → IsDepth l image start (depth_in depths start)
-  deep start height h = elim (settled_says l image points depths are s start height h) as (λ _. IsDepth l image start (depth_in depths start)) [
-    | inl t ↦ t.1
-    | inr t ↦ absurd (omega (arith, t.0, low start))
-  ]
+  deep start height h =
+      elim (settled_says l image points depths are s start height h) as
+      (λ _. IsDepth l image start (depth_in depths start)) [
+        | inl t ↦ t.1
+        | inr t ↦ absurd (omega (arith, t.0, low start))
+      ]
 
   pub total_above : (total : ℕ) → IsSum depths (handlers l) total → 255 < total → IsTooDeep l image
   total_above total sum high = inr (total, comes_total l image depths deep total sum, high)
 
-  pub bound_is : (total : ℕ) (b : StackBound) → IsSum depths (handlers l) total → KeepsHeights l image → Keeps l image PushesAbove → HasLists l image total b → IsBound l image b
+  pub bound_is : (total : ℕ) (b : StackBound) → IsSum depths (handlers l) total → KeepsHeights l image
+      → Keeps l image PushesAbove → HasLists l image total b → IsBound l image b
   bound_is total b sum kept no_push h = record {
     kept = kept;
     no_push = no_push;

@@ -23,16 +23,21 @@ second_false false b h k = absurd (cc h)
 equals_self : (n m : ℕ) → nat_eq n m ≡ false → n ≡ m → ⊥
 equals_self n m h e = grind (arith, common_steps, h, e)
 
-pub push_fits : (p : Point) (instr : Instr) → p.height ≤ 255 → ends_at p instr ≡ false → is_push instr ≡ true → p.height < 255
+pub push_fits : (p : Point) (instr : Instr) → p.height ≤ 255 → ends_at p instr ≡ false → is_push instr ≡ true
+    → p.height < 255
 unfolding ends_at pushes_above
 push_fits p instr fits goes push =
-    let none : (is_push instr && nat_eq p.height 255) ≡ false = last_false (is_return instr) (sets_stack p instr) (is_computed instr) (pops_below p instr) (is_push instr && nat_eq p.height 255) goes in
+    let none : (is_push instr && nat_eq p.height 255) ≡ false =
+    last_false (is_return instr) (sets_stack p instr) (is_computed instr) (pops_below p instr)
+    (is_push instr && nat_eq p.height 255) goes in
     let other = equals_self p.height 255 (second_false (is_push instr) (nat_eq p.height 255) push none) in
     omega (arith, fits, other)
 
 pub pop_fits : (p : Point) (instr : Instr) → ends_at p instr ≡ false → is_pop instr ≡ true → 0 < p.height
 unfolding ends_at pops_below
 pop_fits p instr goes pop =
-    let none : (is_pop instr && nat_eq p.height 0) ≡ false = fourth_false (is_return instr) (sets_stack p instr) (is_computed instr) (is_pop instr && nat_eq p.height 0) (pushes_above p instr) goes in
+    let none : (is_pop instr && nat_eq p.height 0) ≡ false =
+    fourth_false (is_return instr) (sets_stack p instr) (is_computed instr) (is_pop instr && nat_eq p.height 0)
+    (pushes_above p instr) goes in
     let other = equals_self p.height 0 (second_false (is_pop instr) (nat_eq p.height 0) pop none) in
     omega (arith, other)

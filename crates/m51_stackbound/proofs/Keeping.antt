@@ -10,14 +10,16 @@ use Rattle.m51_stackbound.specs.Instructions.{is_computed}
 use Rattle.m51_stackbound.specs.Points.{instruction, pops_below, pushes_above, sets_stack, IsPoint}
 use Rattle.m51_stackbound.specs.Rules.{breaks, breaks_by, place_of}
 
-module _ (l : LayoutParts) (image : List ℕ) (p : Point) (instr : Instr) (is : IsPoint l image p) (at : instruction l image p.address ≡ Some instr) where
+module _ (l : LayoutParts) (image : List ℕ) (p : Point) (instr : Instr) (is : IsPoint l image p)
+    (at : instruction l image p.address ≡ Some instr) where
   kept : (rule : Rule) → Keeps l image rule → breaks rule p instr ≡ false
   unfolding breaks_by
   kept rule keeps = by (breaks rule p instr) refl
     where
       by : (b : Bool) → breaks rule p instr ≡ b → b ≡ false
       by false e = refl
-      by true e = absurd (keeps (place_of p) (record { point = p; is_point = is; breaks = ap (breaks_by rule p) at ∙ e; place_is = refl }))
+      by true e = absurd (keeps (place_of p)
+          (record { point = p; is_point = is; breaks = ap (breaks_by rule p) at ∙ e; place_is = refl }))
 
   pub stack_kept : KeepsRules l image → sets_stack p instr ≡ false
   stack_kept h = kept WritesSp h.writes

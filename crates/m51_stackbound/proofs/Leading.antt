@@ -1,5 +1,6 @@
 -- The path in the table takes the depth of its start, and comes first of those that do.
-use Rattle.std.proofs.Common.{◌≡◌, ◌≢◌, ◌<◌, ◌≤◌, ◌+◌, ℕ, List, [], ◌∷◌, ◌++◌, refl, sym, ap, subst, ◌∙◌, arith, ◌⊎◌, inl, inr, Some, None}
+use Rattle.std.proofs.Common.{◌≡◌, ◌≢◌, ◌<◌, ◌≤◌, ◌+◌, ℕ, List, [], ◌∷◌, ◌++◌, refl, sym, ap, subst, ◌∙◌, arith, ◌⊎◌}
+use Rattle.std.proofs.Common.{inl, inr, Some, None}
 use Rattle.std.specs.List.{Contains}
 use Rattle.std.proofs.lemmas.Bool.{cases_lt}
 use Rattle.m51_module.specs.declared.parts.LayoutParts.{LayoutParts}
@@ -11,7 +12,8 @@ use Rattle.m51_stackbound.specs.declared.point.Point.{Point}
 use Rattle.m51_stackbound.specs.Above.{AreLow}
 use Rattle.m51_stackbound.specs.Climb.{cap, depth_in, AreSettled}
 use Rattle.m51_stackbound.specs.Depths.{CallsAt, HasHeight, IsDepth, IsPath, Takes, Own, Call, ComesFirst}
-use Rattle.m51_stackbound.specs.Nexts.{next_by, IsNoLater, Gives, next_in, AreNexts, AreTables, called_next, IsPassed, Leads, Stop, Go}
+use Rattle.m51_stackbound.specs.Nexts.{next_by, IsNoLater, Gives, next_in, AreNexts, AreTables, called_next, IsPassed}
+use Rattle.m51_stackbound.specs.Nexts.{Leads, Stop, Go}
 use Rattle.m51_stackbound.specs.Points.{call_of}
 use Rattle.m51_stackbound.specs.Rules.{rank}
 use Rattle.m51_stackbound.specs.Search.{ArePoints}
@@ -40,54 +42,74 @@ module _ (nexts : List Next) (first : Start) where
   passed_none path is = record { done = []; path_is = is; leads = λ more h. h }
 
   -- the path continues
-  pub passed_more : (last : Start) (path new : List Start) (to : ℕ) → IsPassed nexts first last path → called_next (next_in nexts last) ≡ Some to → new ≡ path ++ At to ∷ [] → IsPassed nexts first (At to) new
+  pub passed_more : (last : Start) (path new : List Start) (to : ℕ) → IsPassed nexts first last path
+      → called_next (next_in nexts last) ≡ Some to → new ≡ path ++ At to ∷ [] → IsPassed nexts first (At to) new
   passed_more last path new to h is new_is = record {
     done = h.done ++ At to ∷ [];
     path_is = new_is ∙ ap (λ ss. ss ++ At to ∷ []) h.path_is;
-    leads = λ more rest. subst (λ ss. Leads nexts first ss) (sym (join h.done (At to) more)) (h.leads (At to ∷ more) (Go last to more is rest));
+    leads = λ more rest. subst (λ ss. Leads nexts first ss) (sym (join h.done (At to) more))
+        (h.leads (At to ∷ more) (Go last to more is rest));
   }
 
   -- the path ends
-  pub passed_all : (last : Start) (path : List Start) (h : IsPassed nexts first last path) → called_next (next_in nexts last) ≡ None → Leads nexts first h.done
+  pub passed_all : (last : Start) (path : List Start) (h : IsPassed nexts first last path)
+      → called_next (next_in nexts last) ≡ None → Leads nexts first h.done
   passed_all last path h none = subst (λ ss. Leads nexts first ss) (join_none h.done) (h.leads [] (Stop last none))
 
-module _ (l : LayoutParts) (image : List ℕ) (points : List Point) (depths : List ℕ) (nexts : List Next) (are : ArePoints l image points) (s : AreSettled l image points depths) (low : AreLow depths)
+module _ (l : LayoutParts) (image : List ℕ) (points : List Point) (depths : List ℕ) (nexts : List Next)
+    (are : ArePoints l image points) (s : AreSettled l image points depths) (low : AreLow depths)
     (n : AreNexts l image points depths nexts) where
   -- the depth in the table is the depth of the start
-  pub depth_is : (start : Start) (height : ℕ) → HasHeight l image start height → IsDepth l image start (depth_in depths start)
-  depth_is start height h = elim (settled_says l image points depths are s start height h) as (λ _. IsDepth l image start (depth_in depths start)) [
-    | inl t ↦ t.1
-    | inr t ↦ absurd (omega (arith, t.0, low start))
-  ]
+  pub depth_is : (start : Start) (height : ℕ) → HasHeight l image start height
+      → IsDepth l image start (depth_in depths start)
+  depth_is start height h =
+      elim (settled_says l image points depths are s start height h) as
+      (λ _. IsDepth l image start (depth_in depths start)) [
+        | inl t ↦ t.1
+        | inr t ↦ absurd (omega (arith, t.0, low start))
+      ]
 
-  given_by : (start : Start) (next : Next) → next_in nexts start ≡ next → next ≢ Unknown → Gives l image points depths start next
+  given_by : (start : Start) (next : Next) → next_in nexts start ≡ next → next ≢ Unknown
+      → Gives l image points depths start next
   given_by start next e other = elim (n.each start).given as (λ _. Gives l image points depths start next) [
     | inl none ↦ absurd (other (sym e ∙ none))
     | inr g ↦ subst (λ t. Gives l image points depths start t) e g
   ]
 
-  earliest_by : (start : Start) (next : Next) (p : Point) (way : Next) → next_in nexts start ≡ next → Contains points p → p.start ≡ start → next_by depths p (call_of l image p) ≡ way → IsNoLater next way
+  earliest_by : (start : Start) (next : Next) (p : Point) (way : Next) → next_in nexts start ≡ next → Contains points p
+      → p.start ≡ start → next_by depths p (call_of l image p) ≡ way → IsNoLater next way
   earliest_by start next p way e listed is w =
-      subst (λ t. IsNoLater t way) e (subst (λ t. IsNoLater (next_in nexts start) t) w ((n.each start).earliest p listed is))
+      subst (λ t. IsNoLater t way) e
+      (subst (λ t. IsNoLater (next_in nexts start) t) w ((n.each start).earliest p listed is))
 
   -- what a call gives is at most the depth
-  call_most : (start : Start) (height to bytes : ℕ) → CallsAt l image start height to → bytes ≤ depth_in depths (At to) → height + 2 + bytes ≤ depth_in depths start
+  call_most : (start : Start) (height to bytes : ℕ) → CallsAt l image start height to → bytes ≤ depth_in depths (At to)
+      → height + 2 + bytes ≤ depth_in depths start
   call_most start height to bytes c below =
-      at_most (depth_in depths start) (height + 2 + bytes) (low start) (settled_call l image points depths are s start height to bytes c (omega (arith, cap_most bytes, below)))
+      at_most (depth_in depths start) (height + 2 + bytes) (low start)
+      (settled_call l image points depths are s start height to bytes c (omega (arith, cap_most bytes, below)))
 
-  pub called_most : (start : Start) (path : List Start) (bytes : ℕ) → Takes l image start path bytes → bytes ≤ depth_in depths start
-  called_most start path bytes t = at_most (depth_in depths start) bytes (low start) (takes_most l image points depths are s start path bytes t)
+  pub called_most : (start : Start) (path : List Start) (bytes : ℕ) → Takes l image start path bytes
+      → bytes ≤ depth_in depths start
+  called_most start path bytes t =
+      at_most (depth_in depths start) bytes (low start) (takes_most l image points depths are s start path bytes t)
 
   -- what gives the depth, is a way
-  own_way : (start : Start) (height : ℕ) → HasHeight l image start height → height ≡ depth_in depths start → (next : Next) → next_in nexts start ≡ next → IsNoLater next Ends
+  own_way : (start : Start) (height : ℕ) → HasHeight l image start height → height ≡ depth_in depths start
+      → (next : Next) → next_in nexts start ≡ next → IsNoLater next Ends
   own_way start height h e next is =
-      earliest_by start next h.point Ends is (are.all h.point h.is_point) h.start_is (ends_from depths h.point (call_of l image h.point) (h.height_is ∙ (e ∙ ap (depth_in depths) (sym h.start_is))))
+      earliest_by start next h.point Ends is (are.all h.point h.is_point) h.start_is
+      (ends_from depths h.point (call_of l image h.point)
+      (h.height_is ∙ (e ∙ ap (depth_in depths) (sym h.start_is))))
 
-  call_way : (start : Start) (height to : ℕ) → CallsAt l image start height to → height + 2 + depth_in depths (At to) ≡ depth_in depths start → (next : Next) → next_in nexts start ≡ next → IsNoLater next (Calls to)
+  call_way : (start : Start) (height to : ℕ) → CallsAt l image start height to
+      → height + 2 + depth_in depths (At to) ≡ depth_in depths start → (next : Next) → next_in nexts start ≡ next
+      → IsNoLater next (Calls to)
   call_way start height to c e next is =
       let sum : c.point.height + 2 + depth_in depths (At to) ≡ depth_in depths c.point.start =
       ap (λ k. k + 2 + depth_in depths (At to)) c.height_is ∙ (e ∙ ap (depth_in depths) (sym c.start_is)) in
-      earliest_by start next c.point (Calls to) is (are.all c.point c.is_point) c.start_is (calls_from depths c.point (call_of l image c.point) to c.calls sum)
+      earliest_by start next c.point (Calls to) is (are.all c.point c.is_point) c.start_is
+      (calls_from depths c.point (call_of l image c.point) to c.calls sum)
 
   -- a call of a path, with its point
   record IsCall (start : Start) (to : ℕ) : Type 0 where
@@ -101,32 +123,48 @@ module _ (l : LayoutParts) (image : List ℕ) (points : List Point) (depths : Li
       let giving = calls_giving depths g.point (call_of l image g.point) to g.next_is in
       record {
         height = g.point.height;
-        calls = record { point = g.point; is_point = are.only g.point g.listed; start_is = g.start_is; height_is = refl; calls = giving.calls };
+        calls = record {
+          point = g.point;
+          is_point = are.only g.point g.listed;
+          start_is = g.start_is;
+          height_is = refl;
+          calls = giving.calls;
+        };
         sum = giving.sum ∙ ap (depth_in depths) g.start_is;
       }
 
   -- depths fall along a path
-  pub falls : (start : Start) (to : ℕ) → called_next (next_in nexts start) ≡ Some to → depth_in depths (At to) < depth_in depths start
+  pub falls : (start : Start) (to : ℕ) → called_next (next_in nexts start) ≡ Some to
+      → depth_in depths (At to) < depth_in depths start
   falls start to h = let c = call_of_next start to (calls_of_next (next_in nexts start) to h) in omega (arith, c.sum)
 
   pub tables : AreTables depths nexts
   tables = record { depths_len = s.are.len; most = s.are.most; nexts_len = n.len; falls = falls }
 
   -- where the path ends a point has the depth
-  ends_by : (start : Start) (path : List Start) (bytes : ℕ) → Takes l image start path bytes → bytes ≡ depth_in depths start → (next : Next) → next_in nexts start ≡ next → called_next next ≡ None
+  ends_by : (start : Start) (path : List Start) (bytes : ℕ) → Takes l image start path bytes
+      → bytes ≡ depth_in depths start → (next : Next) → next_in nexts start ≡ next → called_next next ≡ None
       → Takes l image start [] (depth_in depths start)
   ends_by start _ bytes (Own _ _ h) e next is none = subst (λ b. Takes l image start [] b) e (Own start bytes h)
   ends_by start _ _ (Call _ height to more bytes c rest) e Ends is none =
       let g = given_by start Ends is (λ k. absurd (cc k)) in
       let same = ends_height depths g.point (call_of l image g.point) g.next_is in
-      Own start (depth_in depths start) (record { point = g.point; is_point = are.only g.point g.listed; start_is = g.start_is; height_is = same ∙ ap (depth_in depths) g.start_is })
+      Own start (depth_in depths start)
+      (record {
+        point = g.point;
+        is_point = are.only g.point g.listed;
+        start_is = g.start_is;
+        height_is = same ∙ ap (depth_in depths) g.start_is;
+      })
   ends_by start _ _ (Call _ height to more bytes c rest) e Unknown is none =
       let most = called_most (At to) more bytes rest in
-      let sum : height + 2 + depth_in depths (At to) ≡ depth_in depths start = omega (arith, e, most, call_most start height to (depth_in depths (At to)) c (omega arith)) in
+      let sum : height + 2 + depth_in depths (At to) ≡ depth_in depths start =
+      omega (arith, e, most, call_most start height to (depth_in depths (At to)) c (omega arith)) in
       absurd (call_way start height to c sum Unknown is)
   ends_by start _ _ (Call _ height to more bytes c rest) e (Calls t) is none = absurd (cc none)
 
-  pub leads_takes : (start : Start) (more : List Start) (height : ℕ) → Leads nexts start more → HasHeight l image start height → Takes l image start more (depth_in depths start)
+  pub leads_takes : (start : Start) (more : List Start) (height : ℕ) → Leads nexts start more
+      → HasHeight l image start height → Takes l image start more (depth_in depths start)
   leads_takes start _ height (Stop _ none) h =
       let d = depth_is start height h in
       ends_by start d.path (depth_in depths start) d.takes refl (next_in nexts start) refl none
@@ -134,28 +172,34 @@ module _ (l : LayoutParts) (image : List ℕ) (points : List Point) (depths : Li
       let c = call_of_next start to (calls_of_next (next_in nexts start) to is) in
       let call = c.calls in
       let inside = entered l image call.point to call.is_point call.calls in
-      subst (λ b. Takes l image start (At to ∷ more) b) c.sum (Call start c.height to more (depth_in depths (At to)) call (leads_takes (At to) more 0 rest inside))
+      subst (λ b. Takes l image start (At to ∷ more) b) c.sum
+      (Call start c.height to more (depth_in depths (At to)) call (leads_takes (At to) more 0 rest inside))
 
-  pub leads_first : (start : Start) (more : List Start) → Leads nexts start more → (other : List Start) (bytes : ℕ) → Takes l image start other bytes → bytes ≡ depth_in depths start → ComesFirst more other
+  pub leads_first : (start : Start) (more : List Start) → Leads nexts start more → (other : List Start) (bytes : ℕ)
+      → Takes l image start other bytes → bytes ≡ depth_in depths start → ComesFirst more other
   leads_first start _ (Stop _ none) other bytes t e = tt
-  leads_first start _ (Go _ to more is rest) _ bytes (Own _ _ h) e = own_way start bytes h e (Calls to) (calls_of_next (next_in nexts start) to is)
+  leads_first start _ (Go _ to more is rest) _ bytes (Own _ _ h) e =
+      own_way start bytes h e (Calls to) (calls_of_next (next_in nexts start) to is)
   leads_first start _ (Go _ to more is rest) _ _ (Call _ height other path bytes c taken) e =
       let most = called_most (At other) path bytes taken in
       let high = call_most start height other (depth_in depths (At other)) c (omega arith) in
       let sum : height + 2 + depth_in depths (At other) ≡ depth_in depths start = omega (arith, e, most, high) in
       let same : bytes ≡ depth_in depths (At other) = omega (arith, e, most, high) in
-      let order : to ≤ other = call_way start height other c sum (Calls to) (calls_of_next (next_in nexts start) to is) in
+      let order : to ≤ other =
+      call_way start height other c sum (Calls to) (calls_of_next (next_in nexts start) to is) in
       elim (cases_lt to other) as (λ _. (rank (At to) < rank (At other)) ⊎ ((At to ≡ At other) × ComesFirst more path)) [
         | inl less ↦ inl (omega (arith, less))
         | inr not_less ↦
             let equal : to ≡ other = omega (arith, not_less, order) in
             inr (
               ap At equal,
-              leads_first (At to) more rest path bytes (subst (λ k. Takes l image (At k) path bytes) (sym equal) taken) (same ∙ ap (λ k. depth_in depths (At k)) (sym equal)),
+              leads_first (At to) more rest path bytes (subst (λ k. Takes l image (At k) path bytes) (sym equal) taken)
+                  (same ∙ ap (λ k. depth_in depths (At k)) (sym equal)),
             )
       ]
 
-  pub path_is : (start : Start) (height : ℕ) (path more : List Start) → HasHeight l image start height → path ≡ start ∷ more → Leads nexts start more → IsPath l image start path
+  pub path_is : (start : Start) (height : ℕ) (path more : List Start) → HasHeight l image start height
+      → path ≡ start ∷ more → Leads nexts start more → IsPath l image start path
   path_is start height path more h is leads = record {
     depth = depth_in depths start;
     is_depth = depth_is start height h;

@@ -1,5 +1,6 @@
 -- The first of several places.
-use Rattle.std.proofs.Common.{◌≡◌, ◌<◌, ◌+◌, ℕ, Bool, true, false, List, [], ◌∷◌, length, get_or, take, refl, sym, ap, subst, ◌∙◌, arith, ◌⊎◌, inl, inr, Option, Some, None}
+use Rattle.std.proofs.Common.{◌≡◌, ◌<◌, ◌+◌, ℕ, Bool, true, false, List, [], ◌∷◌, length, get_or, take, refl, sym, ap}
+use Rattle.std.proofs.Common.{subst, ◌∙◌, arith, ◌⊎◌, inl, inr, Option, Some, None}
 use Rattle.std.specs.Prelude.{nat_lt}
 use Rattle.std.specs.List.{Contains}
 use Rattle.std.proofs.lemmas.Grind.{common_steps}
@@ -7,41 +8,45 @@ use Rattle.std.proofs.lemmas.List.{take_more}
 use Rattle.std.proofs.lemmas.List.Elements.{Contains-push, Contains-push_cases, Contains-append_left}
 use Rattle.m51_module.specs.declared.parts.LayoutParts.{LayoutParts}
 use Rattle.m51_stackbound.specs.declared.judging.Rule.{Rule}
-use Rattle.m51_stackbound.specs.declared.point.Place.{Place}
+use Rattle.m51_stackbound.specs.declared.point.ReachedAddress.{ReachedAddress}
 use Rattle.m51_stackbound.specs.declared.point.Point.{Point}
 use Rattle.m51_stackbound.specs.Points.{instruction}
-use Rattle.m51_stackbound.specs.Rules.{rank, NoLater, no_later, lesser, IsLeast, breaks_by, place_of, IsBroken, IsFirstBreach}
+use Rattle.m51_stackbound.specs.Rules.{rank, NoLater, no_later, lesser, IsLeast, breaks_by, place_of, IsBroken}
+use Rattle.m51_stackbound.specs.Rules.{IsFirstBreach}
 
-pub no_later_is : (p q : Place) → no_later p q ≡ true → NoLater p q
+pub no_later_is : (p q : ReachedAddress) → no_later p q ≡ true → NoLater p q
 unfolding no_later
 no_later_is p q h = by (nat_lt (rank p.start) (rank q.start)) refl where
   by : (b : Bool) → nat_lt (rank p.start) (rank q.start) ≡ b → NoLater p q
   by true e = inl (grind (arith, common_steps, e))
   by false e = inr (grind (arith, common_steps, e, h), grind (arith, common_steps, e, h))
 
-pub later_is : (p q : Place) → no_later p q ≡ false → NoLater q p
+pub later_is : (p q : ReachedAddress) → no_later p q ≡ false → NoLater q p
 unfolding no_later
 later_is p q h = by (nat_lt (rank q.start) (rank p.start)) refl where
   by : (b : Bool) → nat_lt (rank q.start) (rank p.start) ≡ b → NoLater q p
   by true e = inl (grind (arith, common_steps, e))
   by false e = inr (grind (arith, common_steps, e, h), grind (arith, common_steps, e, h))
 
-no_later_self : (p : Place) → NoLater p p
+no_later_self : (p : ReachedAddress) → NoLater p p
 no_later_self p = inr (refl, omega arith)
 
-no_later_twice : (p q r : Place) → NoLater p q → NoLater q r → NoLater p r
+no_later_twice : (p q r : ReachedAddress) → NoLater p q → NoLater q r → NoLater p r
 no_later_twice p q r (inl a) (inl b) = inl (omega (arith, a, b))
 no_later_twice p q r (inl a) (inr b) = inl (omega (arith, a, b.0))
 no_later_twice p q r (inr a) (inl b) = inl (omega (arith, a.0, b))
 no_later_twice p q r (inr a) (inr b) = inr (a.0 ∙ b.0, omega (arith, a.1, b.1))
 
 -- the same places have the same first
-pub least_same : (Is New : Place → Type 0) (r : Option Place) → IsLeast Is r → ((p : Place) → New p → Is p) → ((p : Place) → Is p → New p) → IsLeast New r
+pub least_same : (Is New : ReachedAddress → Type 0) (r : Option ReachedAddress) → IsLeast Is r
+    → ((p : ReachedAddress) → New p → Is p) → ((p : ReachedAddress) → Is p → New p) → IsLeast New r
 least_same Is New None h back on = λ p k. h p (back p k)
 least_same Is New (Some least) h back on = (on least h.0, λ p k. h.1 p (back p k))
 
 -- one more place
-pub least_more : (Is New : Place → Type 0) (r : Option Place) (place : Place) → IsLeast Is r → ((p : Place) → New p → Is p ⊎ (place ≡ p)) → ((p : Place) → Is p → New p) → New place → IsLeast New (Some (lesser r place))
+pub least_more : (Is New : ReachedAddress → Type 0) (r : Option ReachedAddress) (place : ReachedAddress) → IsLeast Is r
+    → ((p : ReachedAddress) → New p → Is p ⊎ (place ≡ p)) → ((p : ReachedAddress) → Is p → New p) → New place
+    → IsLeast New (Some (lesser r place))
 unfolding lesser
 least_more Is New None place h back on new = (
   new,
@@ -69,35 +74,59 @@ least_more Is New (Some old) place h back on new = by (no_later old place) refl
     ))
 
 -- an element of a longer prefix is one of the shorter prefix, or the next
-pub front_cases : {X : Type 0} (xs : List X) (i : ℕ) (d x : X) → i < length xs → Contains (take (i + 1) xs) x → Contains (take i xs) x ⊎ (get_or xs i d ≡ x)
-front_cases xs i d x below h = Contains-push_cases (take i xs) (get_or xs i d) x (subst (λ ys. Contains ys x) (take_more xs i d below) h)
+pub front_cases : {X : Type 0} (xs : List X) (i : ℕ) (d x : X) → i < length xs → Contains (take (i + 1) xs) x
+    → Contains (take i xs) x ⊎ (get_or xs i d ≡ x)
+front_cases xs i d x below h =
+    Contains-push_cases (take i xs) (get_or xs i d) x (subst (λ ys. Contains ys x) (take_more xs i d below) h)
 
-pub front_kept : {X : Type 0} (xs : List X) (i : ℕ) (d x : X) → i < length xs → Contains (take i xs) x → Contains (take (i + 1) xs) x
-front_kept xs i d x below h = subst (λ ys. Contains ys x) (sym (take_more xs i d below)) (Contains-append_left (take i xs) (get_or xs i d ∷ []) x h)
+pub front_kept : {X : Type 0} (xs : List X) (i : ℕ) (d x : X) → i < length xs → Contains (take i xs) x
+    → Contains (take (i + 1) xs) x
+front_kept xs i d x below h =
+    subst (λ ys. Contains ys x) (sym (take_more xs i d below))
+    (Contains-append_left (take i xs) (get_or xs i d ∷ []) x h)
 
 pub front_next : {X : Type 0} (xs : List X) (i : ℕ) (d : X) → i < length xs → Contains (take (i + 1) xs) (get_or xs i d)
-front_next xs i d below = subst (λ ys. Contains ys (get_or xs i d)) (sym (take_more xs i d below)) (Contains-push (take i xs) (get_or xs i d))
+front_next xs i d below =
+    subst (λ ys. Contains ys (get_or xs i d)) (sym (take_more xs i d below)) (Contains-push (take i xs) (get_or xs i d))
 
 module _ (l : LayoutParts) (image : List ℕ) (rule : Rule) (points : List Point) where
-  pub breach_passes : (i : ℕ) (d : Point) (r : Option Place) → i < length points → breaks_by rule (get_or points i d) (instruction l image (get_or points i d).address) ≡ false
+  pub breach_passes : (i : ℕ) (d : Point) (r : Option ReachedAddress) → i < length points
+      → breaks_by rule (get_or points i d) (instruction l image (get_or points i d).address) ≡ false
       → IsFirstBreach l image rule (take i points) r → IsFirstBreach l image rule (take (i + 1) points) r
-  breach_passes i d r below fails h = least_same (IsBroken l image rule (Contains (take i points))) (IsBroken l image rule (Contains (take (i + 1) points))) r h
-      (λ place b. elim (front_cases points i d b.point below b.is_point) as (λ _. IsBroken l image rule (Contains (take i points)) place) [
+  breach_passes i d r below fails h =
+      least_same (IsBroken l image rule (Contains (take i points)))
+      (IsBroken l image rule (Contains (take (i + 1) points))) r h
+      (λ place b. elim (front_cases points i d b.point below b.is_point) as
+      (λ _. IsBroken l image rule (Contains (take i points)) place) [
         | inl before ↦ record { point = b.point; is_point = before; breaks = b.breaks; place_is = b.place_is }
         | inr here ↦ absurd (cc (fails, b.breaks, here))
       ])
-      (λ place b. record { point = b.point; is_point = front_kept points i d b.point below b.is_point; breaks = b.breaks; place_is = b.place_is })
+      (λ place b. record {
+        point = b.point;
+        is_point = front_kept points i d b.point below b.is_point;
+        breaks = b.breaks;
+        place_is = b.place_is;
+      })
 
-  pub breach_more : (i : ℕ) (d : Point) (r : Option Place) → i < length points → breaks_by rule (get_or points i d) (instruction l image (get_or points i d).address) ≡ true
-      → IsFirstBreach l image rule (take i points) r → IsFirstBreach l image rule (take (i + 1) points) (Some (lesser r (place_of (get_or points i d))))
+  pub breach_more : (i : ℕ) (d : Point) (r : Option ReachedAddress) → i < length points
+      → breaks_by rule (get_or points i d) (instruction l image (get_or points i d).address) ≡ true
+      → IsFirstBreach l image rule (take i points) r
+      → IsFirstBreach l image rule (take (i + 1) points) (Some (lesser r (place_of (get_or points i d))))
   breach_more i d r below breaks h =
       let at = place_of (get_or points i d) in
-      least_more (IsBroken l image rule (Contains (take i points))) (IsBroken l image rule (Contains (take (i + 1) points))) r at h
-      (λ place b. elim (front_cases points i d b.point below b.is_point) as (λ _. IsBroken l image rule (Contains (take i points)) place ⊎ (at ≡ place)) [
+      least_more (IsBroken l image rule (Contains (take i points)))
+      (IsBroken l image rule (Contains (take (i + 1) points))) r at h
+      (λ place b. elim (front_cases points i d b.point below b.is_point) as
+      (λ _. IsBroken l image rule (Contains (take i points)) place ⊎ (at ≡ place)) [
         | inl before ↦ inl (record { point = b.point; is_point = before; breaks = b.breaks; place_is = b.place_is })
         | inr here ↦ inr (ap place_of here ∙ b.place_is)
       ])
-      (λ place b. record { point = b.point; is_point = front_kept points i d b.point below b.is_point; breaks = b.breaks; place_is = b.place_is })
+      (λ place b. record {
+        point = b.point;
+        is_point = front_kept points i d b.point below b.is_point;
+        breaks = b.breaks;
+        place_is = b.place_is;
+      })
       (record { point = get_or points i d; is_point = front_next points i d below; breaks = breaks; place_is = refl })
 
   pub breach_none : IsFirstBreach l image rule [] None

@@ -9,7 +9,7 @@ use Rattle.std.specs.List.{Contains}
 use Rattle.m51_cells.specs.declared.memory.NoMemory.{NoMemory}
 use Rattle.m51_module.specs.declared.parts.LayoutParts.{LayoutParts}
 use Rattle.m51_stackbound.specs.declared.judging.Rule.{Rule}
-use Rattle.m51_stackbound.specs.declared.point.Place.{Place}
+use Rattle.m51_stackbound.specs.declared.point.ReachedAddress.{ReachedAddress}
 use Rattle.m51_stackbound.specs.declared.point.Point.{Point}
 use Rattle.m51_stackbound.specs.Bounds.{Breaks, HasTwoHeights}
 use Rattle.m51_stackbound.specs.Rules.{IsBroken, IsFirstBreach, IsLeast, place_of}
@@ -17,20 +17,35 @@ use Rattle.m51_stackbound.specs.Search.{ArePoints}
 use Rattle.m51_stackbound.specs.Twice.{HasTwo}
 use Rattle.m51_stackbound.proofs.Leasts.{least_same}
 
-pub first_of_points : (l : LayoutParts) (image : List ℕ) (rule : Rule) (points : List Point) (r : Option Place) → ArePoints l image points → IsFirstBreach l image rule points r → IsLeast (Breaks l image rule) r
-first_of_points l image rule points r are h = least_same (IsBroken l image rule (Contains points)) (Breaks l image rule) r h
-    (λ place b. record { point = b.point; is_point = are.all b.point b.is_point; breaks = b.breaks; place_is = b.place_is })
-    (λ place b. record { point = b.point; is_point = are.only b.point b.is_point; breaks = b.breaks; place_is = b.place_is })
+pub first_of_points : (l : LayoutParts) (image : List ℕ) (rule : Rule) (points : List Point) (r : Option ReachedAddress)
+    → ArePoints l image points → IsFirstBreach l image rule points r → IsLeast (Breaks l image rule) r
+first_of_points l image rule points r are h =
+    least_same (IsBroken l image rule (Contains points)) (Breaks l image rule) r h
+    (λ place b. record {
+      point = b.point;
+      is_point = are.all b.point b.is_point;
+      breaks = b.breaks;
+      place_is = b.place_is;
+    })
+    (λ place b. record {
+      point = b.point;
+      is_point = are.only b.point b.is_point;
+      breaks = b.breaks;
+      place_is = b.place_is;
+    })
 
 -- two of the listed points have the place exactly if two points of the program have it with different heights
 module _ (l : LayoutParts) (image : List ℕ) (points : List Point) (are : ArePoints l image points) where
-  apart_heights : (p q : Point) (place : Place) → p ≢ q → place_of p ≡ place → place_of q ≡ place → p.height ≢ q.height
-  apart_heights p q place other h k e = other (same p q (ap (λ (r : Place). r.start) (h ∙ sym k)) (ap (λ (r : Place). r.address) (h ∙ sym k)) e)
+  apart_heights : (p q : Point) (place : ReachedAddress) → p ≢ q → place_of p ≡ place → place_of q ≡ place
+      → p.height ≢ q.height
+  apart_heights p q place other h k e =
+      other (same p q (ap (λ (r : ReachedAddress). r.start) (h ∙ sym k))
+      (ap (λ (r : ReachedAddress). r.address) (h ∙ sym k)) e)
     where
       same : (p q : Point) → p.start ≡ q.start → p.address ≡ q.address → p.height ≡ q.height → p ≡ q
       same p q a b c = λ i. record { start = a i; address = b i; height = c i }
 
-  heights_from_two : (place : Place) → HasTwo points (length points) place → HasTwoHeights l image place
+  heights_from_two : (place : ReachedAddress) → HasTwo points (length points) place → HasTwoHeights l image place
   heights_from_two place h =
       let at = h.before.0 in
       let none = h.one in
@@ -48,7 +63,8 @@ module _ (l : LayoutParts) (image : List ℕ) (points : List Point) (are : ArePo
       }
 
   -- of two different indices one comes first
-  two_from : (place : Place) (p q : Point) (i j : ℕ) → i < j → j < length points → ((d : Point) → get_or points i d ≡ p) → ((d : Point) → get_or points j d ≡ q)
+  two_from : (place : ReachedAddress) (p q : Point) (i j : ℕ) → i < j → j < length points
+      → ((d : Point) → get_or points i d ≡ p) → ((d : Point) → get_or points j d ≡ q)
       → place_of p ≡ place → place_of q ≡ place → HasTwo points (length points) place
   two_from place p q i j low below at there h k = record {
     second = j;
@@ -65,24 +81,29 @@ module _ (l : LayoutParts) (image : List ℕ) (points : List Point) (are : ArePo
     same : get_or points h.0 d ≡ get_or points h.0 p
     same = let below = h.1 in grind (arith, common_steps, below)
 
-  two_from_heights : (place : Place) → HasTwoHeights l image place → HasTwo points (length points) place
+  two_from_heights : (place : ReachedAddress) → HasTwoHeights l image place → HasTwo points (length points) place
   two_from_heights place h =
       let a = are.all h.one h.one_is in
       let b = are.all h.two h.two_is in
       elim (cases_lt a.0 b.0) as (λ _. HasTwo points (length points) place) [
         | inl low ↦ two_from place h.one h.two a.0 b.0 low b.1 (at_any h.one a) (at_any h.two b) h.place_one h.place_two
         | inr high ↦ elim (cases_lt b.0 a.0) as (λ _. HasTwo points (length points) place) [
-          | inl low ↦ two_from place h.two h.one b.0 a.0 low a.1 (at_any h.two b) (at_any h.one a) h.place_two h.place_one
+          | inl low ↦ two_from place h.two h.one b.0 a.0 low a.1 (at_any h.two b) (at_any h.one a) h.place_two
+              h.place_one
           | inr equal ↦
               let is : a.0 ≡ b.0 = omega (arith, high, equal) in
-              let e : h.one ≡ h.two = sym (at_any h.one a h.one) ∙ ap (λ k. get_or points k h.one) is ∙ at_any h.two b h.one in
+              let e : h.one ≡ h.two = sym (at_any h.one a h.one) ∙ ap (λ k. get_or points k h.one) is
+              ∙ at_any h.two b h.one in
               absurd (h.heights (ap (λ (p : Point). p.height) e))
         ]
       ]
 
-  pub first_heights : (r : Option Place) → IsLeast (HasTwo points (length points)) r → IsLeast (HasTwoHeights l image) r
-  first_heights r h = least_same (HasTwo points (length points)) (HasTwoHeights l image) r h two_from_heights heights_from_two
+  pub first_heights : (r : Option ReachedAddress) → IsLeast (HasTwo points (length points)) r
+      → IsLeast (HasTwoHeights l image) r
+  first_heights r h = least_same (HasTwo points (length points)) (HasTwoHeights l image) r h two_from_heights
+      heights_from_two
 
-  pub ok_heights : (r : Result (Option Place) NoMemory) → IfOk r (IsLeast (HasTwo points (length points))) → IfOk r (IsLeast (HasTwoHeights l image))
+  pub ok_heights : (r : Result (Option ReachedAddress) NoMemory) → IfOk r (IsLeast (HasTwo points (length points)))
+      → IfOk r (IsLeast (HasTwoHeights l image))
   ok_heights (Ok place) h = first_heights place h
   ok_heights (Err error) h = h

@@ -20,10 +20,12 @@ notes_key old p = by (list_any (point_eq.it p) old) refl
     by false e = rw e (inr (refl, λ h. absurd (cc (e, list_any-from_Contains laws-law p old h))))
 
 -- adding the points of one list and then those of another
-pub notes_both : (ps qs old middle new : List Point) → NotesAll old ps middle → NotesAll middle qs new → NotesAll old (ps ++ qs) new
+pub notes_both : (ps qs old middle new : List Point) → NotesAll old ps middle → NotesAll middle qs new
+    → NotesAll old (ps ++ qs) new
 notes_both [] qs old middle new h k = subst (λ l. NotesAll l qs new) h k
 notes_both (p ∷ ps) qs old middle new h k = (h.0, h.1, notes_both ps qs h.0 middle new h.2 k)
 
 -- one more point after those of a list
-pub notes_push : (ps : List Point) (p : Point) (old middle new : List Point) → NotesAll old ps middle → Notes middle p new → NotesAll old (ps ++ p ∷ []) new
+pub notes_push : (ps : List Point) (p : Point) (old middle new : List Point) → NotesAll old ps middle
+    → Notes middle p new → NotesAll old (ps ++ p ∷ []) new
 notes_push ps p old middle new h k = notes_both ps (p ∷ []) old middle new h (new, k, refl)

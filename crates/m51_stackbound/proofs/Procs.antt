@@ -1,5 +1,6 @@
 -- The starts in a table by addresses, and their list.
-use Rattle.std.proofs.Common.{◌≡◌, ◌<◌, ◌+◌, ℕ, zero, suc, Bool, true, false, List, [], ◌∷◌, ◌++◌, length, get_or, set, take, map, replicate, refl, sym, ap, subst, ◌∙◌, arith, ◌⊎◌, inl, inr}
+use Rattle.std.proofs.Common.{◌≡◌, ◌<◌, ◌+◌, ℕ, zero, suc, Bool, true, false, List, [], ◌∷◌, ◌++◌, length, get_or, set}
+use Rattle.std.proofs.Common.{take, map, replicate, refl, sym, ap, subst, ◌∙◌, arith, ◌⊎◌, inl, inr}
 use Rattle.std.specs.List.{Contains}
 use Rattle.std.proofs.lemmas.Bool.{cases_lt}
 use Rattle.std.proofs.lemmas.List.{get_or-set_same, get_or-set_other, length-set, length-replicate, map-append}
@@ -22,7 +23,8 @@ blank_start zero k = refl
 blank_start (suc n) zero = refl
 blank_start (suc n) (suc k) = blank_start n k
 
-pub starts_none : (count : ℕ) (starts : List Bool) → count ≡ 65536 → starts ≡ replicate count false → AreStarts [] starts
+pub starts_none : (count : ℕ) (starts : List Bool) → count ≡ 65536 → starts ≡ replicate count false
+    → AreStarts [] starts
 starts_none count starts is e = subst (λ ss. AreStarts [] ss) (sym e) (record {
   len = length-replicate {A = Bool} count false ∙ is;
   only = λ at k. absurd (cc (k, blank_start count at));
@@ -40,12 +42,14 @@ module _ (points : List Point) (i : ℕ) (d : Point) (below : i < length points)
   newest at s = record { point = here; listed = front_next points i d below; start_is = s }
 
   start_cases : (at : ℕ) → HasStart (take (i + 1) points) at → HasStart (take i points) at ⊎ (here.start ≡ At at)
-  start_cases at h = elim (front_cases points i d h.point below h.listed) as (λ _. HasStart (take i points) at ⊎ (here.start ≡ At at)) [
-    | inl before ↦ inl (record { point = h.point; listed = before; start_is = h.start_is })
-    | inr is ↦ inr (ap (λ (p : Point). p.start) is ∙ h.start_is)
-  ]
+  start_cases at h = elim (front_cases points i d h.point below h.listed) as
+      (λ _. HasStart (take i points) at ⊎ (here.start ≡ At at)) [
+        | inl before ↦ inl (record { point = h.point; listed = before; start_is = h.start_is })
+        | inr is ↦ inr (ap (λ (p : Point). p.start) is ∙ h.start_is)
+      ]
 
-  pub starts_more : (old : List Bool) (start : Start) → here.start ≡ start → ((at : ℕ) → start ≡ At at → at < 65536) → AreStarts (take i points) old → AreStarts (take (i + 1) points) (with_start old start)
+  pub starts_more : (old : List Bool) (start : Start) → here.start ≡ start → ((at : ℕ) → start ≡ At at → at < 65536)
+      → AreStarts (take i points) old → AreStarts (take (i + 1) points) (with_start old start)
   starts_more old Reset s few h = record {
     len = h.len;
     only = λ at k. kept at (h.only at k);
@@ -63,7 +67,8 @@ module _ (points : List Point) (i : ℕ) (d : Point) (below : i < length points)
           | inr ne ↦ kept at (h.only at (sym (get_or-set_other old a at true false ne) ∙ k))
         ];
         all = λ at k. elim (same_or_not at a) as (λ _. get_or (set old a true) at false ≡ true) [
-          | inl e ↦ subst (λ n. get_or (set old a true) n false ≡ true) (sym e) (get_or-set_same old a true false inside)
+          | inl e ↦ subst (λ n. get_or (set old a true) n false ≡ true) (sym e)
+              (get_or-set_same old a true false inside)
           | inr ne ↦ elim (start_cases at k) as (λ _. get_or (set old a true) at false ≡ true) [
             | inl before ↦ get_or-set_other old a at true false ne ∙ h.all at before
             | inr is ↦ absurd (ne (same_address at a (sym is ∙ s)))
@@ -78,13 +83,16 @@ at_of p = p.at
 contains_at : (ps : List Proc) (p : Proc) → Contains ps p → Contains (map at_of ps) p.at
 contains_at [] p h = absurd (omega (arith, h.1))
 contains_at (q ∷ ps) p (zero, below, is) = (0, omega arith, ap at_of is)
-contains_at (q ∷ ps) p (suc k, below, is) = let r = contains_at ps p (k, omega (arith, below), is) in (suc r.0, omega (arith, r.1), r.2)
+contains_at (q ∷ ps) p (suc k, below, is) = let r = contains_at ps p (k, omega (arith, below), is) in
+    (suc r.0, omega (arith, r.1), r.2)
 
 -- each address in the list is one of a procedure
-below_all : (ps : List Proc) (end : ℕ) → ((p : Proc) → Contains ps p → p.at < end) → (k d : ℕ) → k < length (map at_of ps) → get_or (map at_of ps) k d < end
+below_all : (ps : List Proc) (end : ℕ) → ((p : Proc) → Contains ps p → p.at < end) → (k d : ℕ)
+    → k < length (map at_of ps) → get_or (map at_of ps) k d < end
 below_all [] end h k d below = absurd (omega (arith, below))
 below_all (p ∷ ps) end h zero d below = h p (0, omega arith, refl)
-below_all (p ∷ ps) end h (suc k) d below = below_all ps end (λ q c. h q (suc c.0, omega (arith, c.1), c.2)) k d (omega (arith, below))
+below_all (p ∷ ps) end h (suc k) d below =
+    below_all ps end (λ q c. h q (suc c.0, omega (arith, c.1), c.2)) k d (omega (arith, below))
 
 module _ (l : LayoutParts) (starts : List Bool) (depths : List ℕ) where
   pub listed_none : AreListed l starts depths 0 []
@@ -96,11 +104,14 @@ module _ (l : LayoutParts) (starts : List Bool) (depths : List ℕ) where
   }
 
   -- the next address is that of a start
-  pub listed_more : (end : ℕ) (procs : List Proc) (p : Proc) → p.at ≡ end → IsListed l starts depths p → AreListed l starts depths end procs → AreListed l starts depths (end + 1) (procs ++ p ∷ [])
+  pub listed_more : (end : ℕ) (procs : List Proc) (p : Proc) → p.at ≡ end → IsListed l starts depths p
+      → AreListed l starts depths end procs → AreListed l starts depths (end + 1) (procs ++ p ∷ [])
   listed_more end procs p at_is is h =
       let more : map at_of (procs ++ p ∷ []) ≡ map at_of procs ++ p.at ∷ [] = map-append at_of procs (p ∷ []) in
       record {
-        rising = subst Rises (sym more) (all_pairs_push (λ (one two : ℕ). one < two) (map at_of procs) p.at h.rising (λ k d below. let less = below_all procs end h.below k d below in omega (arith, less, at_is)));
+        rising = subst Rises (sym more)
+            (all_pairs_push (λ (one two : ℕ). one < two) (map at_of procs) p.at h.rising
+            (λ k d below. let less = below_all procs end h.below k d below in omega (arith, less, at_is)));
         below = λ q k. elim (Contains-push_cases procs p q k) as (λ _. q.at < end + 1) [
           | inl before ↦ let less = h.below q before in omega (arith, less)
           | inr e ↦ let same = ap at_of e in omega (arith, same, at_is)
@@ -109,16 +120,18 @@ module _ (l : LayoutParts) (starts : List Bool) (depths : List ℕ) where
           | inl before ↦ h.each q before
           | inr e ↦ subst (λ (r : Proc). IsListed l starts depths r) e is
         ];
-        all = λ at below k. subst (λ ns. Contains ns at) (sym more) (elim (cases_lt at end) as (λ _. Contains (map at_of procs ++ p.at ∷ []) at) [
-          | inl early ↦ Contains-append_left (map at_of procs) (p.at ∷ []) at (h.all at early k)
-          | inr late ↦
-              let same : p.at ≡ at = omega (arith, late, below, at_is) in
-              subst (λ n. Contains (map at_of procs ++ p.at ∷ []) n) same (Contains-push (map at_of procs) p.at)
-        ]);
+        all = λ at below k. subst (λ ns. Contains ns at) (sym more)
+            (elim (cases_lt at end) as (λ _. Contains (map at_of procs ++ p.at ∷ []) at) [
+              | inl early ↦ Contains-append_left (map at_of procs) (p.at ∷ []) at (h.all at early k)
+              | inr late ↦
+                  let same : p.at ≡ at = omega (arith, late, below, at_is) in
+                  subst (λ n. Contains (map at_of procs ++ p.at ∷ []) n) same (Contains-push (map at_of procs) p.at)
+            ]);
       }
 
   -- the next address is that of none
-  pub listed_same : (end : ℕ) (procs : List Proc) → is_noted starts end ≡ false → AreListed l starts depths end procs → AreListed l starts depths (end + 1) procs
+  pub listed_same : (end : ℕ) (procs : List Proc) → is_noted starts end ≡ false → AreListed l starts depths end procs
+      → AreListed l starts depths (end + 1) procs
   listed_same end procs none h = record {
     rising = h.rising;
     below = λ q k. let less = h.below q k in omega (arith, less);

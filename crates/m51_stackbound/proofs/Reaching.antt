@@ -1,5 +1,6 @@
 -- The search for points finds those that are, and no others.
-use Rattle.std.proofs.Common.{◌≡◌, ◌≢◌, ◌<◌, ◌≤◌, ◌+◌, ℕ, List, [], ◌∷◌, ◌++◌, length, get_or, refl, sym, subst, ◌∙◌, arith, ◌⊎◌, inl, inr}
+use Rattle.std.proofs.Common.{◌≡◌, ◌≢◌, ◌<◌, ◌≤◌, ◌+◌, ℕ, List, [], ◌∷◌, ◌++◌, length, get_or, refl, sym, subst, ◌∙◌}
+use Rattle.std.proofs.Common.{arith, ◌⊎◌, inl, inr}
 use Rattle.std.specs.List.{Contains}
 use Rattle.std.proofs.lemmas.Bool.{cases_lt}
 use Rattle.std.proofs.lemmas.Grind.{common_steps}
@@ -24,8 +25,11 @@ pub record Grows (old new : List Point) (added : Point → Type 0) : Type 0 wher
   pub different : AreDifferent old → AreDifferent new
 
 -- a point that is not in a list differs from each that is
-pub new_differs : (old : List Point) (p : Point) → (Contains old p → ⊥) → AreDifferent old → AreDifferent (old ++ p ∷ [])
-new_differs old p new h = all_pairs_push (λ a b. a ≢ b) old p h (λ k d below e. new (k, below, subst (λ q. get_or old k q ≡ q) e (grind (arith, common_steps, below))))
+pub new_differs : (old : List Point) (p : Point) → (Contains old p → ⊥) → AreDifferent old
+    → AreDifferent (old ++ p ∷ [])
+new_differs old p new h =
+    all_pairs_push (λ a b. a ≢ b) old p h
+    (λ k d below e. new (k, below, subst (λ q. get_or old k q ≡ q) e (grind (arith, common_steps, below))))
 
 pub note_grows : (old new : List Point) (p : Point) → Notes old p new → Grows old new (λ q. p ≡ q)
 note_grows old new p (inl (same, there)) = subst (λ l. Grows old l (λ q. p ≡ q)) (sym same) (record {
@@ -46,7 +50,8 @@ note_grows old new p (inr (is, absent)) = subst (λ l. Grows old l (λ q. p ≡ 
 })
 
 -- growing twice
-pub grows_twice : (old middle new : List Point) (one two : Point → Type 0) → Grows old middle one → Grows middle new two → Grows old new (λ p. one p ⊎ two p)
+pub grows_twice : (old middle new : List Point) (one two : Point → Type 0) → Grows old middle one → Grows middle new two
+    → Grows old new (λ p. one p ⊎ two p)
 grows_twice old middle new one two g h = record {
   front = λ i d below. h.front i d (omega (arith, below, g.longer)) ∙ g.front i d below;
   longer = omega (arith, g.longer, h.longer);
@@ -79,7 +84,8 @@ notes_grow [] old new same = subst (λ l. Grows old l (λ q. Contains [] q)) (sy
   different = λ h. h;
 })
 notes_grow (p ∷ ps) old new (middle, first, rest) =
-    let g = grows_twice old middle new (λ q. p ≡ q) (λ q. Contains ps q) (note_grows old middle p first) (notes_grow ps middle new rest) in
+    let g = grows_twice old middle new (λ q. p ≡ q) (λ q. Contains ps q) (note_grows old middle p first)
+    (notes_grow ps middle new rest) in
     record {
       front = g.front;
       longer = g.longer;
@@ -95,11 +101,14 @@ notes_grow (p ∷ ps) old new (middle, first, rest) =
       different = g.different;
     }
 
--- the search: what is found are points, the first ones are found, and so are the successors of those that were looked at
-pub record IsSearching (l : LayoutParts) (image : List ℕ) (firsts : List Point) (points : List Point) (next : ℕ) : Type 0 where
+-- the search: what is found are points, the first ones are found, and so are the successors of those that were looked
+-- at
+pub record IsSearching (l : LayoutParts) (image : List ℕ) (firsts : List Point) (points : List Point) (next : ℕ) : Type
+    0 where
   pub only : (p : Point) → Contains points p → IsReached l image firsts p
   pub begun : (p : Point) → Contains firsts p → Contains points p
-  pub looked : (i : ℕ) (d p : Point) → i < next → i < length points → Contains (successors l image (get_or points i d)) p → Contains points p
+  pub looked : (i : ℕ) (d p : Point) → i < next → i < length points
+      → Contains (successors l image (get_or points i d)) p → Contains points p
   pub different : AreDifferent points
   pub next_few : next ≤ MOST_POINTS
 
@@ -113,7 +122,8 @@ module _ (l : LayoutParts) (image : List ℕ) (firsts : List Point) where
     next_few = omega arith;
   }
 
-  pub search_step : (old new : List Point) (next : ℕ) (e : Point) → IsSearching l image firsts old next → next < length old → length old ≤ MOST_POINTS
+  pub search_step : (old new : List Point) (next : ℕ) (e : Point) → IsSearching l image firsts old next
+      → next < length old → length old ≤ MOST_POINTS
       → NotesAll old (successors l image (get_or old next e)) new → IsSearching l image firsts new (next + 1)
   search_step old new next e s below few h =
       let at : Point = get_or old next e in
@@ -125,10 +135,13 @@ module _ (l : LayoutParts) (image : List ℕ) (firsts : List Point) where
         ];
         begun = λ p k. g.kept p (s.begun p k);
         looked = λ i d p before inside k. elim (cases_lt i next) as (λ _. Contains new p) [
-          | inl early ↦ g.kept p (s.looked i d p early (omega (arith, early, below)) (subst (λ q. Contains (successors l image q) p) (g.front i d (omega (arith, early, below))) k))
+          | inl early ↦ g.kept p
+              (s.looked i d p early (omega (arith, early, below))
+              (subst (λ q. Contains (successors l image q) p) (g.front i d (omega (arith, early, below))) k))
           | inr late ↦
               let is : i ≡ next = omega (arith, late, before) in
-              let same : get_or new i d ≡ at = g.front i d (omega (arith, is, below)) ∙ grind (arith, common_steps, is, below) in
+              let same : get_or new i d ≡ at = g.front i d (omega (arith, is, below))
+              ∙ grind (arith, common_steps, is, below) in
               g.all p (subst (λ q. Contains (successors l image q) p) same k)
         ];
         different = g.different s.different;
@@ -136,13 +149,15 @@ module _ (l : LayoutParts) (image : List ℕ) (firsts : List Point) where
       }
 
   -- each point is found
-  all_found : (points : List Point) (next : ℕ) → IsSearching l image firsts points next → length points ≤ next → (p : Point) → IsReached l image firsts p → Contains points p
+  all_found : (points : List Point) (next : ℕ) → IsSearching l image firsts points next → length points ≤ next
+      → (p : Point) → IsReached l image firsts p → Contains points p
   all_found points next s done _ (First p first) = s.begun p first
   all_found points next s done _ (After p q is after) =
       let h = all_found points next s done p is in
       s.looked h.0 p q (omega (arith, h.1, done)) h.1 (subst (λ r. Contains (successors l image r) q) (sym h.2) after)
 
-  pub search_done : (points : List Point) (next : ℕ) → IsSearching l image firsts points next → length points ≤ next → AreReached l image firsts points
+  pub search_done : (points : List Point) (next : ℕ) → IsSearching l image firsts points next → length points ≤ next
+      → AreReached l image firsts points
   search_done points next s done = record {
     only = s.only;
     all = all_found points next s done;
@@ -150,11 +165,13 @@ module _ (l : LayoutParts) (image : List ℕ) (firsts : List Point) where
     few = omega (arith, done, s.next_few);
   }
 
-  pub search_stops : (points : List Point) (next : ℕ) → IsSearching l image firsts points next → MOST_POINTS < length points → AreTooMany l image firsts
+  pub search_stops : (points : List Point) (next : ℕ) → IsSearching l image firsts points next
+      → MOST_POINTS < length points → AreTooMany l image firsts
   search_stops points next s many = record { points = points; only = s.only; different = s.different; many = many }
 
 -- what is reached from points is reached from those that have them
-pub reached_more : (l : LayoutParts) (image : List ℕ) (fs gs : List Point) → ((p : Point) → Contains fs p → Contains gs p) → (p : Point)
+pub reached_more : (l : LayoutParts) (image : List ℕ) (fs gs : List Point)
+    → ((p : Point) → Contains fs p → Contains gs p) → (p : Point)
     → IsReached l image fs p → IsReached l image gs p
 reached_more l image fs gs on _ (First p first) = First p (on p first)
 reached_more l image fs gs on _ (After p q is after) = After p q (reached_more l image fs gs on p is) after
@@ -187,6 +204,7 @@ module _ (l : LayoutParts) (image : List ℕ) (firsts noted : List Point) (h : N
     many = f.many;
   }
 
-  pub finds_ok : (r : Result (Option (List Point)) NoMemory) → IfOk r (Finds l image noted) → IfOk r (Finds l image firsts)
+  pub finds_ok : (r : Result (Option (List Point)) NoMemory) → IfOk r (Finds l image noted)
+      → IfOk r (Finds l image firsts)
   finds_ok (Ok found) f = finds_noted found f
   finds_ok (Err error) f = f

@@ -1,5 +1,6 @@
 -- Points and the starts that they are of: what is entered, what covers it, and which root leads to it.
-use Rattle.std.proofs.Common.{◌≡◌, ◌≤◌, ◌+◌, ℕ, zero, suc, List, [], ◌∷◌, map, refl, sym, ap, subst, ◌∙◌, arith, ◌⊎◌, inl, inr}
+use Rattle.std.proofs.Common.{◌≡◌, ◌≤◌, ◌+◌, ℕ, zero, suc, List, [], ◌∷◌, map, refl, sym, ap, subst, ◌∙◌, arith, ◌⊎◌}
+use Rattle.std.proofs.Common.{inl, inr}
 use Rattle.std.specs.List.{Contains}
 use Rattle.m51_module.specs.declared.parts.LayoutParts.{LayoutParts}
 use Rattle.m51_module.specs.declared.start.Start.{Start}
@@ -23,13 +24,15 @@ entry_of : (vs : List ℕ) (p : Point) → Contains (map entry_at vs) p → IsEn
 entry_of [] p h = absurd (none_in_empty p h)
 entry_of (v ∷ vs) p h = elim (first_or_after (entry_at v) (map entry_at vs) p h) as (λ _. IsEntryOf (v ∷ vs) p) [
   | inl e ↦ record { vector = v; listed = (0, omega arith, refl); is = sym e }
-  | inr more ↦ let r = entry_of vs p more in record { vector = r.vector; listed = (suc r.listed.0, omega (arith, r.listed.1), r.listed.2); is = r.is }
+  | inr more ↦ let r = entry_of vs p more in
+      record { vector = r.vector; listed = (suc r.listed.0, omega (arith, r.listed.1), r.listed.2); is = r.is }
 ]
 
 entry_listed : (vs : List ℕ) (v : ℕ) → Contains vs v → Contains (map entry_at vs) (entry_at v)
 entry_listed [] v h = absurd (omega (arith, h.1))
 entry_listed (w ∷ vs) v (zero, below, is) = contains_first (entry_at w) (map entry_at vs) (entry_at v) (ap entry_at is)
-entry_listed (w ∷ vs) v (suc k, below, is) = contains_after (entry_at w) (map entry_at vs) (entry_at v) (entry_listed vs v (k, omega (arith, below), is))
+entry_listed (w ∷ vs) v (suc k, below, is) =
+    contains_after (entry_at w) (map entry_at vs) (entry_at v) (entry_listed vs v (k, omega (arith, below), is))
 
 reset_point : Point
 reset_point = point_at Reset 0 7
@@ -44,16 +47,19 @@ not_reset a e = absurd (cc e)
 module _ (l : LayoutParts) (image : List ℕ) where
   -- the first points are the reset's, and the entries of the interrupts that have handlers
   pub first_cases : (p : Point) → Contains (first_points l) p → (p ≡ point_at Reset 0 7) ⊎ IsEntryOf (handlers l) p
-  first_cases p h = elim (first_or_after (point_at Reset 0 7) (map entry_at (handlers l)) p h) as (λ _. (p ≡ point_at Reset 0 7) ⊎ IsEntryOf (handlers l) p) [
-    | inl e ↦ inl (sym e)
-    | inr more ↦ inr (entry_of (handlers l) p more)
-  ]
+  first_cases p h = elim (first_or_after (point_at Reset 0 7) (map entry_at (handlers l)) p h) as
+      (λ _. (p ≡ point_at Reset 0 7) ⊎ IsEntryOf (handlers l) p) [
+        | inl e ↦ inl (sym e)
+        | inr more ↦ inr (entry_of (handlers l) p more)
+      ]
 
   pub reset_first : IsPoint l image (point_at Reset 0 7)
-  reset_first = First (point_at Reset 0 7) (contains_first (point_at Reset 0 7) (map entry_at (handlers l)) (point_at Reset 0 7) refl)
+  reset_first = First (point_at Reset 0 7)
+      (contains_first (point_at Reset 0 7) (map entry_at (handlers l)) (point_at Reset 0 7) refl)
 
   pub handler_first : (v : ℕ) → Contains (handlers l) v → IsPoint l image (entry_at v)
-  handler_first v h = First (entry_at v) (contains_after (point_at Reset 0 7) (map entry_at (handlers l)) (entry_at v) (entry_listed (handlers l) v h))
+  handler_first v h = First (entry_at v)
+      (contains_after (point_at Reset 0 7) (map entry_at (handlers l)) (entry_at v) (entry_listed (handlers l) v h))
 
   -- a point of the start at an address
   pub record IsUnder (a : ℕ) (p : Point) : Type 0 where
@@ -89,7 +95,8 @@ module _ (l : LayoutParts) (image : List ℕ) where
     pub high : bytes ≤ value
 
   reset_takes : Takes l image Reset [] 7
-  reset_takes = Own Reset 7 (record { point = point_at Reset 0 7; is_point = reset_first; start_is = refl; height_is = refl })
+  reset_takes = Own Reset 7
+      (record { point = point_at Reset 0 7; is_point = reset_first; start_is = refl; height_is = refl })
 
   reset_above : (path : List Start) (bytes : ℕ) → Takes l image Reset path bytes → ComesAbove bytes
   reset_above path bytes t = record {
@@ -98,32 +105,47 @@ module _ (l : LayoutParts) (image : List ℕ) where
     high = omega arith;
   }
 
-  handler_above : (v : ℕ) (path : List Start) (bytes : ℕ) → Contains (handlers l) v → Takes l image (At v) path bytes → ComesAbove bytes
+  handler_above : (v : ℕ) (path : List Start) (bytes : ℕ) → Contains (handlers l) v → Takes l image (At v) path bytes
+      → ComesAbove bytes
   handler_above v path bytes h t = record {
     value = 7 + (2 + bytes);
-    comes = record { path = []; reset = 7; more = 2 + bytes; takes = reset_takes; adds = One v bytes path h t; value_is = refl };
+    comes = record {
+      path = [];
+      reset = 7;
+      more = 2 + bytes;
+      takes = reset_takes;
+      adds = One v bytes path h t;
+      value_is = refl;
+    };
     high = omega arith;
   }
 
   -- what a start takes adds to what a root takes
-  pub rooted : (p : Point) → IsPoint l image p → (path : List Start) (bytes : ℕ) → Takes l image p.start path bytes → ComesAbove bytes
+  pub rooted : (p : Point) → IsPoint l image p → (path : List Start) (bytes : ℕ) → Takes l image p.start path bytes
+      → ComesAbove bytes
   rooted _ (First p first) path bytes t = elim (first_cases p first) as (λ _. ComesAbove bytes) [
     | inl e ↦ reset_above path bytes (subst (λ (q : Point). Takes l image q.start path bytes) e t)
-    | inr h ↦ handler_above h.vector path bytes h.listed (subst (λ (q : Point). Takes l image q.start path bytes) h.is t)
+    | inr h ↦ handler_above h.vector path bytes h.listed
+        (subst (λ (q : Point). Takes l image q.start path bytes) h.is t)
   ]
   rooted _ (After p q is after) path bytes t = elim (steps_to l image p q after) as (λ _. ComesAbove bytes) [
     | inl within ↦ rooted p is path bytes (subst (λ s. Takes l image s path bytes) within.start_is t)
     | inr entry ↦
-        let called : Takes l image (At entry.to) path bytes = subst (λ (r : Point). Takes l image r.start path bytes) entry.is t in
-        let call : CallsAt l image p.start p.height entry.to = record { point = p; is_point = is; start_is = refl; height_is = refl; calls = entry.calls } in
-        let more = rooted p is (At entry.to ∷ path) (p.height + 2 + bytes) (Call p.start p.height entry.to path bytes call called) in
+        let called : Takes l image (At entry.to) path bytes =
+        subst (λ (r : Point). Takes l image r.start path bytes) entry.is t in
+        let call : CallsAt l image p.start p.height entry.to =
+        record { point = p; is_point = is; start_is = refl; height_is = refl; calls = entry.calls } in
+        let more = rooted p is (At entry.to ∷ path) (p.height + 2 + bytes)
+        (Call p.start p.height entry.to path bytes call called) in
         record { value = more.value; comes = more.comes; high = omega (arith, more.high) }
   ]
 
   -- a start that takes bytes has a point
-  pub of_taken : (start : Start) (path : List Start) (bytes : ℕ) → Takes l image start path bytes → (height : ℕ) × HasHeight l image start height
+  pub of_taken : (start : Start) (path : List Start) (bytes : ℕ) → Takes l image start path bytes
+      → (height : ℕ) × HasHeight l image start height
   of_taken start _ bytes (Own _ _ h) = (bytes, h)
-  of_taken start _ _ (Call _ height to more bytes c rest) = (height, record { point = c.point; is_point = c.is_point; start_is = c.start_is; height_is = c.height_is })
+  of_taken start _ _ (Call _ height to more bytes c rest) =
+      (height, record { point = c.point; is_point = c.is_point; start_is = c.start_is; height_is = c.height_is })
 
   pub taken_above : (start : Start) (path : List Start) (bytes : ℕ) → Takes l image start path bytes → ComesAbove bytes
   taken_above start path bytes t =

@@ -1,5 +1,6 @@
 -- Where the successors of a point are: under its own start, or at the entry of a start that it calls.
-use Rattle.std.proofs.Common.{◌≡◌, ℕ, Bool, true, false, List, [], ◌∷◌, ◌++◌, refl, sym, ap, subst, ◌⊎◌, inl, inr, Option, Some, None}
+use Rattle.std.proofs.Common.{◌≡◌, ℕ, Bool, true, false, List, [], ◌∷◌, ◌++◌, refl, sym, ap, subst, ◌⊎◌, inl, inr}
+use Rattle.std.proofs.Common.{Option, Some, None}
 use Rattle.std.specs.Prelude.{if◌then◌else◌, is_some}
 use Rattle.std.specs.List.{Contains}
 use Rattle.std.proofs.lemmas.List.Elements.{Contains-append_cases}
@@ -8,7 +9,8 @@ use Rattle.m51_module.specs.declared.parts.LayoutParts.{LayoutParts}
 use Rattle.m51_module.specs.Walks.{Edges}
 use Rattle.m51_stackbound.specs.declared.point.Point.{Point}
 use Rattle.m51_stackbound.specs.Instructions.{is_call, is_jump, next_of, target_of}
-use Rattle.m51_stackbound.specs.Points.{after_call, after_instr, at_next, at_target, call_by, call_of, called, ends_at, entry_at, follow, follow_by, height_after, instruction, point_at, successors}
+use Rattle.m51_stackbound.specs.Points.{after_call, after_instr, at_next, at_target, call_by, call_of, called, ends_at}
+use Rattle.m51_stackbound.specs.Points.{entry_at, follow, follow_by, height_after, instruction, point_at, successors}
 use Rattle.m51_stackbound.specs.Units.{counts, in_one_unit, joined, same, unit_of}
 use Rattle.m51_cells.proofs.Small.{first_or_after, none_in_empty}
 
@@ -31,7 +33,8 @@ pub record IsEntry (l : LayoutParts) (call : Option ℕ) (q : Point) : Type 0 wh
 abbrev pub StepsTo : LayoutParts → Point → Option ℕ → Point → Type 0
 StepsTo l p call q = IsWithin l p q ⊎ IsEntry l call q
 
-from_cond : {X : Type 0} (b : Bool) (xs ys : List X) (q : X) → Contains (if b then xs else ys) q → ((b ≡ true) × Contains xs q) ⊎ ((b ≡ false) × Contains ys q)
+from_cond : {X : Type 0} (b : Bool) (xs ys : List X) (q : X) → Contains (if b then xs else ys) q
+    → ((b ≡ true) × Contains xs q) ⊎ ((b ≡ false) × Contains ys q)
 from_cond true xs ys q h = inl (refl, h)
 from_cond false xs ys q h = inr (refl, h)
 
@@ -57,25 +60,30 @@ module _ (l : LayoutParts) (p : Point) where
   unfolding counts
   target_covered target h = joined_right l.edges (unit_of l p.address) (unit_of l target) h
 
-  at_point : (address height : ℕ) (q : Point) → is_covered l address ≡ true → Contains (point_at p.start address height ∷ []) q → IsWithin l p q
+  at_point : (address height : ℕ) (q : Point) → is_covered l address ≡ true
+      → Contains (point_at p.start address height ∷ []) q → IsWithin l p q
   at_point address height q covered h =
       let e = only_one (point_at p.start address height) q h in
       subst (λ (r : Point). IsWithin l p r) e (record { start_is = refl; covered = covered })
 
   next_within : (next height : ℕ) (q : Point) → Contains (at_next l p next height) q → IsWithin l p q
   unfolding at_next
-  next_within next height q h = elim (from_cond (in_one_unit l p.address next) (point_at p.start next height ∷ []) [] q h) as (λ _. IsWithin l p q) [
-    | inl t ↦ at_point next height q (next_covered next t.0) t.1
-    | inr none ↦ absurd (none_in_empty q none.1)
-  ]
+  next_within next height q h =
+      elim (from_cond (in_one_unit l p.address next) (point_at p.start next height ∷ []) [] q h) as
+      (λ _. IsWithin l p q) [
+        | inl t ↦ at_point next height q (next_covered next t.0) t.1
+        | inr none ↦ absurd (none_in_empty q none.1)
+      ]
 
-  target_within : (target : Option ℕ) (height : ℕ) (q : Point) → Contains (at_target l p target height) q → IsWithin l p q
+  target_within : (target : Option ℕ) (height : ℕ) (q : Point) → Contains (at_target l p target height) q
+      → IsWithin l p q
   unfolding at_target
   target_within None height q h = absurd (none_in_empty q h)
-  target_within (Some target) height q h = elim (from_cond (counts l p.address target) (point_at p.start target height ∷ []) [] q h) as (λ _. IsWithin l p q) [
-    | inl t ↦ at_point target height q (target_covered target t.0) t.1
-    | inr none ↦ absurd (none_in_empty q none.1)
-  ]
+  target_within (Some target) height q h =
+      elim (from_cond (counts l p.address target) (point_at p.start target height ∷ []) [] q h) as (λ _. IsWithin l p q) [
+        | inl t ↦ at_point target height q (target_covered target t.0) t.1
+        | inr none ↦ absurd (none_in_empty q none.1)
+      ]
 
   called_covered : (target : Option ℕ) (to : ℕ) → called l p target ≡ Some to → is_covered l to ≡ true
   unfolding called
@@ -88,38 +96,49 @@ module _ (l : LayoutParts) (p : Point) where
           subst (λ t. is_covered l t ≡ true) is (target_covered target e)
       by false e = absurd (cc (subst (λ b. (if b then Some target else None) ≡ Some to) e h))
 
-  call_steps : (next : ℕ) (call : Option ℕ) (q : Point) → ((to : ℕ) → call ≡ Some to → is_covered l to ≡ true) → Contains (after_call l p next call) q → StepsTo l p call q
+  call_steps : (next : ℕ) (call : Option ℕ) (q : Point) → ((to : ℕ) → call ≡ Some to → is_covered l to ≡ true)
+      → Contains (after_call l p next call) q → StepsTo l p call q
   call_steps next None q covers h = absurd (none_in_empty q h)
-  call_steps next (Some to) q covers h = elim (first_or_after (entry_at to) (at_next l p next p.height) q h) as (λ _. StepsTo l p (Some to) q) [
-    | inl e ↦ inr (record { to = to; calls = refl; is = sym e; covered = covers to refl })
-    | inr more ↦ inl (next_within next p.height q more)
-  ]
+  call_steps next (Some to) q covers h =
+      elim (first_or_after (entry_at to) (at_next l p next p.height) q h) as (λ _. StepsTo l p (Some to) q) [
+        | inl e ↦ inr (record { to = to; calls = refl; is = sym e; covered = covers to refl })
+        | inr more ↦ inl (next_within next p.height q more)
+      ]
 
   instr_within : (instr : Instr) (next : ℕ) (q : Point) → Contains (after_instr l p instr next) q → IsWithin l p q
   instr_within instr next q h =
       elim (from_cond (is_jump instr) (at_target l p (target_of instr next) p.height)
-      (at_next l p next (height_after p.height instr) ++ at_target l p (target_of instr next) (height_after p.height instr)) q h) as (λ _. IsWithin l p q) [
+      (at_next l p next (height_after p.height instr)
+      ++ at_target l p (target_of instr next) (height_after p.height instr)) q h) as (λ _. IsWithin l p q) [
         | inl t ↦ target_within (target_of instr next) p.height q t.1
-        | inr t ↦ elim (Contains-append_cases (at_next l p next (height_after p.height instr)) (at_target l p (target_of instr next) (height_after p.height instr)) q t.1) as (λ _. IsWithin l p q) [
-          | inl one ↦ next_within next (height_after p.height instr) q one
-          | inr two ↦ target_within (target_of instr next) (height_after p.height instr) q two
-        ]
+        | inr t ↦ elim (Contains-append_cases (at_next l p next (height_after p.height instr))
+            (at_target l p (target_of instr next) (height_after p.height instr)) q t.1) as (λ _. IsWithin l p q) [
+              | inl one ↦ next_within next (height_after p.height instr) q one
+              | inr two ↦ target_within (target_of instr next) (height_after p.height instr) q two
+            ]
       ]
 
   steps_by : (o : Option Instr) (q : Point) → Contains (follow_by l p o) q → StepsTo l p (call_by l p o) q
   unfolding follow_by call_by
   steps_by None q h = absurd (none_in_empty q h)
-  steps_by (Some instr) q h = elim (from_cond (ends_at p instr) [] (follow l p instr (next_of instr p.address)) q h) as (λ _. StepsTo l p (call_by l p (Some instr)) q) [
-    | inl none ↦ absurd (none_in_empty q none.1)
-    | inr goes ↦ elim (from_cond (is_call instr) (after_call l p (next_of instr p.address) (called l p (target_of instr (next_of instr p.address)))) (after_instr l p instr (next_of instr p.address)) q goes.1) as (λ _. StepsTo l p (call_by l p (Some instr)) q) [
-      | inl call ↦
-          let at = target_of instr (next_of instr p.address) in
-          let is : called l p at ≡ (if is_call instr then called l p at else None) = ap (λ b. if b then called l p at else None) (sym call.0) in
-          subst (λ c. StepsTo l p c q) is (call_steps (next_of instr p.address) (called l p at) q (λ to e. called_covered at to e) call.1)
-      | inr other ↦ inl (instr_within instr (next_of instr p.address) q other.1)
-    ]
-  ]
+  steps_by (Some instr) q h = elim (from_cond (ends_at p instr) [] (follow l p instr (next_of instr p.address)) q h) as
+      (λ _. StepsTo l p (call_by l p (Some instr)) q) [
+        | inl none ↦ absurd (none_in_empty q none.1)
+        | inr goes ↦ elim (from_cond (is_call instr)
+            (after_call l p (next_of instr p.address) (called l p (target_of instr (next_of instr p.address))))
+            (after_instr l p instr (next_of instr p.address)) q goes.1) as
+            (λ _. StepsTo l p (call_by l p (Some instr)) q) [
+              | inl call ↦
+                  let at = target_of instr (next_of instr p.address) in
+                  let is : called l p at ≡ (if is_call instr then called l p at else None) =
+                  ap (λ b. if b then called l p at else None) (sym call.0) in
+                  subst (λ c. StepsTo l p c q) is
+                  (call_steps (next_of instr p.address) (called l p at) q (λ to e. called_covered at to e) call.1)
+              | inr other ↦ inl (instr_within instr (next_of instr p.address) q other.1)
+            ]
+      ]
 
 -- each successor is of the same start, or the entry of a start that the point calls
-pub steps_to : (l : LayoutParts) (image : List ℕ) (p q : Point) → Contains (successors l image p) q → StepsTo l p (call_of l image p) q
+pub steps_to : (l : LayoutParts) (image : List ℕ) (p q : Point) → Contains (successors l image p) q
+    → StepsTo l p (call_of l image p) q
 steps_to l image p q h = steps_by l p (instruction l image p.address) q h

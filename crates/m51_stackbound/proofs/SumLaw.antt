@@ -4,7 +4,8 @@ use Rattle.m51_module.specs.declared.parts.LayoutParts.{LayoutParts}
 use Rattle.m51_module.specs.declared.start.Start.TheVariants.{Reset}
 use Rattle.m51_stackbound.specs.Bounds.{Adds, Nothing, One, Two, ComesTo, IsTotal}
 use Rattle.m51_stackbound.specs.Depths.{IsDepth}
-use Rattle.m51_stackbound.specs.Laws.{DepthsAdd, NoHandler, OneHandler, TwoHandlers, IsSumOfDepths, HaveDepths, TotalIsSumOfDepths}
+use Rattle.m51_stackbound.specs.Laws.{DepthsAdd, NoHandler, OneHandler, TwoHandlers, IsSumOfDepths, HaveDepths}
+use Rattle.m51_stackbound.specs.Laws.{TotalIsSumOfDepths}
 
 module _ (l : LayoutParts) (image : List ℕ) where
   -- what depths add is added
@@ -31,10 +32,15 @@ module _ (l : LayoutParts) (image : List ℕ) where
         let j = have.handler w k in
         let one = i.1.most path d t in
         let two = j.1.most other e u in
-        record { sum = 2 + i.0 + (2 + j.0); adds = TwoHandlers v w i.0 j.0 h k ne i.1 j.1; high = omega (arith, one, two) }
+        record {
+          sum = 2 + i.0 + (2 + j.0);
+          adds = TwoHandlers v w i.0 j.0 h k ne i.1 j.1;
+          high = omega (arith, one, two);
+        }
 
     comes : (reset more : ℕ) → IsDepth l image Reset reset → DepthsAdd l image more → ComesTo l image (reset + more)
-    comes reset more d a = record { path = d.path; reset = reset; more = more; takes = d.takes; adds = added more a; value_is = refl }
+    comes reset more d a =
+        record { path = d.path; reset = reset; more = more; takes = d.takes; adds = added more a; value_is = refl }
 
     on : (total : ℕ) → IsTotal l image total → IsSumOfDepths l image total
     on total t =
@@ -48,7 +54,8 @@ module _ (l : LayoutParts) (image : List ℕ) where
           more = a.sum;
           reset_is = r.1;
           adds = a.adds;
-          greatest = λ other k. let most = t.most (r.0 + other) (comes r.0 other r.1 k) in omega (arith, most, whole, deep, a.high, c.value_is);
+          greatest = λ other k. let most = t.most (r.0 + other) (comes r.0 other r.1 k) in
+              omega (arith, most, whole, deep, a.high, c.value_is);
           total_is = omega (arith, whole, deep, a.high, c.value_is);
         }
 

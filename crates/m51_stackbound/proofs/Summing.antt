@@ -12,24 +12,30 @@ use Rattle.m51_stackbound.specs.Totals.{OneAdds, TwoAdd, IsSum}
 use Rattle.m51_stackbound.specs.Units.{handlers}
 use Rattle.m51_stackbound.proofs.Rooted.{handler_first, reset_first}
 
-module _ (l : LayoutParts) (image : List ℕ) (depths : List ℕ) (deep : (start : Start) (height : ℕ) → HasHeight l image start height → IsDepth l image start (depth_in depths start)) where
+module _ (l : LayoutParts) (image : List ℕ) (depths : List ℕ)
+    (deep : (start : Start) (height : ℕ) → HasHeight l image start height
+    → IsDepth l image start (depth_in depths start)) where
   reset_depth : IsDepth l image Reset (depth_in depths Reset)
-  reset_depth = deep Reset 7 (record { point = point_at Reset 0 7; is_point = reset_first l image; start_is = refl; height_is = refl })
+  reset_depth = deep Reset 7
+      (record { point = point_at Reset 0 7; is_point = reset_first l image; start_is = refl; height_is = refl })
 
   handler_depth : (v : ℕ) → Contains (handlers l) v → IsDepth l image (At v) (depth_in depths (At v))
-  handler_depth v h = deep (At v) 0 (record { point = entry_at v; is_point = handler_first l image v h; start_is = refl; height_is = refl })
+  handler_depth v h = deep (At v) 0
+      (record { point = entry_at v; is_point = handler_first l image v h; start_is = refl; height_is = refl })
 
   one_adds : (b : ℕ) → OneAdds depths (handlers l) b → Adds l image b
   one_adds b o =
       let d = handler_depth o.vector o.listed in
-      subst (λ n. Adds l image n) (omega (arith, o.bytes_are)) (One o.vector (depth_in depths (At o.vector)) d.path o.listed d.takes)
+      subst (λ n. Adds l image n) (omega (arith, o.bytes_are))
+      (One o.vector (depth_in depths (At o.vector)) d.path o.listed d.takes)
 
   two_add : (a b : ℕ) → TwoAdd depths (handlers l) a b → Adds l image (a + b)
   two_add a b t =
       let d = handler_depth t.first.vector t.first.listed in
       let e = handler_depth t.second.vector t.second.listed in
       subst (λ n. Adds l image n) (omega (arith, t.first.bytes_are, t.second.bytes_are))
-      (Two t.first.vector t.second.vector (depth_in depths (At t.first.vector)) (depth_in depths (At t.second.vector)) d.path e.path t.first.listed t.second.listed t.different d.takes e.takes)
+      (Two t.first.vector t.second.vector (depth_in depths (At t.first.vector)) (depth_in depths (At t.second.vector))
+      d.path e.path t.first.listed t.second.listed t.different d.takes e.takes)
 
   module _ (total : ℕ) (s : IsSum depths (handlers l) total) where
     abbrev first : ℕ

@@ -1,5 +1,6 @@
 -- The answer is unique: two answers that are tied, are the same.
-use Rattle.std.proofs.Common.{◌≡◌, ◌<◌, ◌≤◌, ℕ, zero, suc, List, [], ◌∷◌, length, get_or, map, refl, sym, ap, subst, ◌∙◌, arith, inl, inr}
+use Rattle.std.proofs.Common.{◌≡◌, ◌<◌, ◌≤◌, ℕ, zero, suc, List, [], ◌∷◌, length, get_or, map, refl, sym, ap, subst}
+use Rattle.std.proofs.Common.{◌∙◌, arith, inl, inr}
 use Rattle.std.specs.Prelude.{Some, Result, Ok, Err}
 use Rattle.std.specs.List.{Contains}
 use Rattle.std.proofs.lemmas.Bool.{cases_lt}
@@ -16,8 +17,9 @@ use Rattle.m51_module.specs.Rising.{Rises}
 use Rattle.m51_module.specs.Sound.{IsSound}
 use Rattle.m51_module.proofs.Units.{one_root, one_unit}
 use Rattle.m51_stackbound.specs.declared.judging.Rule.TheVariants.{WritesSp, Computed, PopsBelow}
-use Rattle.m51_stackbound.specs.declared.point.Place.{Place}
-use Rattle.m51_stackbound.specs.Bounds.{AreEach, AreFew, Answers, Breaks, HasTwoHeights, IsBound, IsCyclic, IsProc, IsRootDepth, IsTooDeep, IsTotal, Keeps}
+use Rattle.m51_stackbound.specs.declared.point.ReachedAddress.{ReachedAddress}
+use Rattle.m51_stackbound.specs.Bounds.{AreEach, AreFew, Answers, Breaks, HasTwoHeights, IsBound, IsCyclic, IsProc}
+use Rattle.m51_stackbound.specs.Bounds.{IsRootDepth, IsTooDeep, IsTotal, Keeps}
 use Rattle.m51_stackbound.specs.Depths.{ComesFirst, IsDepth, IsPath, Takes}
 use Rattle.m51_stackbound.specs.Laws.{IsTied, AnswerIsUnique}
 use Rattle.m51_stackbound.specs.Rules.{IsLeast, NoLater, rank}
@@ -40,7 +42,7 @@ stage (Ok b) = 7
 stage (Err Memory) = 8
 
 -- the first place, or start, is one
-one_place : (Is : Place → Type 0) (p q : Place) → IsLeast Is (Some p) → IsLeast Is (Some q) → p ≡ q
+one_place : (Is : ReachedAddress → Type 0) (p q : ReachedAddress) → IsLeast Is (Some p) → IsLeast Is (Some q) → p ≡ q
 one_place Is p q h k = by (h.1 q k.0) (k.1 p h.0)
   where
     same : p.start ≡ q.start → p.address ≡ q.address → p ≡ q
@@ -73,9 +75,11 @@ record HasAt (ps : List Proc) (at : ℕ) : Type 0 where
 has_at : (ps : List Proc) (at : ℕ) → Contains (map at_of ps) at → HasAt ps at
 has_at [] at h = absurd (omega (arith, h.1))
 has_at (p ∷ ps) at (zero, below, is) = record { proc = p; listed = (0, omega arith, refl); is = is }
-has_at (p ∷ ps) at (suc k, below, is) = let r = has_at ps at (k, omega (arith, below), is) in record { proc = r.proc; listed = (suc r.listed.0, omega (arith, r.listed.1), r.listed.2); is = r.is }
+has_at (p ∷ ps) at (suc k, below, is) = let r = has_at ps at (k, omega (arith, below), is) in
+    record { proc = r.proc; listed = (suc r.listed.0, omega (arith, r.listed.1), r.listed.2); is = r.is }
 
-at_index : (ps : List Proc) (k : ℕ) (p : Proc) (d : ℕ) → k < length ps → get_or ps k p ≡ p → get_or (map at_of ps) k d ≡ p.at
+at_index : (ps : List Proc) (k : ℕ) (p : Proc) (d : ℕ) → k < length ps → get_or ps k p ≡ p
+    → get_or (map at_of ps) k d ≡ p.at
 at_index [] k p d below is = absurd (omega (arith, below))
 at_index (q ∷ ps) zero p d below is = ap at_of is
 at_index (q ∷ ps) (suc k) p d below is = at_index ps k p d (omega (arith, below)) is
@@ -93,7 +97,8 @@ rest_above p q ps rises k =
 rest_rises : (p : Proc) (ps : List Proc) → Rises (map at_of (p ∷ ps)) → Rises (map at_of ps)
 rest_rises p ps rises i j d less within = rises (suc i) (suc j) d (omega (arith, less)) (omega (arith, within))
 
-same_lists : (ps qs : List Proc) → Rises (map at_of ps) → Rises (map at_of qs) → ((p : Proc) → Contains ps p → Contains qs p) → ((p : Proc) → Contains qs p → Contains ps p) → ps ≡ qs
+same_lists : (ps qs : List Proc) → Rises (map at_of ps) → Rises (map at_of qs)
+    → ((p : Proc) → Contains ps p → Contains qs p) → ((p : Proc) → Contains qs p → Contains ps p) → ps ≡ qs
 same_lists [] [] a b on back = refl
 same_lists [] (q ∷ qs) a b on back = absurd (none_in_empty q (back q (0, omega arith, refl)))
 same_lists (p ∷ ps) [] a b on back = absurd (none_in_empty p (on p (0, omega arith, refl)))
@@ -156,13 +161,18 @@ module _ (l : LayoutParts) (image : List ℕ) where
         depth : p.depth ≡ q.depth
         depth = depth_same (At q.at) p.depth q.depth (subst (λ n. IsDepth l image (At n) p.depth) e h.depth) k.depth
 
-    row_same : (start : Start) (vector : ℕ) (r s : RootDepth) → IsRootDepth l image start vector r → IsRootDepth l image start vector s → r ≡ s
-    row_same start vector r s h k = same (one_root l sound vector r.root s.root h.root k.root) (depth_same start r.depth s.depth h.depth k.depth) (path_same start r.path s.path h.path k.path)
+    row_same : (start : Start) (vector : ℕ) (r s : RootDepth) → IsRootDepth l image start vector r
+        → IsRootDepth l image start vector s → r ≡ s
+    row_same start vector r s h k =
+        same (one_root l sound vector r.root s.root h.root k.root) (depth_same start r.depth s.depth h.depth k.depth)
+        (path_same start r.path s.path h.path k.path)
       where
         same : r.root ≡ s.root → r.depth ≡ s.depth → r.path ≡ s.path → r ≡ s
         same a b c = λ i. record { root = a i; depth = b i; path = c i }
 
-    rows_same : (vs : List ℕ) (rs ss : List RootDepth) → AreEach (λ vector. IsRootDepth l image (At vector) vector) vs rs → AreEach (λ vector. IsRootDepth l image (At vector) vector) vs ss → rs ≡ ss
+    rows_same : (vs : List ℕ) (rs ss : List RootDepth)
+        → AreEach (λ vector. IsRootDepth l image (At vector) vector) vs rs
+        → AreEach (λ vector. IsRootDepth l image (At vector) vector) vs ss → rs ≡ ss
     rows_same [] [] [] h k = refl
     rows_same [] [] (s ∷ ss) h k = absurd k
     rows_same [] (r ∷ rs) ss h k = absurd h
@@ -170,11 +180,13 @@ module _ (l : LayoutParts) (image : List ℕ) where
     rows_same (v ∷ vs) (r ∷ rs) [] h k = absurd k
     rows_same (v ∷ vs) (r ∷ rs) (s ∷ ss) h k = λ i. row_same (At v) v r s h.0 k.0 i ∷ rows_same vs rs ss h.1 k.1 i
 
-    listed_in : (b c : StackBound) → IsBound l image b → IsBound l image c → (p : Proc) → Contains b.procs p → Contains c.procs p
+    listed_in : (b c : StackBound) → IsBound l image b → IsBound l image c → (p : Proc) → Contains b.procs p
+        → Contains c.procs p
     listed_in b c h k p listed =
         let is = h.procs p listed in
         let other = has_at c.procs p.at (k.all p.at is.is_start) in
-        subst (λ (q : Proc). Contains c.procs q) (proc_same other.proc p other.is (k.procs other.proc other.listed) is) other.listed
+        subst (λ (q : Proc). Contains c.procs q) (proc_same other.proc p other.is (k.procs other.proc other.listed) is)
+        other.listed
 
     bound_same : (b c : StackBound) → IsBound l image b → IsBound l image c → b ≡ c
     bound_same b c h k = same procs roots (total_same b.total c.total h.total k.total)
@@ -201,7 +213,7 @@ module _ (l : LayoutParts) (image : List ℕ) where
     Rung (suc (suc zero)) = Keeps l image Computed
     Rung (suc (suc (suc zero))) = Keeps l image PopsBelow
     Rung (suc (suc (suc (suc zero)))) = (start : Start) → IsCyclic l image start → ⊥
-    Rung (suc (suc (suc (suc (suc zero))))) = (place : Place) → HasTwoHeights l image place → ⊥
+    Rung (suc (suc (suc (suc (suc zero))))) = (place : ReachedAddress) → HasTwoHeights l image place → ⊥
     Rung (suc (suc (suc (suc (suc (suc n)))))) = IsTooDeep l image → ⊥
 
     -- all rungs below
@@ -220,9 +232,12 @@ module _ (l : LayoutParts) (image : List ℕ) where
     passes (Err (K2 start at)) tied h = ((tt, h.0), h.1)
     passes (Err (K3 start at)) tied h = (((tt, h.0), h.1), h.2)
     passes (Err (K4 start)) tied h = ((((tt, h.0.few), h.0.writes), h.0.computed), h.0.pops)
-    passes (Err (K5 start at)) tied h = let r = h.0.rules in (((((tt, r.few), r.writes), r.computed), r.pops), h.0.no_cycle)
-    passes (Err K6) tied h = let a = h.0.apart in let r = a.rules in ((((((tt, r.few), r.writes), r.computed), r.pops), a.no_cycle), h.0.one_height)
-    passes (Ok b) tied h = let a = h.kept.apart in let r = a.rules in (((((((tt, r.few), r.writes), r.computed), r.pops), a.no_cycle), h.kept.one_height), too_deep b tied h)
+    passes (Err (K5 start at)) tied h = let r = h.0.rules in
+        (((((tt, r.few), r.writes), r.computed), r.pops), h.0.no_cycle)
+    passes (Err K6) tied h = let a = h.0.apart in let r = a.rules in
+        ((((((tt, r.few), r.writes), r.computed), r.pops), a.no_cycle), h.0.one_height)
+    passes (Ok b) tied h = let a = h.kept.apart in let r = a.rules in
+        (((((((tt, r.few), r.writes), r.computed), r.pops), a.no_cycle), h.kept.one_height), too_deep b tied h)
     passes (Err Memory) tied h = absurd tied
 
     fails : (r : Result StackBound StackError) → IsTied r → Answers l image r → stage r < 7 → Rung (stage r) → ⊥
@@ -258,32 +273,43 @@ module _ (l : LayoutParts) (image : List ℕ) where
     few_stages (Err Memory) tied = absurd tied
 
     -- an answer that comes later does not come beside one that comes earlier
-    not_before : (r s : Result StackBound StackError) → IsTied r → IsTied s → Answers l image r → Answers l image s → stage r < stage s → ⊥
+    not_before : (r s : Result StackBound StackError) → IsTied r → IsTied s → Answers l image r → Answers l image s
+        → stage r < stage s → ⊥
     not_before r s one two h k less =
         let few = few_stages s two in
         fails r one h (omega (arith, less, few)) (rung_below (stage r) (stage s) less (passes s two k))
 
-    at_place : (E : Start → ℕ → StackError) (Is : Place → Type 0) (s t : Start) (a b : ℕ) → IsLeast Is (Some (record { start = s; address = a })) → IsLeast Is (Some (record { start = t; address = b })) → E s a ≡ E t b
-    at_place E Is s t a b h k = ap (λ (p : Place). E p.start p.address) (one_place Is (record { start = s; address = a }) (record { start = t; address = b }) h k)
+    at_place : (E : Start → ℕ → StackError) (Is : ReachedAddress → Type 0) (s t : Start) (a b : ℕ)
+        → IsLeast Is (Some (record { start = s; address = a })) → IsLeast Is (Some (record { start = t; address = b }))
+        → E s a ≡ E t b
+    at_place E Is s t a b h k =
+        ap (λ (p : ReachedAddress). E p.start p.address)
+        (one_place Is (record { start = s; address = a }) (record { start = t; address = b }) h k)
 
-    same_stage : (r s : Result StackBound StackError) → IsTied r → IsTied s → Answers l image r → Answers l image s → stage r ≡ stage s → r ≡ s
+    same_stage : (r s : Result StackBound StackError) → IsTied r → IsTied s → Answers l image r → Answers l image s
+        → stage r ≡ stage s → r ≡ s
     unfolding stage
     same_stage (Err Limit) (Err Limit) one two h k e = refl
-    same_stage (Err (K1 s a)) (Err (K1 t b)) one two h k e = ap Err (at_place K1 (Breaks l image WritesSp) s t a b h.1 k.1)
-    same_stage (Err (K2 s a)) (Err (K2 t b)) one two h k e = ap Err (at_place K2 (Breaks l image Computed) s t a b h.2 k.2)
-    same_stage (Err (K3 s a)) (Err (K3 t b)) one two h k e = ap Err (at_place K3 (Breaks l image PopsBelow) s t a b h.3 k.3)
+    same_stage (Err (K1 s a)) (Err (K1 t b)) one two h k e =
+        ap Err (at_place K1 (Breaks l image WritesSp) s t a b h.1 k.1)
+    same_stage (Err (K2 s a)) (Err (K2 t b)) one two h k e =
+        ap Err (at_place K2 (Breaks l image Computed) s t a b h.2 k.2)
+    same_stage (Err (K3 s a)) (Err (K3 t b)) one two h k e =
+        ap Err (at_place K3 (Breaks l image PopsBelow) s t a b h.3 k.3)
     same_stage (Err (K4 s)) (Err (K4 t)) one two h k e =
         let low = h.1.first t k.1.cyclic in
         let high = k.1.first s h.1.cyclic in
         ap (λ u. Err (K4 u)) (rank_same s t (omega (arith, low, high)))
-    same_stage (Err (K5 s a)) (Err (K5 t b)) one two h k e = ap Err (at_place K5 (HasTwoHeights l image) s t a b h.1 k.1)
+    same_stage (Err (K5 s a)) (Err (K5 t b)) one two h k e =
+        ap Err (at_place K5 (HasTwoHeights l image) s t a b h.1 k.1)
     same_stage (Err K6) (Err K6) one two h k e = refl
     same_stage (Ok b) (Ok c) one two h k e = ap Ok (bound_same b c h k)
     same_stage (Err Memory) s one two h k e = absurd one
     same_stage r (Err Memory) one two h k e = absurd two
     same_stage r s one two h k e = absurd (omega (arith, e))
 
-    pub one_answer : (r s : Result StackBound StackError) → IsTied r → IsTied s → Answers l image r → Answers l image s → r ≡ s
+    pub one_answer : (r s : Result StackBound StackError) → IsTied r → IsTied s → Answers l image r → Answers l image s
+        → r ≡ s
     one_answer r s one two h k = elim (cases_lt (stage r) (stage s)) as (λ _. r ≡ s) [
       | inl less ↦ absurd (not_before r s one two h k less)
       | inr not_less ↦ elim (cases_lt (stage s) (stage r)) as (λ _. r ≡ s) [

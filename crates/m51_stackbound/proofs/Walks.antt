@@ -1,19 +1,24 @@
 -- What walks over rows find, and which starts do not call themselves.
-use Rattle.std.proofs.Common.{◌≡◌, ◌<◌, ◌≤◌, ◌+◌, ◌-◌, ◌*◌, ◌↔◌, ℕ, Bool, true, false, List, [], ◌∷◌, ◌++◌, length, get_or, set, replicate, refl, sym, ap, subst, ◌∙◌, arith, ◌⊎◌, inl, inr, append_assoc, length-append}
+use Rattle.std.proofs.Common.{◌≡◌, ◌<◌, ◌≤◌, ◌+◌, ◌-◌, ◌*◌, ◌↔◌, ℕ, Bool, true, false, List, [], ◌∷◌, ◌++◌, length}
+use Rattle.std.proofs.Common.{get_or, set, replicate, refl, sym, ap, subst, ◌∙◌, arith, ◌⊎◌, inl, inr, append_assoc}
+use Rattle.std.proofs.Common.{length-append}
 use Rattle.std.specs.List.{Contains, sum_by}
 use Rattle.std.specs.Prelude.{nat_eq}
 use Rattle.std.proofs.lemmas.Bool.{cases_lt}
 use Rattle.std.proofs.lemmas.Bool.Decides.{eqb_tells}
 use Rattle.std.proofs.lemmas.Grind.{common_steps}
-use Rattle.std.proofs.lemmas.List.{append-nil, get_or_append_left, get_or-append_right, get_or-set_same, get_or-set_other, length-set, length-replicate}
-use Rattle.std.proofs.lemmas.List.Elements.{Contains-append_left, Contains-append_cases, Contains-get_or, Contains-push, Contains-push_cases}
+use Rattle.std.proofs.lemmas.List.{append-nil, get_or_append_left, get_or-append_right, get_or-set_same}
+use Rattle.std.proofs.lemmas.List.{get_or-set_other, length-set, length-replicate}
+use Rattle.std.proofs.lemmas.List.Elements.{Contains-append_left, Contains-append_cases, Contains-get_or, Contains-push}
+use Rattle.std.proofs.lemmas.List.Elements.{Contains-push_cases}
 use Rattle.std.proofs.lemmas.List.Folds.{sum_by-replicate}
 use Rattle.std.proofs.lemmas.List.Sums.{sum_by-set}
 use Rattle.m51_cells.proofs.Small.{first_or_after, none_in_empty}
 use Rattle.m51_module.specs.declared.parts.LayoutParts.{LayoutParts}
 use Rattle.m51_module.specs.declared.start.Start.TheVariants.{At}
 use Rattle.m51_module.proofs.Units.{same_or_not}
-use Rattle.m51_stackbound.specs.Callers.{AreCallRows, AreCleared, AreMarked, GoesOn, HasCallees, IsClosed, Leads, Once, one_unmarked, Over, row_of, Walks, with_clear}
+use Rattle.m51_stackbound.specs.Callers.{AreCallRows, AreCleared, AreMarked, GoesOn, HasCallees, IsClosed, Leads, Once}
+use Rattle.m51_stackbound.specs.Callers.{one_unmarked, Over, row_of, Walks, with_clear}
 use Rattle.m51_stackbound.specs.Depths.{CallsThrough, Direct, Through}
 
 blank_mark : (n k : ℕ) → get_or (replicate n false) k false ≡ false
@@ -31,7 +36,8 @@ same_when a b e = elim (eqb_tells a b) as (λ _. a ≡ b) [
 pub marked_none : (count : ℕ) (marks : List Bool) → count ≡ 65536 → marks ≡ replicate count false → AreMarked [] marks
 marked_none count marks is e = subst (λ (ms : List Bool). AreMarked [] ms) (sym e) (record {
   len = length-replicate {A = Bool} count false ∙ is;
-  count = let sums : sum_by one_unmarked (replicate count false) ≡ count * 1 = sum_by-replicate one_unmarked count false in omega (arith, is, sums);
+  count = let sums : sum_by one_unmarked (replicate count false) ≡ count * 1 =
+      sum_by-replicate one_unmarked count false in omega (arith, is, sums);
   only = λ a k. absurd (cc (k, blank_mark count a));
   all = λ a k. absurd (none_in_empty a k);
 })
@@ -60,37 +66,48 @@ goes_one old a = record {
   ];
 }
 
-unmarked : (starts : List ℕ) (a : ℕ) (mark : Bool) → (Contains starts a → ⊥) → (mark ≡ true → Contains starts a) → mark ≡ false
+unmarked : (starts : List ℕ) (a : ℕ) (mark : Bool) → (Contains starts a → ⊥) → (mark ≡ true → Contains starts a)
+    → mark ≡ false
 unmarked starts a false absent only = refl
 unmarked starts a true absent only = absurd (absent (only refl))
 
-pub marked_more : (starts : List ℕ) (marks : List Bool) (a : ℕ) → a < 65536 → (Contains starts a → ⊥) → AreMarked starts marks → AreMarked (starts ++ a ∷ []) (set marks a true)
+pub marked_more : (starts : List ℕ) (marks : List Bool) (a : ℕ) → a < 65536 → (Contains starts a → ⊥)
+    → AreMarked starts marks → AreMarked (starts ++ a ∷ []) (set marks a true)
 marked_more starts marks a few absent h =
     let inside : a < length marks = omega (arith, few, h.len) in
     let none : get_or marks a false ≡ false = unmarked starts a (get_or marks a false) absent (h.only a) in
     let was : one_unmarked (get_or marks a false) ≡ 1 = ap one_unmarked none in
-    let sums : sum_by one_unmarked (set marks a true) + one_unmarked (get_or marks a false) ≡ sum_by one_unmarked marks + 0 = sum_by-set one_unmarked marks a true false inside in
+    let sums : sum_by one_unmarked (set marks a true) + one_unmarked (get_or marks a false)
+    ≡ sum_by one_unmarked marks + 0 = sum_by-set one_unmarked marks a true false inside in
     record {
       len = length-set marks a true ∙ h.len;
       count = omega (arith, h.count, sums, was, length-append starts (a ∷ []));
       only = λ b k. elim (same_or_not b a) as (λ _. Contains (starts ++ a ∷ []) b) [
         | inl e ↦ subst (λ n. Contains (starts ++ a ∷ []) n) (sym e) (Contains-push starts a)
-        | inr ne ↦ Contains-append_left starts (a ∷ []) b (h.only b (sym (get_or-set_other marks a b true false ne) ∙ k))
+        | inr ne ↦ Contains-append_left starts (a ∷ []) b
+            (h.only b (sym (get_or-set_other marks a b true false ne) ∙ k))
       ];
       all = λ b k. elim (same_or_not b a) as (λ _. get_or (set marks a true) b false ≡ true) [
         | inl e ↦ ap (λ n. get_or (set marks a true) n false) e ∙ get_or-set_same marks a true false inside
-        | inr ne ↦ get_or-set_other marks a b true false ne ∙ elim (Contains-push_cases starts a b k) as (λ _. get_or marks b false ≡ true) [
-          | inl before ↦ h.all b before
-          | inr here ↦ absurd (ne (sym here))
-        ]
+        | inr ne ↦ get_or-set_other marks a b true false ne
+            ∙ elim (Contains-push_cases starts a b k) as (λ _. get_or marks b false ≡ true) [
+              | inl before ↦ h.all b before
+              | inr here ↦ absurd (ne (sym here))
+            ]
       ];
     }
 
 pub goes_from : (old : List ℕ) → GoesOn old [] old
-goes_from old = record { more = []; is = sym (append-nil old); from = λ b k. k; all = λ b k. absurd (none_in_empty b k) }
+goes_from old = record {
+  more = [];
+  is = sym (append-nil old);
+  from = λ b k. k;
+  all = λ b k. absurd (none_in_empty b k);
+}
 
 -- one start more
-pub goes_more : (old now new xs : List ℕ) (x : ℕ) → GoesOn old xs now → GoesOn now (x ∷ []) new → GoesOn old (xs ++ x ∷ []) new
+pub goes_more : (old now new xs : List ℕ) (x : ℕ) → GoesOn old xs now → GoesOn now (x ∷ []) new
+    → GoesOn old (xs ++ x ∷ []) new
 goes_more old now new xs x g h = record {
   more = g.more ++ h.more;
   is = h.is ∙ ap (λ (l : List ℕ). l ++ h.more) g.is ∙ append_assoc old g.more h.more;
@@ -113,18 +130,21 @@ module _ (old starts new : List ℕ) (g : GoesOn old starts new) where
   went_kept a k = subst (λ (l : List ℕ). Contains l a) (sym g.is) (Contains-append_left old g.more a k)
 
   pub went_from : (a : ℕ) → Contains new a → Contains old a ⊎ Contains starts a
-  went_from a k = elim (Contains-append_cases old g.more a (subst (λ (l : List ℕ). Contains l a) g.is k)) as (λ _. Contains old a ⊎ Contains starts a) [
-    | inl before ↦ inl before
-    | inr late ↦ inr (g.from a late)
-  ]
+  went_from a k = elim (Contains-append_cases old g.more a (subst (λ (l : List ℕ). Contains l a) g.is k)) as
+      (λ _. Contains old a ⊎ Contains starts a) [
+        | inl before ↦ inl before
+        | inr late ↦ inr (g.from a late)
+      ]
 
   pub went_front : (i d : ℕ) → i < length old → get_or new i d ≡ get_or old i d
   went_front i d below = ap (λ (l : List ℕ). get_or l i d) g.is ∙ grind (arith, common_steps, below)
 
 -- an element that was added
-added : (old more now : List ℕ) (n : ℕ) → now ≡ old ++ more → length old ≤ n → n < length now → Contains more (get_or now n 0)
+added : (old more now : List ℕ) (n : ℕ) → now ≡ old ++ more → length old ≤ n → n < length now
+    → Contains more (get_or now n 0)
 added old more now n is high below =
-    let at : get_or now n 0 ≡ get_or more (n - length old) 0 = ap (λ (l : List ℕ). get_or l n 0) is ∙ get_or-append_right old more (length old) n 0 refl high in
+    let at : get_or now n 0 ≡ get_or more (n - length old) 0 = ap (λ (l : List ℕ). get_or l n 0) is
+    ∙ get_or-append_right old more (length old) n 0 refl high in
     let long : length now ≡ length old + length more = ap (λ (l : List ℕ). length l) is ∙ length-append old more in
     subst (λ x. Contains more x) (sym at) (Contains-get_or more (n - length old) 0 (omega (arith, high, below, long)))
 
@@ -137,7 +157,8 @@ pub record IsWalking (rows : List (List ℕ)) (from : ℕ) (old starts : List �
   pub looked : (i : ℕ) → length old ≤ i → i < next → i < length starts → HasCallees rows starts (get_or starts i 0)
 
 module _ (rows : List (List ℕ)) (from : ℕ) (old : List ℕ) where
-  pub walk_first : (starts : List ℕ) → GoesOn old (row_of rows from) starts → IsWalking rows from old starts (length old)
+  pub walk_first : (starts : List ℕ) → GoesOn old (row_of rows from) starts
+      → IsWalking rows from old starts (length old)
   walk_first starts g = record {
     more = g.more;
     is = g.is;
@@ -146,7 +167,8 @@ module _ (rows : List (List ℕ)) (from : ℕ) (old : List ℕ) where
     looked = λ i high low below a k. absurd (omega (arith, high, low));
   }
 
-  pub walk_step : (now new : List ℕ) (next : ℕ) → length old ≤ next → next < length now → IsWalking rows from old now next → GoesOn now (row_of rows (get_or now next 0)) new
+  pub walk_step : (now new : List ℕ) (next : ℕ) → length old ≤ next → next < length now
+      → IsWalking rows from old now next → GoesOn now (row_of rows (get_or now next 0)) new
       → IsWalking rows from old new (next + 1)
   walk_step now new next high below w g =
       let via : ℕ = get_or now next 0 in
@@ -161,15 +183,19 @@ module _ (rows : List (List ℕ)) (from : ℕ) (old : List ℕ) where
         looked = λ i up low inside a k. elim (cases_lt i next) as (λ _. Contains new a) [
           | inl early ↦
               let within : i < length now = omega (arith, early, below) in
-              went_kept now (row_of rows via) new g a (w.looked i up early within a (subst (λ n. Contains (row_of rows n) a) (went_front now (row_of rows via) new g i 0 within) k))
+              went_kept now (row_of rows via) new g a
+              (w.looked i up early within a
+              (subst (λ n. Contains (row_of rows n) a) (went_front now (row_of rows via) new g i 0 within) k))
           | inr late ↦
               let is : i ≡ next = omega (arith, late, low) in
-              let same : get_or new i 0 ≡ via = ap (λ n. get_or new n 0) is ∙ went_front now (row_of rows via) new g next 0 below in
+              let same : get_or new i 0 ≡ via = ap (λ n. get_or new n 0) is
+              ∙ went_front now (row_of rows via) new g next 0 below in
               g.all a (subst (λ n. Contains (row_of rows n) a) same k)
         ];
       }
 
-  pub walk_done : (starts : List ℕ) (next : ℕ) → length starts ≤ next → IsWalking rows from old starts next → Walks rows from old starts
+  pub walk_done : (starts : List ℕ) (next : ℕ) → length starts ≤ next → IsWalking rows from old starts next
+      → Walks rows from old starts
   walk_done starts next done w = record {
     more = w.more;
     is = w.is;
@@ -179,9 +205,11 @@ module _ (rows : List (List ℕ)) (from : ℕ) (old : List ℕ) where
         let at : get_or starts k.0 0 ≡ a = grind (arith, common_steps, k.1, k.2) in
         elim (cases_lt k.0 (length old)) as (λ _. Contains old a ⊎ HasCallees rows starts a) [
           | inl early ↦
-              let was : get_or starts k.0 0 ≡ get_or old k.0 0 = ap (λ (l : List ℕ). get_or l k.0 0) w.is ∙ get_or_append_left old w.more 0 k.0 early in
+              let was : get_or starts k.0 0 ≡ get_or old k.0 0 = ap (λ (l : List ℕ). get_or l k.0 0) w.is
+              ∙ get_or_append_left old w.more 0 k.0 early in
               inl (subst (λ x. Contains old x) (sym was ∙ at) (Contains-get_or old k.0 0 early))
-          | inr late ↦ inr (subst (λ x. HasCallees rows starts x) at (w.looked k.0 (omega (arith, late)) (omega (arith, k.1, done)) k.1))
+          | inr late ↦ inr (subst (λ x. HasCallees rows starts x) at
+              (w.looked k.0 (omega (arith, late)) (omega (arith, k.1, done)) k.1))
         ];
   }
 
@@ -189,41 +217,48 @@ module _ (rows : List (List ℕ)) (from : ℕ) (old : List ℕ) where
     -- what the rows lead to is found, where what was found before is closed
     pub led_found : IsClosed rows old → (a : ℕ) → Leads rows from a → Contains new a
     led_found closed _ (Once a called) = w.begun a called
-    led_found closed _ (Over via a before called) = elim (w.closed via (led_found closed via before)) as (λ _. Contains new a) [
-      | inl early ↦ subst (λ (l : List ℕ). Contains l a) (sym w.is) (Contains-append_left old w.more a (closed via early a called))
-      | inr here ↦ here a called
-    ]
+    led_found closed _ (Over via a before called) =
+        elim (w.closed via (led_found closed via before)) as (λ _. Contains new a) [
+          | inl early ↦ subst (λ (l : List ℕ). Contains l a) (sym w.is)
+              (Contains-append_left old w.more a (closed via early a called))
+          | inr here ↦ here a called
+        ]
 
     -- where nothing is added, a start that is new does not call itself
     pub alone : IsClosed rows old → (Contains old from → ⊥) → length new ≡ length old → Leads rows from from → ⊥
     alone closed fresh same h =
-        elim (Contains-append_cases old w.more from (subst (λ (l : List ℕ). Contains l from) w.is (led_found closed from h))) as (λ _. ⊥) [
+        elim (Contains-append_cases old w.more from
+        (subst (λ (l : List ℕ). Contains l from) w.is (led_found closed from h))) as (λ _. ⊥) [
           | inl early ↦ fresh early
           | inr late ↦ omega (arith, same, late.1, ap (λ (l : List ℕ). length l) w.is, length-append old w.more)
         ]
 
     -- and with the start itself it is closed again
     pub closed_again : (after : List ℕ) → IsClosed rows old → GoesOn new (from ∷ []) after → IsClosed rows after
-    closed_again after closed g a k b called = went_kept new (from ∷ []) after g b (elim (went_from new (from ∷ []) after g a k) as (λ _. Contains new b) [
-      | inl before ↦ elim (w.closed a before) as (λ _. Contains new b) [
-        | inl early ↦ subst (λ (l : List ℕ). Contains l b) (sym w.is) (Contains-append_left old w.more b (closed a early b called))
-        | inr here ↦ here b called
-      ]
-      | inr last ↦ elim (first_or_after from [] a last) as (λ _. Contains new b) [
-        | inl here ↦ w.begun b (subst (λ n. Contains (row_of rows n) b) (sym here) called)
-        | inr none ↦ absurd (none_in_empty a none)
-      ]
-    ])
+    closed_again after closed g a k b called =
+        went_kept new (from ∷ []) after g b (elim (went_from new (from ∷ []) after g a k) as (λ _. Contains new b) [
+          | inl before ↦ elim (w.closed a before) as (λ _. Contains new b) [
+            | inl early ↦ subst (λ (l : List ℕ). Contains l b) (sym w.is)
+                (Contains-append_left old w.more b (closed a early b called))
+            | inr here ↦ here b called
+          ]
+          | inr last ↦ elim (first_or_after from [] a last) as (λ _. Contains new b) [
+            | inl here ↦ w.begun b (subst (λ n. Contains (row_of rows n) b) (sym here) called)
+            | inr none ↦ absurd (none_in_empty a none)
+          ]
+        ])
 
 -- a walk from nothing finds what the rows lead to
-pub walk_finds : (rows : List (List ℕ)) (from : ℕ) (new : List ℕ) → Walks rows from [] new → (a : ℕ) → Contains new a ↔ Leads rows from a
+pub walk_finds : (rows : List (List ℕ)) (from : ℕ) (new : List ℕ) → Walks rows from [] new → (a : ℕ)
+    → Contains new a ↔ Leads rows from a
 walk_finds rows from new w a = (
   λ k. w.only a (subst (λ (l : List ℕ). Contains l a) w.is k),
   λ h. led_found rows from [] new w (λ b k. absurd (none_in_empty b k)) a h,
 )
 
 -- one more start, which is marked if it is clear
-pub cleared_more : (rows : List (List ℕ)) (cleared : List Bool) (start : ℕ) (is_clear : Bool) → start < 65536 → (is_clear ≡ true → Leads rows start start → ⊥) → AreCleared rows cleared
+pub cleared_more : (rows : List (List ℕ)) (cleared : List Bool) (start : ℕ) (is_clear : Bool) → start < 65536
+    → (is_clear ≡ true → Leads rows start start → ⊥) → AreCleared rows cleared
     → AreCleared rows (with_clear cleared start is_clear)
 cleared_more rows cleared start false few apart h = h
 cleared_more rows cleared start true few apart h = record {
@@ -234,7 +269,8 @@ cleared_more rows cleared start true few apart h = record {
   ];
 }
 
-pub cleared_none : (rows : List (List ℕ)) (count : ℕ) (cleared : List Bool) → count ≡ 65536 → cleared ≡ replicate count false → AreCleared rows cleared
+pub cleared_none : (rows : List (List ℕ)) (count : ℕ) (cleared : List Bool) → count ≡ 65536
+    → cleared ≡ replicate count false → AreCleared rows cleared
 cleared_none rows count cleared is e = subst (λ (marks : List Bool). AreCleared rows marks) (sym e) (record {
   len = length-replicate {A = Bool} count false ∙ is;
   apart = λ a k. absurd (cc (k, blank_mark count a));

@@ -1,5 +1,6 @@
 -- The table of how paths continue: of the ways in which points give a depth it keeps the one that comes first.
-use Rattle.std.proofs.Common.{◌≡◌, ◌≢◌, ◌<◌, ◌≤◌, ◌+◌, ℕ, zero, suc, Bool, true, false, List, [], length, get_or, set, take, replicate, refl, sym, ap, subst, ◌∙◌, arith, ◌⊎◌, inl, inr, Option, Some, None}
+use Rattle.std.proofs.Common.{◌≡◌, ◌≢◌, ◌<◌, ◌≤◌, ◌+◌, ℕ, zero, suc, Bool, true, false, List, [], length, get_or, set}
+use Rattle.std.proofs.Common.{take, replicate, refl, sym, ap, subst, ◌∙◌, arith, ◌⊎◌, inl, inr, Option, Some, None}
 use Rattle.std.specs.Prelude.{if◌then◌else◌, min, nat_eq}
 use Rattle.std.proofs.lemmas.Bool.{eq-eqb, eqb-true}
 use Rattle.std.proofs.lemmas.Grind.{common_steps}
@@ -50,10 +51,11 @@ earlier_cases Unknown (Calls b) = inr refl
 earlier_cases Ends b = inl refl
 earlier_cases (Calls a) Unknown = inl refl
 earlier_cases (Calls a) Ends = inr refl
-earlier_cases (Calls a) (Calls b) = elim (min_cases a b) as (λ _. (earlier (Calls a) (Calls b) ≡ Calls a) ⊎ (earlier (Calls a) (Calls b) ≡ Calls b)) [
-  | inl e ↦ inl (ap Calls e)
-  | inr e ↦ inr (ap Calls e)
-]
+earlier_cases (Calls a) (Calls b) =
+    elim (min_cases a b) as (λ _. (earlier (Calls a) (Calls b) ≡ Calls a) ⊎ (earlier (Calls a) (Calls b) ≡ Calls b)) [
+      | inl e ↦ inl (ap Calls e)
+      | inr e ↦ inr (ap Calls e)
+    ]
 
 no_later_twice : (a b c : Next) → IsNoLater a b → IsNoLater b c → IsNoLater a c
 no_later_twice a b Unknown h k = tt
@@ -75,18 +77,24 @@ blank_next (suc n) zero = refl
 blank_next (suc n) (suc k) = blank_next n k
 
 -- what the ways say of heights
-pub ends_from : (depths : List ℕ) (p : Point) (o : Option ℕ) → p.height ≡ depth_in depths p.start → next_by depths p o ≡ Ends
+pub ends_from : (depths : List ℕ) (p : Point) (o : Option ℕ) → p.height ≡ depth_in depths p.start
+    → next_by depths p o ≡ Ends
 unfolding next_by
-ends_from depths p o h = ap (λ b. if b then Ends else next_called depths p o) (eq-eqb p.height (depth_in depths p.start) h)
+ends_from depths p o h =
+    ap (λ b. if b then Ends else next_called depths p o) (eq-eqb p.height (depth_in depths p.start) h)
 
-pub calls_from : (depths : List ℕ) (p : Point) (o : Option ℕ) (to : ℕ) → o ≡ Some to → p.height + 2 + depth_in depths (At to) ≡ depth_in depths p.start → next_by depths p o ≡ Calls to
+pub calls_from : (depths : List ℕ) (p : Point) (o : Option ℕ) (to : ℕ) → o ≡ Some to
+    → p.height + 2 + depth_in depths (At to) ≡ depth_in depths p.start → next_by depths p o ≡ Calls to
 unfolding next_by
 calls_from depths p o to e h =
     let other : nat_eq p.height (depth_in depths p.start) ≡ false = grind (arith, common_steps, h) in
-    let same : nat_eq (p.height + 2 + depth_in depths (At to)) (depth_in depths p.start) ≡ true = eq-eqb (p.height + 2 + depth_in depths (At to)) (depth_in depths p.start) h in
-    ap (λ b. if b then Ends else next_called depths p o) other ∙ (ap (next_called depths p) e ∙ ap (λ b. if b then Calls to else Unknown) same)
+    let same : nat_eq (p.height + 2 + depth_in depths (At to)) (depth_in depths p.start) ≡ true =
+    eq-eqb (p.height + 2 + depth_in depths (At to)) (depth_in depths p.start) h in
+    ap (λ b. if b then Ends else next_called depths p o) other
+    ∙ (ap (next_called depths p) e ∙ ap (λ b. if b then Calls to else Unknown) same)
 
-pub ends_height : (depths : List ℕ) (p : Point) (o : Option ℕ) → next_by depths p o ≡ Ends → p.height ≡ depth_in depths p.start
+pub ends_height : (depths : List ℕ) (p : Point) (o : Option ℕ) → next_by depths p o ≡ Ends
+    → p.height ≡ depth_in depths p.start
 unfolding next_by
 ends_height depths p o h = by (nat_eq p.height (depth_in depths p.start)) refl h
   where
@@ -97,7 +105,8 @@ ends_height depths p o h = by (nat_eq p.height (depth_in depths p.start)) refl h
       test true k = absurd (cc k)
       test false k = absurd (cc k)
 
-    by : (b : Bool) → nat_eq p.height (depth_in depths p.start) ≡ b → (if b then Ends else next_called depths p o) ≡ Ends → p.height ≡ depth_in depths p.start
+    by : (b : Bool) → nat_eq p.height (depth_in depths p.start) ≡ b
+        → (if b then Ends else next_called depths p o) ≡ Ends → p.height ≡ depth_in depths p.start
     by true e k = eqb-true p.height (depth_in depths p.start) e
     by false e k = called o k
 
@@ -106,20 +115,25 @@ pub record IsGiving (depths : List ℕ) (p : Point) (o : Option ℕ) (to : ℕ) 
   pub calls : o ≡ Some to
   pub sum : p.height + 2 + depth_in depths (At to) ≡ depth_in depths p.start
 
-giving_called : (depths : List ℕ) (p : Point) (o : Option ℕ) (to : ℕ) → next_called depths p o ≡ Calls to → IsGiving depths p o to
+giving_called : (depths : List ℕ) (p : Point) (o : Option ℕ) (to : ℕ) → next_called depths p o ≡ Calls to
+    → IsGiving depths p o to
 giving_called depths p None to k = absurd (cc k)
-giving_called depths p (Some t) to k = by (nat_eq (p.height + 2 + depth_in depths (At t)) (depth_in depths p.start)) refl k
+giving_called depths p (Some t) to k =
+    by (nat_eq (p.height + 2 + depth_in depths (At t)) (depth_in depths p.start)) refl k
   where
-    by : (b : Bool) → nat_eq (p.height + 2 + depth_in depths (At t)) (depth_in depths p.start) ≡ b → (if b then Calls t else Unknown) ≡ Calls to → IsGiving depths p (Some t) to
+    by : (b : Bool) → nat_eq (p.height + 2 + depth_in depths (At t)) (depth_in depths p.start) ≡ b
+        → (if b then Calls t else Unknown) ≡ Calls to → IsGiving depths p (Some t) to
     by true e k =
         let is : t ≡ to = cc k in
         record {
           calls = ap Some is;
-          sum = subst (λ n. p.height + 2 + depth_in depths (At n) ≡ depth_in depths p.start) is (eqb-true (p.height + 2 + depth_in depths (At t)) (depth_in depths p.start) e);
+          sum = subst (λ n. p.height + 2 + depth_in depths (At n) ≡ depth_in depths p.start) is
+              (eqb-true (p.height + 2 + depth_in depths (At t)) (depth_in depths p.start) e);
         }
     by false e k = absurd (cc k)
 
-pub calls_giving : (depths : List ℕ) (p : Point) (o : Option ℕ) (to : ℕ) → next_by depths p o ≡ Calls to → IsGiving depths p o to
+pub calls_giving : (depths : List ℕ) (p : Point) (o : Option ℕ) (to : ℕ) → next_by depths p o ≡ Calls to
+    → IsGiving depths p o to
 unfolding next_by
 calls_giving depths p o to h = by (nat_eq p.height (depth_in depths p.start)) h
   where
@@ -128,10 +142,14 @@ calls_giving depths p o to h = by (nat_eq p.height (depth_in depths p.start)) h
     by false k = giving_called depths p o to k
 
 module _ (l : LayoutParts) (image : List ℕ) (points : List Point) (depths : List ℕ) where
-  pub nexts_none : (count : ℕ) (nexts : List Next) → count ≡ 65537 → nexts ≡ replicate count Unknown → AreNexts l image [] depths nexts
+  pub nexts_none : (count : ℕ) (nexts : List Next) → count ≡ 65537 → nexts ≡ replicate count Unknown
+      → AreNexts l image [] depths nexts
   nexts_none count nexts is e = subst (λ ns. AreNexts l image [] depths ns) (sym e) (record {
     len = length-replicate {A = Next} count Unknown ∙ is;
-    each = λ start. record { given = inl (blank_next count (rank start)); earliest = λ p k s. absurd (omega (arith, k.1)) };
+    each = λ start. record {
+      given = inl (blank_next count (rank start));
+      earliest = λ p k s. absurd (omega (arith, k.1));
+    };
   })
 
   module _ (i : ℕ) (d : Point) (below : i < length points) where
@@ -141,51 +159,73 @@ module _ (l : LayoutParts) (image : List ℕ) (points : List Point) (depths : Li
     abbrev way : Next
     way = next_by depths here (call_of l image here)
 
-    kept : (start : Start) (next : Next) → Gives l image (take i points) depths start next → Gives l image (take (i + 1) points) depths start next
-    kept start next g = record { point = g.point; listed = front_kept points i d g.point below g.listed; start_is = g.start_is; next_is = g.next_is }
+    kept : (start : Start) (next : Next) → Gives l image (take i points) depths start next
+        → Gives l image (take (i + 1) points) depths start next
+    kept start next g = record {
+      point = g.point;
+      listed = front_kept points i d g.point below g.listed;
+      start_is = g.start_is;
+      next_is = g.next_is;
+    }
 
     newest : (start : Start) → here.start ≡ start → Gives l image (take (i + 1) points) depths start way
     newest start s = record { point = here; listed = front_next points i d below; start_is = s; next_is = refl }
 
     -- the start of the newest point
-    one_more : (start : Start) (old : Next) → here.start ≡ start → IsEarliest l image (take i points) depths start old → IsEarliest l image (take (i + 1) points) depths start (earlier old way)
+    one_more : (start : Start) (old : Next) → here.start ≡ start → IsEarliest l image (take i points) depths start old
+        → IsEarliest l image (take (i + 1) points) depths start (earlier old way)
     one_more start old s h = record {
-      given = elim (earlier_cases old way) as (λ _. (earlier old way ≡ Unknown) ⊎ Gives l image (take (i + 1) points) depths start (earlier old way)) [
-        | inl e ↦ elim h.given as (λ _. (earlier old way ≡ Unknown) ⊎ Gives l image (take (i + 1) points) depths start (earlier old way)) [
-          | inl none ↦ inl (e ∙ none)
-          | inr g ↦ inr (subst (λ n. Gives l image (take (i + 1) points) depths start n) (sym e) (kept start old g))
-        ]
-        | inr e ↦ inr (subst (λ n. Gives l image (take (i + 1) points) depths start n) (sym e) (newest start s))
-      ];
-      earliest = λ p k q. elim (front_cases points i d p below k) as (λ _. IsNoLater (earlier old way) (next_by depths p (call_of l image p))) [
-        | inl before ↦ no_later_twice (earlier old way) old (next_by depths p (call_of l image p)) (earlier_first old way) (h.earliest p before q)
-        | inr is ↦ subst (λ (r : Point). IsNoLater (earlier old way) (next_by depths r (call_of l image r))) is (earlier_second old way)
-      ];
+      given = elim (earlier_cases old way) as
+          (λ _. (earlier old way ≡ Unknown) ⊎ Gives l image (take (i + 1) points) depths start (earlier old way)) [
+            | inl e ↦ elim h.given as
+                (λ _. (earlier old way ≡ Unknown) ⊎ Gives l image (take (i + 1) points) depths start (earlier old way)) [
+                  | inl none ↦ inl (e ∙ none)
+                  | inr g ↦ inr (subst (λ n. Gives l image (take (i + 1) points) depths start n) (sym e) (kept start old g))
+                ]
+            | inr e ↦ inr (subst (λ n. Gives l image (take (i + 1) points) depths start n) (sym e) (newest start s))
+          ];
+      earliest = λ p k q. elim (front_cases points i d p below k) as
+          (λ _. IsNoLater (earlier old way) (next_by depths p (call_of l image p))) [
+            | inl before ↦ no_later_twice (earlier old way) old (next_by depths p (call_of l image p))
+                (earlier_first old way) (h.earliest p before q)
+            | inr is ↦ subst (λ (r : Point). IsNoLater (earlier old way) (next_by depths r (call_of l image r))) is
+                (earlier_second old way)
+          ];
     }
 
     -- another start
-    other_start : (start : Start) (old : Next) → here.start ≢ start → IsEarliest l image (take i points) depths start old → IsEarliest l image (take (i + 1) points) depths start old
+    other_start : (start : Start) (old : Next) → here.start ≢ start
+        → IsEarliest l image (take i points) depths start old
+        → IsEarliest l image (take (i + 1) points) depths start old
     other_start start old other h = record {
       given = elim h.given as (λ _. (old ≡ Unknown) ⊎ Gives l image (take (i + 1) points) depths start old) [
         | inl none ↦ inl none
         | inr g ↦ inr (kept start old g)
       ];
-      earliest = λ p k q. elim (front_cases points i d p below k) as (λ _. IsNoLater old (next_by depths p (call_of l image p))) [
-        | inl before ↦ h.earliest p before q
-        | inr is ↦ absurd (other (ap (λ (r : Point). r.start) is ∙ q))
-      ];
+      earliest = λ p k q. elim (front_cases points i d p below k) as
+          (λ _. IsNoLater old (next_by depths p (call_of l image p))) [
+            | inl before ↦ h.earliest p before q
+            | inr is ↦ absurd (other (ap (λ (r : Point). r.start) is ∙ q))
+          ];
     }
 
-    pub nexts_more : (old new : List Next) → rank here.start < length old → new ≡ set old (rank here.start) (earlier (next_in old here.start) way) → AreNexts l image (take i points) depths old
+    pub nexts_more : (old new : List Next) → rank here.start < length old
+        → new ≡ set old (rank here.start) (earlier (next_in old here.start) way)
+        → AreNexts l image (take i points) depths old
         → AreNexts l image (take (i + 1) points) depths new
     nexts_more old new inside is h = subst (λ ns. AreNexts l image (take (i + 1) points) depths ns) (sym is) (record {
       len = length-set old (rank here.start) (earlier (next_in old here.start) way) ∙ h.len;
-      each = λ start. elim (same_or_not (rank start) (rank here.start)) as (λ _. IsEarliest l image (take (i + 1) points) depths start (get_or (set old (rank here.start) (earlier (next_in old here.start) way)) (rank start) Unknown)) [
-        | inl e ↦
-            let s : start ≡ here.start = rank_same start here.start e in
-            subst (λ t. IsEarliest l image (take (i + 1) points) depths t (get_or (set old (rank here.start) (earlier (next_in old here.start) way)) (rank t) Unknown)) (sym s)
-            (rw (get_or-set_same old (rank here.start) (earlier (next_in old here.start) way) Unknown inside) (one_more here.start (next_in old here.start) refl (h.each here.start)))
-        | inr ne ↦ rw (get_or-set_other old (rank here.start) (rank start) (earlier (next_in old here.start) way) Unknown ne)
-            (other_start start (next_in old start) (λ e. ne (ap rank (sym e))) (h.each start))
-      ];
+      each = λ start. elim (same_or_not (rank start) (rank here.start)) as
+          (λ _. IsEarliest l image (take (i + 1) points) depths start
+          (get_or (set old (rank here.start) (earlier (next_in old here.start) way)) (rank start) Unknown)) [
+            | inl e ↦
+                let s : start ≡ here.start = rank_same start here.start e in
+                subst (λ t. IsEarliest l image (take (i + 1) points) depths t
+                (get_or (set old (rank here.start) (earlier (next_in old here.start) way)) (rank t) Unknown)) (sym s)
+                (rw (get_or-set_same old (rank here.start) (earlier (next_in old here.start) way) Unknown inside)
+                (one_more here.start (next_in old here.start) refl (h.each here.start)))
+            | inr ne ↦ rw (get_or-set_other old (rank here.start) (rank start) (earlier (next_in old here.start) way)
+                Unknown ne)
+                (other_start start (next_in old start) (λ e. ne (ap rank (sym e))) (h.each start))
+          ];
     })

@@ -6,7 +6,7 @@ use Rattle.m51_module.specs.Plan.{IsUnitAt, IsRootAt}
 use Rattle.m51_module.specs.Rising.{Rises}
 use Rattle.m51_stackbound.specs.declared.judging.Rule.{Rule}
 use Rattle.m51_stackbound.specs.declared.judging.Rule.TheVariants.{WritesSp, Computed, PopsBelow, PushesAbove}
-use Rattle.m51_stackbound.specs.declared.point.Place.{Place}
+use Rattle.m51_stackbound.specs.declared.point.ReachedAddress.{ReachedAddress}
 use Rattle.m51_stackbound.specs.declared.point.Point.{Point}
 use Rattle.m51_module.specs.declared.stack_bound.Proc.{Proc}
 use Rattle.m51_module.specs.declared.stack_bound.RootDepth.{RootDepth}
@@ -30,12 +30,12 @@ AreEach Is (v ∷ vectors) (r ∷ more) = Is v r × AreEach Is vectors more
 
 module _ (l : LayoutParts) (image : List ℕ) where
   -- a point of the program breaks the rule at the place
-  abbrev pub Breaks : Rule → Place → Type 0
+  abbrev pub Breaks : Rule → ReachedAddress → Type 0
   Breaks rule = IsBroken l image rule (IsPoint l image)
 
   -- no point breaks the rule
   abbrev pub Keeps : Rule → Type 0
-  Keeps rule = (place : Place) → Breaks rule place → ⊥
+  Keeps rule = (place : ReachedAddress) → Breaks rule place → ⊥
 
   -- there are not too many points
   abbrev pub AreFew : Type 0
@@ -72,7 +72,7 @@ module _ (l : LayoutParts) (image : List ℕ) where
     pub no_cycle : (start : Start) → IsCyclic start → ⊥
 
   -- K5: two points have the place and different heights
-  pub record HasTwoHeights (place : Place) : Type 0 where
+  pub record HasTwoHeights (place : ReachedAddress) : Type 0 where
     pub one : Point
     pub two : Point
     pub one_is : IsPoint l image one
@@ -84,7 +84,7 @@ module _ (l : LayoutParts) (image : List ℕ) where
   -- each address of a start has one height
   pub record KeepsHeights : Type 0 where
     pub apart : KeepsApart
-    pub one_height : (place : Place) → HasTwoHeights place → ⊥
+    pub one_height : (place : ReachedAddress) → HasTwoHeights place → ⊥
 
   -- what interrupts add: at most two different ones, each with two bytes for its return address
   pub data Adds : ℕ → Type 0 where
@@ -109,7 +109,7 @@ module _ (l : LayoutParts) (image : List ℕ) where
 
   -- K6: PUSH is at height 255, or a value is above 255
   abbrev pub IsTooDeep : Type 0
-  IsTooDeep = ((place : Place) × Breaks PushesAbove place) ⊎ ((value : ℕ) × ComesTo value × (255 < value))
+  IsTooDeep = ((place : ReachedAddress) × Breaks PushesAbove place) ⊎ ((value : ℕ) × ComesTo value × (255 < value))
 
   -- the start is that of a point
   abbrev pub IsStart : Start → Type 0

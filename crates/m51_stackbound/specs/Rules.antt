@@ -6,7 +6,7 @@ use Rattle.m51_isa.specs.declared.instr.Instr.{Instr}
 use Rattle.m51_module.specs.declared.parts.LayoutParts.{LayoutParts}
 use Rattle.m51_stackbound.specs.declared.judging.Rule.{Rule}
 use Rattle.m51_stackbound.specs.declared.judging.Rule.TheVariants.{WritesSp, Computed, PopsBelow, PushesAbove}
-use Rattle.m51_stackbound.specs.declared.point.Place.{Place}
+use Rattle.m51_stackbound.specs.declared.point.ReachedAddress.{ReachedAddress}
 use Rattle.m51_stackbound.specs.declared.point.Point.{Point}
 use Rattle.m51_module.specs.declared.start.Start.{Start}
 use Rattle.m51_module.specs.declared.start.Start.TheVariants.{Reset, At}
@@ -19,22 +19,22 @@ rank Reset = 0
 rank (At address) = address + 1
 
 -- the first place is no later than the second: by starts, and then by addresses
-abbrev pub NoLater : Place → Place → Type 0
+abbrev pub NoLater : ReachedAddress → ReachedAddress → Type 0
 NoLater p q = (rank p.start < rank q.start) ⊎ ((rank p.start ≡ rank q.start) × (p.address ≤ q.address))
 
-unfoldable pub no_later : Place → Place → Bool
+unfoldable pub no_later : ReachedAddress → ReachedAddress → Bool
 no_later p q =
     nat_lt (rank p.start) (rank q.start) || (nat_eq (rank p.start) (rank q.start) && nat_le p.address q.address)
 
 -- the first of the places that were met and of one more
-unfoldable pub lesser : Option Place → Place → Place
+unfoldable pub lesser : Option ReachedAddress → ReachedAddress → ReachedAddress
 lesser None place = place
 lesser (Some old) place = if no_later old place then old else place
 
 -- the first of all places that are so, if there is one
-abbrev pub IsLeast : (Place → Type 0) → Option Place → Type 0
-IsLeast Is None = (place : Place) → Is place → ⊥
-IsLeast Is (Some least) = Is least × ((place : Place) → Is place → NoLater least place)
+abbrev pub IsLeast : (ReachedAddress → Type 0) → Option ReachedAddress → Type 0
+IsLeast Is None = (place : ReachedAddress) → Is place → ⊥
+IsLeast Is (Some least) = Is least × ((place : ReachedAddress) → Is place → NoLater least place)
 
 -- a point with this instruction breaks the rule
 abbrev pub breaks : Rule → Point → Instr → Bool
@@ -47,12 +47,12 @@ unfoldable pub breaks_by : Rule → Point → Option Instr → Bool
 breaks_by rule p None = false
 breaks_by rule p (Some instr) = breaks rule p instr
 
-abbrev pub place_of : Point → Place
+abbrev pub place_of : Point → ReachedAddress
 place_of p = record { start = p.start; address = p.address }
 
 -- one of these points breaks the rule at the place
 pub record IsBroken
-    (l : LayoutParts) (image : List ℕ) (rule : Rule) (Is : Point → Type 0) (place : Place)
+    (l : LayoutParts) (image : List ℕ) (rule : Rule) (Is : Point → Type 0) (place : ReachedAddress)
     : Type 0 where
   pub point : Point
   pub is_point : Is point
@@ -60,5 +60,5 @@ pub record IsBroken
   pub place_is : place_of point ≡ place
 
 -- the first place at which one of the listed points breaks the rule
-abbrev pub IsFirstBreach : LayoutParts → List ℕ → Rule → List Point → Option Place → Type 0
+abbrev pub IsFirstBreach : LayoutParts → List ℕ → Rule → List Point → Option ReachedAddress → Type 0
 IsFirstBreach l image rule points = IsLeast (IsBroken l image rule (Contains points))

@@ -18,7 +18,7 @@ use crate::doubling::first_twice;
 use crate::judging::{Rule, first_breach};
 use crate::listing::{procs_of, roots_of, starts_of};
 use crate::paths::nexts_of;
-use crate::point::{Place, Point};
+use crate::point::{Point, ReachedAddress};
 use crate::searching::points_of;
 use crate::totals::total_of;
 use crate::units::handlers;
@@ -28,7 +28,12 @@ use std::alloc::Global;
 
 // The first place at which a point of the program breaks the rule.
 #[tactic(auto, using(crate::proofs::Lifting::first_of_points))]
-fn first_broken(layout: &Layout, image: &Image, rule: Rule, points: &[Point]) -> Option<Place>
+fn first_broken(
+    layout: &Layout,
+    image: &Image,
+    rule: Rule,
+    points: &[Point],
+) -> Option<ReachedAddress>
     requires { ArePoints layout.now image.now points.now }
     ensures { IsLeast (Breaks layout.now image.now rule) result }
 {
@@ -67,7 +72,7 @@ fn first_doubled(
     layout: &Layout,
     image: &Image,
     points: &[Point],
-) -> Result<Option<Place>, NoMemory>
+) -> Result<Option<ReachedAddress>, NoMemory>
     requires { ArePoints layout.now image.now points.now }
     ensures { IfOk result (IsLeast (HasTwoHeights layout.now image.now)) }
 {

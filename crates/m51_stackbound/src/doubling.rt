@@ -1,44 +1,44 @@
-//! Places that two points have.
+//! ReachedAddresses that two points have.
 ghost use Rattle.std.specs.Prelude.{◌≡◌, [], IfOk, length};
 ghost use Rattle.m51_stackbound.specs.Rules.{IsLeast};
 ghost use Rattle.m51_stackbound.specs.Twice.{HasTwo, NotesPlace};
 
 use crate::judging::{lesser, place_of};
-use crate::point::{Place, Point};
+use crate::point::{Point, ReachedAddress};
 use indexmap::IndexSet;
 use m51_cells::NoMemory;
 use std::alloc::Global;
 use std::marker::Model;
 
-/// Places, each once, which contracts see as a list.
+/// ReachedAddresses, each once, which contracts see as a list.
 ///
 /// Source: own choice ("Stack bound").
 #[derive(Drop)]
-struct Places {
-    places: IndexSet<Place>,
+struct ReachedAddresses {
+    places: IndexSet<ReachedAddress>,
 }
 
-impl Model for Places {
+impl Model for ReachedAddresses {
     ghost use Rattle.std.specs.Prelude.{List};
-    ghost use Rattle.m51_stackbound.specs.declared.point.Place.{Place as PlaceValue};
+    ghost use Rattle.m51_stackbound.specs.declared.point.ReachedAddress.{ReachedAddress as AddressValue};
 
-    ghost Value = { List PlaceValue };
+    ghost Value = { List AddressValue };
 
     ghost view = { λ p. p.places.keys };
 }
 
-impl Places {
+impl ReachedAddresses {
     // No place yet.
-    fn new(alloc: Global) -> Places
+    fn new(alloc: Global) -> ReachedAddresses
         ensures { result ≡ [] }
     {
-        Places {
+        ReachedAddresses {
             places: IndexSet::new(alloc),
         }
     }
 
     // Adds a place, and says whether it was there. Out of memory is the only error.
-    fn note(&mut self, place: Place) -> Result<bool, NoMemory>
+    fn note(&mut self, place: ReachedAddress) -> Result<bool, NoMemory>
         ensures { IfOk result (λ again. NotesPlace self.old place self.new again) }
     {
         let (_, added) = self.places.insert_full(place)?;
@@ -47,10 +47,13 @@ impl Places {
 }
 
 /// K5: the first place that two of the points have.
-pub(crate) fn first_twice(alloc: Global, points: &[Point]) -> Result<Option<Place>, NoMemory>
+pub(crate) fn first_twice(
+    alloc: Global,
+    points: &[Point],
+) -> Result<Option<ReachedAddress>, NoMemory>
     ensures { IfOk result (λ place. IsLeast (HasTwo points.now (length points.now)) place) }
 {
-    let mut places = Places::new(alloc);
+    let mut places = ReachedAddresses::new(alloc);
     let mut least = None;
     for point in points {
         let place = place_of(point);

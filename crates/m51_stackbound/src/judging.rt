@@ -5,7 +5,7 @@ ghost use Rattle.m51_stackbound.specs.Rules.{rank, no_later, lesser, breaks, bre
 
 use crate::following::{instruction, pops_below, pushes_above, sets_stack};
 use crate::instructions::is_computed;
-use crate::point::{Place, Point};
+use crate::point::{Point, ReachedAddress};
 use m51_isa::Instr;
 use m51_module::{Image, Layout, Start};
 
@@ -37,7 +37,7 @@ pub(crate) fn rank(start: Start) -> u32
 
 // Whether the first place is no later than the second.
 #[tactic(auto, unfolding(crate::specs::Rules::no_later))]
-fn no_later(one: &Place, two: &Place) -> bool
+fn no_later(one: &ReachedAddress, two: &ReachedAddress) -> bool
     ensures { result ≡ no_later one.now two.now }
 {
     let (first, second) = (rank(one.start), rank(two.start));
@@ -46,7 +46,7 @@ fn no_later(one: &Place, two: &Place) -> bool
 
 /// The first of the places that were met and of one more.
 #[tactic(auto, unfolding(crate::specs::Rules::lesser))]
-pub(crate) fn lesser(least: Option<Place>, place: Place) -> Place
+pub(crate) fn lesser(least: Option<ReachedAddress>, place: ReachedAddress) -> ReachedAddress
     ensures { result ≡ lesser least place }
 {
     match least {
@@ -56,10 +56,10 @@ pub(crate) fn lesser(least: Option<Place>, place: Place) -> Place
 }
 
 /// The place of a point.
-pub(crate) fn place_of(point: &Point) -> Place
+pub(crate) fn place_of(point: &Point) -> ReachedAddress
     ensures { result ≡ place_of point.now }
 {
-    Place {
+    ReachedAddress {
         start: point.start,
         address: point.address,
     }
@@ -94,7 +94,7 @@ pub(crate) fn first_breach(
     image: &Image,
     rule: Rule,
     points: &[Point],
-) -> Option<Place>
+) -> Option<ReachedAddress>
     ensures { IsFirstBreach layout.now image.now rule points.now result }
 {
     let mut least = None;

@@ -17,7 +17,7 @@ pub struct Point {
 ///
 /// Source: own choice ("Stack bound").
 #[derive(Clone, Copy, Debug, PartialEq, Eq, Hash)]
-pub(crate) struct Place {
+pub(crate) struct ReachedAddress {
     pub start: Start,
     pub address: u16,
 }

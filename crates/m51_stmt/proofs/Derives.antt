@@ -1,5 +1,6 @@
 -- What is in the grammar is read.
-use Rattle.std.proofs.Common.{◌≡◌, ℕ, suc, ◌<◌, ◌≤◌, ◌==◌, Bool, true, false, cond, List, [], ◌∷◌, ◌++◌, length, Option, Some, None, refl, sym, ap, ◌∙◌, subst, arith, slice_get, ⊎_elim}
+use Rattle.std.proofs.Common.{◌≡◌, ℕ, suc, ◌<◌, ◌≤◌, ◌==◌, Bool, true, false, cond, List, [], ◌∷◌, ◌++◌, length, Option}
+use Rattle.std.proofs.Common.{Some, None, refl, sym, ap, ◌∙◌, subst, arith, slice_get, ⊎_elim}
 use Rattle.std.specs.Prelude.{codes, option_and_then, option_map}
 use Rattle.std.proofs.str.Laws.{order}
 use Rattle.std.proofs.lemmas.Slice.Eq.{bytes_eq-Decides}
@@ -26,14 +27,16 @@ use Rattle.m51_stmt.specs.Statement as body
 use Rattle.m51_stmt.specs.Statement.{BodyTree, OperandTree, ItemTree, StmtTree, Imm, Plain, NotBit}
 use Rattle.m51_stmt.specs.Words.{is_comma}
 use Rattle.m51_stmt.specs.Kinds.{kind_of, reloc_of}
-use Rattle.m51_stmt.specs.Lists.{with_symbol, parts, all_parts, each_of, list_of, name_alone, all_read, expression, value, item}
+use Rattle.m51_stmt.specs.Lists.{with_symbol, parts, all_parts, each_of, list_of, name_alone, all_read, expression}
+use Rattle.m51_stmt.specs.Lists.{value, item}
 use Rattle.m51_stmt.specs.Operands.{operand, operands, if_form, instruction}
 use Rattle.m51_stmt.specs.Externs.{externs_from}
 use Rattle.m51_stmt.specs.Definitions.{definition_of, is_allowed, is_overlayable, segment_of, segment, definition_form}
 use Rattle.m51_stmt.specs.Directives.{directive_of, directive_form}
 use Rattle.m51_stmt.specs.Lines.{said, with_label, statement}
 use Rattle.m51_stmt.specs.Grammar as grammar
-use Rattle.m51_stmt.specs.Grammar.{IsExpr, IsList, IsOperand, AreOperands, IsName, IsValue, IsItem, is_text_alone, AreExterns, HasType, HasOverlay, IsDefinition, IsDirective, IsSaid, IsStatement}
+use Rattle.m51_stmt.specs.Grammar.{IsExpr, IsList, IsOperand, AreOperands, IsName, IsValue, IsItem, is_text_alone}
+use Rattle.m51_stmt.specs.Grammar.{AreExterns, HasType, HasOverlay, IsDefinition, IsDirective, IsSaid, IsStatement}
 use Rattle.m51_stmt.proofs.ListWords.{Each}
 use Rattle.m51_stmt.proofs.DirectiveWords.{no_mnemonic}
 
@@ -47,7 +50,9 @@ same_length n = grind (arith, common_steps)
 
 expr_read : (l : List Symbol) (e : Tree) → IsExpr l e → expression l ≡ Some e
 expr_read l e is =
-    ap (all_read (length l)) (expression_is l e (length l) (record { writes = is.writes; ends = λ r le. ap (λ o. infix_of o r) (none_past l) }))
+    ap (all_read (length l))
+    (expression_is l e (length l)
+    (record { writes = is.writes; ends = λ r le. ap (λ o. infix_of o r) (none_past l) }))
     ∙ ap (λ b. cond b (Some e) None) (same_length (length l))
 
 -- no comma
@@ -87,16 +92,22 @@ infix_inside (Some s) r op h = refl
 -- a place before another one, it, or a place after it
 at_or : (P : ℕ → Type 0) (mid i : ℕ) → (i < mid → P i) → P mid → (mid < i → P i) → P i
 at_or P mid i before here after =
-    ⊎_elim before (λ ge. ⊎_elim after (λ le. let same : mid ≡ i = omega (arith, ge, le) in subst P same here) (order mid i)) (order i mid)
+    ⊎_elim before (λ ge. ⊎_elim after (λ le. let same : mid ≡ i = omega (arith, ge, le) in subst P same here)
+    (order mid i)) (order i mid)
 
-inside : {line : Line} {rank from : ℕ} {e : Tree} {to : ℕ} → Writes line rank from e to → (i : ℕ) → from ≤ i → i < to → IsFreeOfComma (line i)
+inside : {line : Line} {rank from : ℕ} {e : Tree} {to : ℕ} → Writes line rank from e to → (i : ℕ) → from ≤ i → i < to
+    → IsFreeOfComma (line i)
 inside {line} {rank} {from} (Leaf {e = e} is leaf end) i ge lt =
-    let same : from ≡ i = omega (arith, ge, lt, end) in subst (λ n. IsFreeOfComma (line n)) same (leaf_inside (line from) e leaf)
+    let same : from ≡ i = omega (arith, ge, lt, end) in
+    subst (λ n. IsFreeOfComma (line n)) same (leaf_inside (line from) e leaf)
 inside {line} {rank} {from} (Parens {last = last} is open' inner close end) i ge lt =
-    at_or (λ n. IsFreeOfComma (line n)) from i (λ before. absurd (omega (arith, ge, before))) (open_inside (line from) open')
-    (λ later. at_or (λ n. IsFreeOfComma (line n)) last i (λ before. inside inner i (omega (arith, later)) before) (close_inside (line last) close) (λ past. absurd (omega (arith, past, lt, end))))
+    at_or (λ n. IsFreeOfComma (line n)) from i (λ before. absurd (omega (arith, ge, before)))
+    (open_inside (line from) open')
+    (λ later. at_or (λ n. IsFreeOfComma (line n)) last i (λ before. inside inner i (omega (arith, later)) before)
+    (close_inside (line last) close) (λ past. absurd (omega (arith, past, lt, end))))
 inside {line} {rank} {from} (Before {op = op} is inner) i ge lt =
-    at_or (λ n. IsFreeOfComma (line n)) from i (λ before. absurd (omega (arith, ge, before))) (prefix_inside (line from) rank op is)
+    at_or (λ n. IsFreeOfComma (line n)) from i (λ before. absurd (omega (arith, ge, before)))
+    (prefix_inside (line from) rank op is)
     (λ later. inside inner i (omega (arith, later)) lt)
 inside {line} {rank} {from} (Between {mid = mid} {op = op} lefts is rights) i ge lt =
     at_or (λ n. IsFreeOfComma (line n)) mid i (λ before. inside lefts i ge before) (infix_inside (line mid) rank op is)
@@ -111,7 +122,8 @@ expr_inside : (l : List Symbol) (e : Tree) → IsExpr l e → Each IsInside l
 expr_inside l e is = each_inside l (λ i lt. inside is.writes i (omega arith) lt)
 
 -- lists
-front_parts : (s : Symbol) (p : List Symbol × List (List Symbol)) → is_comma s ≡ false → with_symbol s p ≡ (s ∷ p.0, p.1)
+front_parts : (s : Symbol) (p : List Symbol × List (List Symbol)) → is_comma s ≡ false
+    → with_symbol s p ≡ (s ∷ p.0, p.1)
 front_parts s p is = ap (λ b. cond b ([], p.0 ∷ p.1) (s ∷ p.0, p.1)) is
 
 abbrev grown : Symbol → List Symbol × List (List Symbol) → List Symbol × List (List Symbol)
@@ -125,7 +137,8 @@ parts_alone (s ∷ l) h = front_parts s (parts l) h.0 ∙ ap (grown s) (parts_al
 -- one part before a comma
 parts_comma : (l rest : List Symbol) → Each IsInside l → parts (l ++ symbols.Comma ∷ rest) ≡ (l, all_parts rest)
 parts_comma [] rest h = refl
-parts_comma (s ∷ l) rest h = front_parts s (parts (l ++ symbols.Comma ∷ rest)) h.0 ∙ ap (grown s) (parts_comma l rest h.1)
+parts_comma (s ∷ l) rest h = front_parts s (parts (l ++ symbols.Comma ∷ rest)) h.0
+    ∙ ap (grown s) (parts_comma l rest h.1)
 
 abbrev put : {A : Type 0} → A → Option (List A) → Option (List A)
 put a o = option_map (λ others. a ∷ others) o
@@ -133,7 +146,9 @@ put a o = option_map (λ others. a ∷ others) o
 abbrev all_of : {A : Type 0} → (List Symbol → Option A) → List Symbol × List (List Symbol) → Option (List A)
 all_of item p = each_of item (p.0 ∷ p.1)
 
-list_reads : {A : Type 0} (item : List Symbol → Option A) (P : List Symbol → A → Type 0) → ((l : List Symbol) (a : A) → P l a → item l ≡ Some a) → ((l : List Symbol) (a : A) → P l a → Each IsInside l) → (l : List Symbol) (xs : List A) → IsList P l xs → list_of item l ≡ Some xs
+list_reads : {A : Type 0} (item : List Symbol → Option A) (P : List Symbol → A → Type 0)
+    → ((l : List Symbol) (a : A) → P l a → item l ≡ Some a) → ((l : List Symbol) (a : A) → P l a → Each IsInside l)
+    → (l : List Symbol) (xs : List A) → IsList P l xs → list_of item l ≡ Some xs
 list_reads item P reads free l xs (grammar.Last {a = a} is) =
     ap (all_of item) (parts_alone l (free l a is)) ∙ ap (option_and_then (λ x. put x (Some []))) (reads l a is)
 list_reads item P reads free l xs (grammar.Comma {part = part} {rest = rest} {a = a} {more = more} is others) =
@@ -142,7 +157,8 @@ list_reads item P reads free l xs (grammar.Comma {part = part} {rest = rest} {a 
     ∙ ap (put a) (list_reads item P reads free rest more others)
 
 -- operands
-nothing_begins : {line : Line} {rank from : ℕ} {e : Tree} {to : ℕ} → Writes line rank from e to → leaf_of (line from) ≡ None → is_open (line from) ≡ false → prefix_operator (line from) ≡ None → ⊥
+nothing_begins : {line : Line} {rank from : ℕ} {e : Tree} {to : ℕ} → Writes line rank from e to
+    → leaf_of (line from) ≡ None → is_open (line from) ≡ false → prefix_operator (line from) ≡ None → ⊥
 nothing_begins (Leaf is leaf end) a b c = cc (sym a ∙ leaf)
 nothing_begins (Parens is open' inner close end) a b c = cc (sym b ∙ open')
 nothing_begins {line} {rank} {from} (Before {op = op} is inner) a b c = cc (sym (ap (of_rank prefix_rank rank) c) ∙ is)
@@ -226,21 +242,29 @@ abbrev with_name : List ℕ → Kind → Option Externs → Option Externs
 with_name name k o = option_map (λ more. ((name, k) ∷ []) ++ more) o
 
 -- after a name that nothing reserves a sign is awaited
-named_then : (name : List ℕ) (k : Kind) (rest : List Symbol) → is_reserved name ≡ false → externs_from (awaited.Name k) (symbols.Name name ∷ rest) ≡ with_name name k (externs_from (awaited.Sign k) rest)
-named_then name k rest free = ap (λ b. option_and_then (λ later. with_name name k (externs_from later rest)) (cond b None (Some (awaited.Sign k)))) free
+named_then : (name : List ℕ) (k : Kind) (rest : List Symbol) → is_reserved name ≡ false
+    → externs_from (awaited.Name k) (symbols.Name name ∷ rest) ≡ with_name name k (externs_from (awaited.Sign k) rest)
+named_then name k rest free =
+    ap (λ b. option_and_then (λ later. with_name name k (externs_from later rest))
+    (cond b None (Some (awaited.Sign k)))) free
 
-externs_read : (place : Option Kind) (l : List Symbol) (xs : Externs) → AreExterns place l xs → externs_from (place_of place) l ≡ Some xs
+externs_read : (place : Option Kind) (l : List Symbol) (xs : Externs) → AreExterns place l xs
+    → externs_from (place_of place) l ≡ Some xs
 externs_read place l xs (grammar.Group {k = k} {rest = rest} is d) =
-    ap (λ (o : Option Kind). option_and_then (λ later. same_list (externs_from later (symbols.Open ∷ rest))) (option_map awaited.Open o)) is
+    ap (λ (o : Option Kind). option_and_then (λ later. same_list (externs_from later (symbols.Open ∷ rest)))
+    (option_map awaited.Open o)) is
     ∙ ap (λ o. same_list (same_list o)) (externs_read (Some k) rest xs d)
 externs_read place l xs (grammar.More {name = name} {k = k} {rest = rest} {xs = more} free d) =
-    named_then name k (symbols.Comma ∷ rest) free ∙ ap (λ o. with_name name k (same_list o)) (externs_read (Some k) rest more d)
+    named_then name k (symbols.Comma ∷ rest) free
+    ∙ ap (λ o. with_name name k (same_list o)) (externs_read (Some k) rest more d)
 externs_read place l xs (grammar.Last {name = name} {k = k} free) = named_then name k (symbols.Close ∷ []) free
 externs_read place l xs (grammar.Next {name = name} {k = k} {rest = rest} {xs = more} free d) =
-    named_then name k (symbols.Close ∷ symbols.Comma ∷ rest) free ∙ ap (λ o. with_name name k (same_list (same_list o))) (externs_read None rest more d)
+    named_then name k (symbols.Close ∷ symbols.Comma ∷ rest) free
+    ∙ ap (λ o. with_name name k (same_list (same_list o))) (externs_read None rest more d)
 
 -- definitions
-segment_made : (name word : List ℕ) (k : Kind) (o : Option Reloc) (r : Reloc) (b : Bool) → kind_of word ≡ Some k → o ≡ Some r → is_allowed k r b ≡ true → segment_of name (kind_of word) o b ≡ Some (body.Segment name k r b)
+segment_made : (name word : List ℕ) (k : Kind) (o : Option Reloc) (r : Reloc) (b : Bool) → kind_of word ≡ Some k
+    → o ≡ Some r → is_allowed k r b ≡ true → segment_of name (kind_of word) o b ≡ Some (body.Segment name k r b)
 segment_made name word k o r b kinds types allowed =
     ap (λ x. segment_of name x o b) kinds ∙ ap (λ x. segment_of name (Some k) x b) types
     ∙ ap (λ t. cond t (Some (body.Segment name k r b)) None) allowed
@@ -250,22 +274,33 @@ unfolding reloc_of
 no_type = refl
 
 no_overlay : (word : List ℕ) (r : Reloc) (b : Bool) → reloc_of word ≡ Some r → is_overlayable word ≡ b → b ≡ false
-no_overlay word r true types is = absurd (cc (sym (ap reloc_of ((bytes_eq-Decides word (codes "OVERLAYABLE")).0 is) ∙ no_type) ∙ types))
+no_overlay word r true types is =
+    absurd (cc (sym (ap reloc_of ((bytes_eq-Decides word (codes "OVERLAYABLE")).0 is) ∙ no_type) ∙ types))
 no_overlay word r false types is = refl
 
-segment_read : (name word : List ℕ) (k : Kind) (r : Reloc) (b : Bool) (type last : List Symbol) → kind_of word ≡ Some k → HasType type r → HasOverlay last b → is_allowed k r b ≡ true → segment name (symbols.Word word ∷ type ++ last) ≡ Some (body.Segment name k r b)
-segment_read name word k r b type last kinds grammar.Unit grammar.Nothing allowed = segment_made name word k (Some reloc.Unit) r b kinds refl allowed
-segment_read name word k r b type last kinds grammar.Unit grammar.Overlay allowed = segment_made name word k (Some reloc.Unit) r b kinds refl allowed
+segment_read : (name word : List ℕ) (k : Kind) (r : Reloc) (b : Bool) (type last : List Symbol) → kind_of word ≡ Some k
+    → HasType type r → HasOverlay last b → is_allowed k r b ≡ true
+    → segment name (symbols.Word word ∷ type ++ last) ≡ Some (body.Segment name k r b)
+segment_read name word k r b type last kinds grammar.Unit grammar.Nothing allowed =
+    segment_made name word k (Some reloc.Unit) r b kinds refl allowed
+segment_read name word k r b type last kinds grammar.Unit grammar.Overlay allowed =
+    segment_made name word k (Some reloc.Unit) r b kinds refl allowed
 segment_read name word k r b type last kinds (grammar.Typed {word = w} is) grammar.Nothing allowed =
-    ap (λ t. cond t (segment_of name (kind_of word) (Some reloc.Unit) true) (segment_of name (kind_of word) (reloc_of w) false)) (no_overlay w r (is_overlayable w) is refl)
+    ap (λ t. cond t (segment_of name (kind_of word) (Some reloc.Unit) true)
+    (segment_of name (kind_of word) (reloc_of w) false)) (no_overlay w r (is_overlayable w) is refl)
     ∙ segment_made name word k (reloc_of w) r b kinds is allowed
-segment_read name word k r b type last kinds (grammar.Typed {word = w} is) grammar.Overlay allowed = segment_made name word k (reloc_of w) r b kinds is allowed
+segment_read name word k r b type last kinds (grammar.Typed {word = w} is) grammar.Overlay allowed =
+    segment_made name word k (reloc_of w) r b kinds is allowed
 
-definition_reads : (d : DefinitionWord) (name : List ℕ) (l : List Symbol) (b : BodyTree) → IsDefinition name d l b → definition_form d name l ≡ Some b
-definition_reads d name l b (grammar.Segment {word = word} {k = k} {r = r} {overlay = over} {type = type} {last = last} kinds types overlay allowed) = segment_read name word k r over type last kinds types overlay allowed
+definition_reads : (d : DefinitionWord) (name : List ℕ) (l : List Symbol) (b : BodyTree) → IsDefinition name d l b
+    → definition_form d name l ≡ Some b
+definition_reads d name l b
+    (grammar.Segment {word = word} {k = k} {r = r} {overlay = over} {type = type} {last = last} kinds types overlay
+    allowed) = segment_read name word k r over type last kinds types overlay allowed
 definition_reads d name l b (grammar.Equ {e = e} is) = ap (option_map (body.Equ name)) (expr_read l e is)
 definition_reads d name l b (grammar.Set {e = e} is) = ap (option_map (body.Set name)) (expr_read l e is)
-definition_reads d name l b (grammar.Address {e = e} {k = k} is) = ap (option_map (body.Address name k)) (expr_read l e is)
+definition_reads d name l b (grammar.Address {e = e} {k = k} is) =
+    ap (option_map (body.Address name k)) (expr_read l e is)
 
 -- directives
 directive_reads : (d : Directive) (l : List Symbol) (b : BodyTree) → IsDirective d l b → directive_form d l ≡ Some b
@@ -273,13 +308,17 @@ directive_reads d l b (grammar.Using {e = e} is) = ap (option_map body.Using) (e
 directive_reads d l b (grammar.Ds {e = e} is) = ap (option_map body.Ds) (expr_read l e is)
 directive_reads d l b (grammar.Dbit {e = e} is) = ap (option_map body.Dbit) (expr_read l e is)
 directive_reads d l b (grammar.Org {e = e} is) = ap (option_map body.Org) (expr_read l e is)
-directive_reads d l b (grammar.Db {items = xs} is) = ap (option_map body.Db) (list_reads item IsItem item_reads item_inside l xs is)
-directive_reads d l b (grammar.Dw {items = xs} is) = ap (option_map body.Dw) (list_reads value IsValue value_reads value_inside l xs is)
+directive_reads d l b (grammar.Db {items = xs} is) =
+    ap (option_map body.Db) (list_reads item IsItem item_reads item_inside l xs is)
+directive_reads d l b (grammar.Dw {items = xs} is) =
+    ap (option_map body.Dw) (list_reads value IsValue value_reads value_inside l xs is)
 directive_reads d l b grammar.Select = refl
-directive_reads d l b (grammar.SelectAt {k = k} {symbols = rest} {e = e} is) = ap (option_map (λ e. body.Select k (Some e))) (expr_read rest e is)
+directive_reads d l b (grammar.SelectAt {k = k} {symbols = rest} {e = e} is) =
+    ap (option_map (λ e. body.Select k (Some e))) (expr_read rest e is)
 directive_reads d l b (grammar.Rseg {name = name} is) = ap (option_map body.Rseg) (name_reads l name is)
 directive_reads d l b (grammar.ModuleName {name = name} is) = ap (option_map body.ModuleName) (name_reads l name is)
-directive_reads d l b (grammar.Public {names = xs} is) = ap (option_map body.Public) (list_reads name_alone IsName name_reads name_inside l xs is)
+directive_reads d l b (grammar.Public {names = xs} is) =
+    ap (option_map body.Public) (list_reads name_alone IsName name_reads name_inside l xs is)
 directive_reads d l b (grammar.Extrn {externs = xs} is) = ap (option_map body.Extrn) (externs_read None l xs is)
 directive_reads d l b grammar.End = refl
 
@@ -291,13 +330,15 @@ said_reads labelled l b (grammar.Instruction {word = word} {symbols = rest} {os 
     ∙ ap (option_and_then (if_form word)) (operands_read rest os given)
     ∙ ap (λ t. cond t (Some (body.Code word os)) None) form
 said_reads labelled l b (grammar.Directed {word = word} {d = d} {symbols = rest} found is) =
-    ap (λ t. cond t (instruction word rest) (option_and_then (λ d. directive_form d rest) (directive_of word))) (no_mnemonic word d found)
+    ap (λ t. cond t (instruction word rest) (option_and_then (λ d. directive_form d rest) (directive_of word)))
+    (no_mnemonic word d found)
     ∙ ap (option_and_then (λ d. directive_form d rest)) found ∙ directive_reads d rest b is
 said_reads labelled l b (grammar.Defined {name = name} {word = word} {d = d} {symbols = rest} free found is) =
     ap (λ t. cond t None (option_and_then (λ d. definition_form d name rest) (definition_of word))) free
     ∙ ap (option_and_then (λ d. definition_form d name rest)) found ∙ definition_reads d name rest b is
 
-bare_reads : (l : List Symbol) (b : BodyTree) → IsSaid false l b → statement l ≡ option_map (with_label None) (said false l)
+bare_reads : (l : List Symbol) (b : BodyTree) → IsSaid false l b
+    → statement l ≡ option_map (with_label None) (said false l)
 bare_reads l b grammar.Nothing = refl
 bare_reads l b (grammar.Instruction is given form) = refl
 bare_reads l b (grammar.Directed found is) = refl
@@ -308,4 +349,5 @@ pub statement_reads : (l : List Symbol) (s : StmtTree) → IsStatement l s → s
 statement_reads l s (grammar.Labelled {name = name} {symbols = rest} {b = b} free is) =
     ap (λ t. cond t None (option_map (with_label (Some name)) (said true rest))) free
     ∙ ap (option_map (with_label (Some name))) (said_reads true rest b is)
-statement_reads l s (grammar.Bare {b = b} is) = bare_reads l b is ∙ ap (option_map (with_label None)) (said_reads false l b is)
+statement_reads l s (grammar.Bare {b = b} is) =
+    bare_reads l b is ∙ ap (option_map (with_label None)) (said_reads false l b is)

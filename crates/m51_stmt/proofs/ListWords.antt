@@ -22,7 +22,9 @@ abbrev pub Each : {A : Type 0} → (A → Type 0) → List A → Type 0
 Each P [] = Unit {0}
 Each P (a ∷ more) = P a × Each P more
 
-pub list_laid : {A : Type 0} (words : A → List Word → List Word) (text : A → List ℕ) → ((a : A) (rest : List Word) → laid (words a rest) ≡ text a ++ laid rest) → (xs : List A) → laid (list_words words xs) ≡ separated text xs
+pub list_laid : {A : Type 0} (words : A → List Word → List Word) (text : A → List ℕ)
+    → ((a : A) (rest : List Word) → laid (words a rest) ≡ text a ++ laid rest) → (xs : List A)
+    → laid (list_words words xs) ≡ separated text xs
 list_laid words text is [] = refl
 list_laid words text is (a ∷ []) = is a [] ∙ simp append-nil
 list_laid words text is (a ∷ b ∷ more) =
@@ -31,10 +33,13 @@ list_laid words text is (a ∷ b ∷ more) =
     ∙ ap (λ l. text a ++ (word_text (codes ",") ++ l)) (list_laid words text is (b ∷ more))
     ∙ sym (append_assoc (text a) (word_text (codes ",")) (separated text (b ∷ more)))
 
-pub list_cut : {A : Type 0} (P : A → Type 0) (words : A → List Word → List Word) → ((a : A) (rest : List Word) → P a → AreCut rest → AreCut (words a rest)) → (xs : List A) → Each P xs → AreCut (list_words words xs)
+pub list_cut : {A : Type 0} (P : A → Type 0) (words : A → List Word → List Word)
+    → ((a : A) (rest : List Word) → P a → AreCut rest → AreCut (words a rest)) → (xs : List A) → Each P xs
+    → AreCut (list_words words xs)
 list_cut P words is [] h = tt
 list_cut P words is (a ∷ []) h = is a [] h.0 tt
-list_cut P words is (a ∷ b ∷ more) h = is a (comma_word ∷ list_words words (b ∷ more)) h.0 (comma_cut, list_cut P words is (b ∷ more) h.1)
+list_cut P words is (a ∷ b ∷ more) h =
+    is a (comma_word ∷ list_words words (b ∷ more)) h.0 (comma_cut, list_cut P words is (b ∷ more) h.1)
 
 -- a list that has a part, each of which is so
 abbrev pub OneOrMore : {A : Type 0} → (A → Type 0) → List A → Type 0
@@ -61,7 +66,9 @@ two_parts g h p q = record {
 }
 
 -- a printed list is one of the grammar, where each part is
-pub list_said : {A : Type 0} (P : List Symbol → A → Type 0) (Q : A → Type 0) (words : A → List Word → List Word) → ((a : A) → IsPart (λ rest. words a rest)) → ((a : A) → Q a → P (map symbol (words a [])) a) → (xs : List A) → OneOrMore Q xs → IsList P (map symbol (list_words words xs)) xs
+pub list_said : {A : Type 0} (P : List Symbol → A → Type 0) (Q : A → Type 0) (words : A → List Word → List Word)
+    → ((a : A) → IsPart (λ rest. words a rest)) → ((a : A) → Q a → P (map symbol (words a [])) a) → (xs : List A)
+    → OneOrMore Q xs → IsList P (map symbol (list_words words xs)) xs
 list_said P Q words part says [] is = absurd is
 list_said P Q words part says (a ∷ []) is = Last (says a is.0)
 list_said P Q words part says (a ∷ b ∷ more) is =

@@ -1,5 +1,6 @@
 -- What a line says after its label reads back.
-use Rattle.std.proofs.Common.{◌≡◌, ℕ, Bool, true, false, map, List, [], ◌∷◌, ◌++◌, Option, Some, None, refl, sym, ap, ◌∙◌, subst, append-nil}
+use Rattle.std.proofs.Common.{◌≡◌, ℕ, Bool, true, false, map, List, [], ◌∷◌, ◌++◌, Option, Some, None, refl, sym, ap}
+use Rattle.std.proofs.Common.{◌∙◌, subst, append-nil}
 use Rattle.std.specs.Prelude.{codes}
 use Rattle.m51_cells.specs.Name.{name_of}
 use Rattle.m51_cells.specs.declared.kind.Kind.{Kind}
@@ -25,15 +26,21 @@ use Rattle.m51_stmt.specs.Definitions.{is_allowed, definition_of}
 use Rattle.m51_stmt.specs.Directives.{directive_of}
 use Rattle.m51_stmt.specs.Grammar as grammar
 use Rattle.m51_stmt.specs.Grammar.{IsSaid}
-use Rattle.m51_stmt.specs.Printing.{word_text, kind_word, reloc_word, select_word, separated, expr_text, overlayable_text, segment_text, at_text, operand_text, item_text, extern_text, body_text}
+use Rattle.m51_stmt.specs.Printing.{word_text, kind_word, reloc_word, select_word, separated, expr_text}
+use Rattle.m51_stmt.specs.Printing.{overlayable_text, segment_text, at_text, operand_text, item_text, extern_text}
+use Rattle.m51_stmt.specs.Printing.{body_text}
 use Rattle.m51_stmt.proofs.LineCuts.{Word, laid, AreCut, symbol}
 use Rattle.m51_stmt.proofs.WordCuts.{name_word, name_cut}
-use Rattle.m51_stmt.proofs.PrintedTrees.{IsLeafName, IsTree, expr_words, expr_said, expr_cut, expr_laid, one_laid, five_joined}
+use Rattle.m51_stmt.proofs.PrintedTrees.{IsLeafName, IsTree, expr_words, expr_said, expr_cut, expr_laid, one_laid}
+use Rattle.m51_stmt.proofs.PrintedTrees.{five_joined}
 use Rattle.m51_stmt.proofs.ListWords.{Each, OneOrMore, some_each, list_words, list_laid, list_cut, list_said}
 use Rattle.m51_stmt.proofs.PrintedParts.{name_symbol}
-use Rattle.m51_stmt.proofs.PrintedOperands.{IsOperand, operand_words, operand_laid, operand_cut, operand_part, operand_said}
-use Rattle.m51_stmt.proofs.PrintedLists.{name_words, names_cut, name_said, names_said, item_words, IsItem, item_laid, item_cut, items_said, values_said}
-use Rattle.m51_stmt.proofs.PrintedExterns.{IsFree, IsExtern, kind_written, kind_symbol, extern_words, extern_laid, extern_cut, externs_said}
+use Rattle.m51_stmt.proofs.PrintedOperands.{IsOperand, operand_words, operand_laid, operand_cut, operand_part}
+use Rattle.m51_stmt.proofs.PrintedOperands.{operand_said}
+use Rattle.m51_stmt.proofs.PrintedLists.{name_words, names_cut, name_said, names_said, item_words, IsItem, item_laid}
+use Rattle.m51_stmt.proofs.PrintedLists.{item_cut, items_said, values_said}
+use Rattle.m51_stmt.proofs.PrintedExterns.{IsFree, IsExtern, kind_written, kind_symbol, extern_words, extern_laid}
+use Rattle.m51_stmt.proofs.PrintedExterns.{extern_cut, externs_said}
 
 -- an instruction that can be read
 pub record IsCode (mnemonic : List ℕ) (operands : List OperandTree) : Type 0 where
@@ -104,7 +111,8 @@ body_words (body.Ds e) = name_word (codes "DS") ∷ expr_words e []
 body_words (body.Dbit e) = name_word (codes "DBIT") ∷ expr_words e []
 body_words (body.Org e) = name_word (codes "ORG") ∷ expr_words e []
 body_words (body.Using e) = name_word (codes "USING") ∷ expr_words e []
-body_words (body.Segment name k r overlayable) = name_word name ∷ name_word (codes "SEGMENT") ∷ name_word (kind_word k) ∷ name_word (reloc_word r) ∷ overlayable_words overlayable
+body_words (body.Segment name k r overlayable) = name_word name ∷ name_word (codes "SEGMENT") ∷ name_word (kind_word k)
+    ∷ name_word (reloc_word r) ∷ overlayable_words overlayable
 body_words (body.Rseg name) = name_word (codes "RSEG") ∷ name_word name ∷ []
 body_words (body.Select k e) = name_word (select_word k) ∷ at_words e
 body_words (body.Equ name e) = name_word name ∷ name_word (codes "EQU") ∷ expr_words e []
@@ -116,32 +124,46 @@ body_words (body.ModuleName name) = name_word (codes "NAME") ∷ name_word name 
 
 -- the text of these words
 expr_alone : (word : List ℕ) (e : Tree) → word ++ 32 ∷ laid (expr_words e []) ≡ word_text word ++ expr_text e
-expr_alone word e = one_laid word (laid (expr_words e [])) ∙ ap (λ l. word_text word ++ l) (expr_laid e [] ∙ append-nil (expr_text e))
+expr_alone word e = one_laid word (laid (expr_words e []))
+    ∙ ap (λ l. word_text word ++ l) (expr_laid e [] ∙ append-nil (expr_text e))
 
 two_words : (a b : List ℕ) → a ++ 32 ∷ (b ++ 32 ∷ []) ≡ word_text a ++ word_text b
 two_words a b = one_laid a (b ++ 32 ∷ [])
 
-define_text : (name word : List ℕ) (e : Tree) → name ++ 32 ∷ (word ++ 32 ∷ laid (expr_words e [])) ≡ word_text name ++ (word_text word ++ expr_text e)
-define_text name word e = one_laid name (word ++ 32 ∷ laid (expr_words e [])) ∙ ap (λ l. word_text name ++ l) (expr_alone word e)
+define_text : (name word : List ℕ) (e : Tree) → name ++ 32 ∷ (word ++ 32 ∷ laid (expr_words e [])) ≡ word_text name
+    ++ (word_text word ++ expr_text e)
+define_text name word e = one_laid name (word ++ 32 ∷ laid (expr_words e []))
+    ∙ ap (λ l. word_text name ++ l) (expr_alone word e)
 
 overlayable_laid : (b : Bool) → laid (overlayable_words b) ≡ overlayable_text b
 overlayable_laid true = refl
 overlayable_laid false = refl
 
-segment_laid : (name : List ℕ) (k : Kind) (r : Reloc) (b : Bool) → name ++ 32 ∷ (codes "SEGMENT" ++ 32 ∷ (kind_word k ++ 32 ∷ (reloc_word r ++ 32 ∷ laid (overlayable_words b)))) ≡ segment_text name k r b
+segment_laid : (name : List ℕ) (k : Kind) (r : Reloc) (b : Bool)
+    → name ++ 32 ∷ (codes "SEGMENT" ++ 32 ∷ (kind_word k ++ 32 ∷ (reloc_word r ++ 32 ∷ laid (overlayable_words b))))
+    ≡ segment_text name k r b
 segment_laid name k r b =
     ap (λ l. name ++ 32 ∷ (codes "SEGMENT" ++ 32 ∷ (kind_word k ++ 32 ∷ (reloc_word r ++ 32 ∷ l)))) (overlayable_laid b)
-    ∙ ap (λ l. name ++ 32 ∷ (codes "SEGMENT" ++ 32 ∷ (kind_word k ++ 32 ∷ l))) (one_laid (reloc_word r) (overlayable_text b))
-    ∙ ap (λ l. name ++ 32 ∷ (codes "SEGMENT" ++ 32 ∷ l)) (one_laid (kind_word k) (word_text (reloc_word r) ++ overlayable_text b))
-    ∙ one_laid name (codes "SEGMENT" ++ 32 ∷ (word_text (kind_word k) ++ (word_text (reloc_word r) ++ overlayable_text b)))
-    ∙ five_joined (word_text name) (word_text (codes "SEGMENT")) (word_text (kind_word k)) (word_text (reloc_word r)) (overlayable_text b)
+    ∙ ap (λ l. name ++ 32 ∷ (codes "SEGMENT" ++ 32 ∷ (kind_word k ++ 32 ∷ l)))
+    (one_laid (reloc_word r) (overlayable_text b))
+    ∙ ap (λ l. name ++ 32 ∷ (codes "SEGMENT" ++ 32 ∷ l))
+    (one_laid (kind_word k) (word_text (reloc_word r) ++ overlayable_text b))
+    ∙ one_laid name (codes "SEGMENT" ++ 32
+    ∷ (word_text (kind_word k) ++ (word_text (reloc_word r) ++ overlayable_text b)))
+    ∙ five_joined (word_text name) (word_text (codes "SEGMENT")) (word_text (kind_word k)) (word_text (reloc_word r))
+    (overlayable_text b)
 
-select_laid : (k : Kind) (e : Option Tree) → select_word k ++ 32 ∷ laid (at_words e) ≡ word_text (select_word k) ++ at_text e
+select_laid : (k : Kind) (e : Option Tree) → select_word k ++ 32 ∷ laid (at_words e) ≡ word_text (select_word k)
+    ++ at_text e
 select_laid k None = one_laid (select_word k) []
-select_laid k (Some e) = one_laid (select_word k) (laid (at_words (Some e))) ∙ ap (λ l. word_text (select_word k) ++ l) (expr_alone (codes "AT") e)
+select_laid k (Some e) = one_laid (select_word k) (laid (at_words (Some e)))
+    ∙ ap (λ l. word_text (select_word k) ++ l) (expr_alone (codes "AT") e)
 
-listed : {A : Type 0} (word : List ℕ) (words : A → List Word → List Word) (text : A → List ℕ) (xs : List A) → ((a : A) (rest : List Word) → laid (words a rest) ≡ text a ++ laid rest) → word ++ 32 ∷ laid (list_words words xs) ≡ word_text word ++ separated text xs
-listed word words text xs is = one_laid word (laid (list_words words xs)) ∙ ap (λ l. word_text word ++ l) (list_laid words text is xs)
+listed : {A : Type 0} (word : List ℕ) (words : A → List Word → List Word) (text : A → List ℕ) (xs : List A)
+    → ((a : A) (rest : List Word) → laid (words a rest) ≡ text a ++ laid rest)
+    → word ++ 32 ∷ laid (list_words words xs) ≡ word_text word ++ separated text xs
+listed word words text xs is = one_laid word (laid (list_words words xs))
+    ∙ ap (λ l. word_text word ++ l) (list_laid words text is xs)
 
 pub body_laid : (at : ℕ) (b : BodyTree) → IsBody at b → laid (body_words b) ≡ body_text b
 unfolding body_text
@@ -163,7 +185,8 @@ body_laid at (body.Select k e) is = select_laid k e
 body_laid at (body.Equ name e) is = define_text name (codes "EQU") e
 body_laid at (body.Set name e) is = define_text name (codes "SET") e
 body_laid at (body.Address name k e) is = define_text name (kind_word k) e
-body_laid at (body.Public names) is = listed (codes "PUBLIC") name_words word_text names (λ a rest. one_laid a (laid rest))
+body_laid at (body.Public names) is =
+    listed (codes "PUBLIC") name_words word_text names (λ a rest. one_laid a (laid rest))
 body_laid at (body.Extrn externs) is = listed (codes "EXTRN") extern_words extern_text externs extern_laid
 body_laid at (body.ModuleName name) is = two_words (codes "NAME") name
 
@@ -190,27 +213,51 @@ body_cut at body.Ignored is = tt
 body_cut at (body.Include name) is = tt
 body_cut at (body.Mod51 on) is = tt
 body_cut at body.End is = (name_cut (codes "END") refl, tt)
-body_cut at (body.Code mnemonic operands) is = (name_cut mnemonic is.written, list_cut IsOperand operand_words operand_cut operands is.each)
-body_cut at (body.Db items) is = (name_cut (codes "DB") refl, list_cut (IsItem true) item_words (item_cut true) items (some_each (IsItem true) items is))
-body_cut at (body.Dw items) is = (name_cut (codes "DW") refl, list_cut (IsItem false) item_words (item_cut false) items (some_each (IsItem false) items is))
+body_cut at (body.Code mnemonic operands) is =
+    (name_cut mnemonic is.written, list_cut IsOperand operand_words operand_cut operands is.each)
+body_cut at (body.Db items) is = (
+  name_cut (codes "DB") refl,
+  list_cut (IsItem true) item_words (item_cut true) items (some_each (IsItem true) items is),
+)
+body_cut at (body.Dw items) is = (
+  name_cut (codes "DW") refl,
+  list_cut (IsItem false) item_words (item_cut false) items
+      (some_each (IsItem false) items is),
+)
 body_cut at (body.Ds e) is = (name_cut (codes "DS") refl, expr_cut e [] is tt)
 body_cut at (body.Dbit e) is = (name_cut (codes "DBIT") refl, expr_cut e [] is tt)
 body_cut at (body.Org e) is = (name_cut (codes "ORG") refl, expr_cut e [] is tt)
 body_cut at (body.Using e) is = (name_cut (codes "USING") refl, expr_cut e [] is tt)
-body_cut at (body.Segment name k r overlayable) is = (name_cut name is.1.name_is.leaf.written, (name_cut (codes "SEGMENT") refl, (name_cut (kind_word k) (kind_written k), (name_cut (reloc_word r) (reloc_written r), overlayable_cut overlayable))))
+body_cut at (body.Segment name k r overlayable) is = (
+  name_cut name is.1.name_is.leaf.written,
+  (
+    name_cut (codes "SEGMENT") refl,
+    (
+      name_cut (kind_word k) (kind_written k),
+      (name_cut (reloc_word r) (reloc_written r), overlayable_cut overlayable),
+    ),
+  ),
+)
 body_cut at (body.Rseg name) is = (name_cut (codes "RSEG") refl, (name_cut name is.written, tt))
 body_cut at (body.Select k e) is = (name_cut (select_word k) (select_written k), at_cut e is.1)
-body_cut at (body.Equ name e) is = (name_cut name is.1.leaf.written, (name_cut (codes "EQU") refl, expr_cut e [] is.2 tt))
-body_cut at (body.Set name e) is = (name_cut name is.1.leaf.written, (name_cut (codes "SET") refl, expr_cut e [] is.2 tt))
-body_cut at (body.Address name k e) is = (name_cut name is.1.leaf.written, (name_cut (kind_word k) (kind_written k), expr_cut e [] is.3 tt))
-body_cut at (body.Public names) is = (name_cut (codes "PUBLIC") refl, list_cut IsLeafName name_words names_cut names (some_each IsLeafName names is))
-body_cut at (body.Extrn externs) is = (name_cut (codes "EXTRN") refl, list_cut IsExtern extern_words extern_cut externs (some_each IsExtern externs is))
+body_cut at (body.Equ name e) is =
+    (name_cut name is.1.leaf.written, (name_cut (codes "EQU") refl, expr_cut e [] is.2 tt))
+body_cut at (body.Set name e) is =
+    (name_cut name is.1.leaf.written, (name_cut (codes "SET") refl, expr_cut e [] is.2 tt))
+body_cut at (body.Address name k e) is =
+    (name_cut name is.1.leaf.written, (name_cut (kind_word k) (kind_written k), expr_cut e [] is.3 tt))
+body_cut at (body.Public names) is =
+    (name_cut (codes "PUBLIC") refl, list_cut IsLeafName name_words names_cut names (some_each IsLeafName names is))
+body_cut at (body.Extrn externs) is =
+    (name_cut (codes "EXTRN") refl, list_cut IsExtern extern_words extern_cut externs (some_each IsExtern externs is))
 body_cut at (body.ModuleName name) is = (name_cut (codes "NAME") refl, (name_cut name is.written, tt))
 
 -- they are of the grammar
-operands_said : (os : List OperandTree) → Each IsOperand os → grammar.AreOperands (map symbol (list_words operand_words os)) os
+operands_said : (os : List OperandTree) → Each IsOperand os
+    → grammar.AreOperands (map symbol (list_words operand_words os)) os
 operands_said [] is = grammar.Without
-operands_said (a ∷ more) is = grammar.With (list_said grammar.IsOperand IsOperand operand_words operand_part operand_said (a ∷ more) is)
+operands_said (a ∷ more) is =
+    grammar.With (list_said grammar.IsOperand IsOperand operand_words operand_part operand_said (a ∷ more) is)
 
 mnemonic_is : (m : List ℕ) (os : List OperandTree) → has_form m os ≡ true → is_mnemonic m ≡ true
 mnemonic_is m [] h = has_mnemonic m _ _ _ h
@@ -227,20 +274,29 @@ mnemonic_symbol m os is = ap word_or_other is.written ∙ is.word
 abbrev SaysFirst : Bool → List Symbol → BodyTree → Symbol → Type 0
 SaysFirst labelled rest b s = IsSaid labelled (s ∷ rest) b
 
-code_said : (labelled : Bool) (m : List ℕ) (os : List OperandTree) → IsCode m os → IsSaid labelled (map symbol (body_words (body.Code m os))) (body.Code m os)
+code_said : (labelled : Bool) (m : List ℕ) (os : List OperandTree) → IsCode m os
+    → IsSaid labelled (map symbol (body_words (body.Code m os))) (body.Code m os)
 code_said labelled m os is =
-    subst (SaysFirst labelled (map symbol (list_words operand_words os)) (body.Code m os)) (sym (mnemonic_symbol m os is))
+    subst (SaysFirst labelled (map symbol (list_words operand_words os)) (body.Code m os))
+    (sym (mnemonic_symbol m os is))
     (grammar.Instruction (mnemonic_is m os is.form) (operands_said os is.each) is.form)
 
-directive_said : (labelled : Bool) (w : List ℕ) (d : Directive) (rest : List Word) (b : BodyTree) → directive_of w ≡ Some d → symbol (name_word w) ≡ symbols.Word w → grammar.IsDirective d (map symbol rest) b → IsSaid labelled (map symbol (name_word w ∷ rest)) b
-directive_said labelled w d rest b found word is = subst (SaysFirst labelled (map symbol rest) b) (sym word) (grammar.Directed found is)
+directive_said : (labelled : Bool) (w : List ℕ) (d : Directive) (rest : List Word) (b : BodyTree)
+    → directive_of w ≡ Some d → symbol (name_word w) ≡ symbols.Word w → grammar.IsDirective d (map symbol rest) b
+    → IsSaid labelled (map symbol (name_word w ∷ rest)) b
+directive_said labelled w d rest b found word is =
+    subst (SaysFirst labelled (map symbol rest) b) (sym word) (grammar.Directed found is)
 
 -- a definition without a label before it
-define_said : (labelled : Bool) (name w : List ℕ) (d : DefinitionWord) (rest : List Word) (b : BodyTree) → labelled ≡ false → IsFree name → definition_of w ≡ Some d → symbol (name_word w) ≡ symbols.Word w → grammar.IsDefinition name d (map symbol rest) b → IsSaid labelled (map symbol (name_word name ∷ name_word w ∷ rest)) b
+define_said : (labelled : Bool) (name w : List ℕ) (d : DefinitionWord) (rest : List Word) (b : BodyTree)
+    → labelled ≡ false → IsFree name → definition_of w ≡ Some d → symbol (name_word w) ≡ symbols.Word w
+    → grammar.IsDefinition name d (map symbol rest) b
+    → IsSaid labelled (map symbol (name_word name ∷ name_word w ∷ rest)) b
 define_said labelled name w d rest b bare free found word is =
     subst (λ l. IsSaid l (map symbol (name_word name ∷ name_word w ∷ rest)) b) (sym bare)
     (subst (SaysFirst false (symbol (name_word w) ∷ map symbol rest) b) (sym (name_symbol name free.leaf))
-    (subst (λ s. IsSaid false (symbols.Name name ∷ s ∷ map symbol rest) b) (sym word) (grammar.Defined free.free found is)))
+    (subst (λ s. IsSaid false (symbols.Name name ∷ s ∷ map symbol rest) b) (sym word)
+    (grammar.Defined free.free found is)))
 
 reloc_symbol : (r : Reloc) → symbol (name_word (reloc_word r)) ≡ symbols.Word (reloc_word r)
 unfolding operator_of prefix_word relation_word arithmetic_word is_language_word
@@ -255,19 +311,25 @@ overlay_said : (b : Bool) → grammar.HasOverlay (map symbol (overlayable_words 
 overlay_said true = subst (λ s. grammar.HasOverlay (s ∷ []) true) (sym overlayable_symbol) grammar.Overlay
 overlay_said false = grammar.Nothing
 
-segment_said : (name : List ℕ) (k : Kind) (r : Reloc) (b : Bool) → IsSegment name k r b → grammar.IsDefinition name definition.Segment (map symbol (name_word (kind_word k) ∷ name_word (reloc_word r) ∷ overlayable_words b)) (body.Segment name k r b)
+segment_said : (name : List ℕ) (k : Kind) (r : Reloc) (b : Bool) → IsSegment name k r b
+    → grammar.IsDefinition name definition.Segment
+    (map symbol (name_word (kind_word k) ∷ name_word (reloc_word r) ∷ overlayable_words b)) (body.Segment name k r b)
 segment_said name k r b is =
     let last = map symbol (overlayable_words b) in
-    subst (λ s. grammar.IsDefinition name definition.Segment (s ∷ symbol (name_word (reloc_word r)) ∷ last) (body.Segment name k r b)) (sym (kind_symbol k))
-    (subst (λ s. grammar.IsDefinition name definition.Segment (symbols.Word (kind_word k) ∷ s ∷ last) (body.Segment name k r b)) (sym (reloc_symbol r))
-    (grammar.Segment {type = symbols.Word (reloc_word r) ∷ []} {last = last} is.kind_is (grammar.Typed is.reloc_is) (overlay_said b) is.allowed))
+    subst (λ s. grammar.IsDefinition name definition.Segment (s ∷ symbol (name_word (reloc_word r)) ∷ last)
+    (body.Segment name k r b)) (sym (kind_symbol k))
+    (subst (λ s. grammar.IsDefinition name definition.Segment (symbols.Word (kind_word k) ∷ s ∷ last)
+    (body.Segment name k r b)) (sym (reloc_symbol r))
+    (grammar.Segment {type = symbols.Word (reloc_word r) ∷ []} {last = last} is.kind_is (grammar.Typed is.reloc_is)
+    (overlay_said b) is.allowed))
 
 pub select_symbol : (k : Kind) → symbol (name_word (select_word k)) ≡ symbols.Word (select_word k)
 unfolding operator_of prefix_word relation_word arithmetic_word is_language_word
 select_symbol kind.Code = refl
 select_symbol k = refl
 
-select_said : (k : Kind) (e : Option Tree) → IsAt e → grammar.IsDirective (directive.Select k) (map symbol (at_words e)) (body.Select k e)
+select_said : (k : Kind) (e : Option Tree) → IsAt e
+    → grammar.IsDirective (directive.Select k) (map symbol (at_words e)) (body.Select k e)
 unfolding operator_of prefix_word relation_word arithmetic_word is_language_word
 select_said k None is = grammar.Select
 select_said k (Some e) is = grammar.SelectAt (expr_said e is)
@@ -277,26 +339,59 @@ unfolding definition_of kind_of
 kind_defines kind.Number is = absurd (cc is)
 kind_defines k is = refl
 
-pub body_said : (labelled : Bool) (at : ℕ) → (at ≡ 0 → labelled ≡ false) → (b : BodyTree) → IsBody at b → IsSaid labelled (map symbol (body_words b)) b
+pub body_said : (labelled : Bool) (at : ℕ) → (at ≡ 0 → labelled ≡ false) → (b : BodyTree) → IsBody at b
+    → IsSaid labelled (map symbol (body_words b)) b
 unfolding directive_of definition_of operator_of prefix_word relation_word arithmetic_word is_language_word
 body_said labelled at first body.Empty is = grammar.Nothing
 body_said labelled at first body.Ignored is = absurd is
 body_said labelled at first (body.Include name) is = absurd is
 body_said labelled at first (body.Mod51 on) is = absurd is
-body_said labelled at first body.End is = directive_said labelled (codes "END") directive.End [] body.End refl refl grammar.End
+body_said labelled at first body.End is =
+    directive_said labelled (codes "END") directive.End [] body.End refl refl grammar.End
 body_said labelled at first (body.Code m os) is = code_said labelled m os is
-body_said labelled at first (body.Db items) is = directive_said labelled (codes "DB") directive.Db (list_words item_words items) (body.Db items) refl refl (grammar.Db (items_said items is))
-body_said labelled at first (body.Dw items) is = directive_said labelled (codes "DW") directive.Dw (list_words item_words items) (body.Dw items) refl refl (grammar.Dw (values_said items is))
-body_said labelled at first (body.Ds e) is = directive_said labelled (codes "DS") directive.Ds (expr_words e []) (body.Ds e) refl refl (grammar.Ds (expr_said e is))
-body_said labelled at first (body.Dbit e) is = directive_said labelled (codes "DBIT") directive.Dbit (expr_words e []) (body.Dbit e) refl refl (grammar.Dbit (expr_said e is))
-body_said labelled at first (body.Org e) is = directive_said labelled (codes "ORG") directive.Org (expr_words e []) (body.Org e) refl refl (grammar.Org (expr_said e is))
-body_said labelled at first (body.Using e) is = directive_said labelled (codes "USING") directive.Using (expr_words e []) (body.Using e) refl refl (grammar.Using (expr_said e is))
-body_said labelled at first (body.Segment name k r b) is = define_said labelled name (codes "SEGMENT") definition.Segment (name_word (kind_word k) ∷ name_word (reloc_word r) ∷ overlayable_words b) (body.Segment name k r b) (first is.0) is.1.name_is refl refl (segment_said name k r b is.1)
-body_said labelled at first (body.Rseg name) is = directive_said labelled (codes "RSEG") directive.Rseg (name_words name []) (body.Rseg name) refl refl (grammar.Rseg (name_said name is))
-body_said labelled at first (body.Select k e) is = directive_said labelled (select_word k) (directive.Select k) (at_words e) (body.Select k e) is.0 (select_symbol k) (select_said k e is.1)
-body_said labelled at first (body.Equ name e) is = define_said labelled name (codes "EQU") definition.Equ (expr_words e []) (body.Equ name e) (first is.0) is.1 refl refl (grammar.Equ (expr_said e is.2))
-body_said labelled at first (body.Set name e) is = define_said labelled name (codes "SET") definition.Set (expr_words e []) (body.Set name e) (first is.0) is.1 refl refl (grammar.Set (expr_said e is.2))
-body_said labelled at first (body.Address name k e) is = define_said labelled name (kind_word k) (definition.Address k) (expr_words e []) (body.Address name k e) (first is.0) is.1 (kind_defines k is.2) (kind_symbol k) (grammar.Address (expr_said e is.3))
-body_said labelled at first (body.Public names) is = directive_said labelled (codes "PUBLIC") directive.Public (list_words name_words names) (body.Public names) refl refl (grammar.Public (names_said names is))
-body_said labelled at first (body.Extrn externs) is = directive_said labelled (codes "EXTRN") directive.Extrn (list_words extern_words externs) (body.Extrn externs) refl refl (grammar.Extrn (externs_said externs is))
-body_said labelled at first (body.ModuleName name) is = directive_said labelled (codes "NAME") directive.Name (name_words name []) (body.ModuleName name) refl refl (grammar.ModuleName (name_said name is))
+body_said labelled at first (body.Db items) is =
+    directive_said labelled (codes "DB") directive.Db (list_words item_words items) (body.Db items) refl refl
+    (grammar.Db (items_said items is))
+body_said labelled at first (body.Dw items) is =
+    directive_said labelled (codes "DW") directive.Dw (list_words item_words items) (body.Dw items) refl refl
+    (grammar.Dw (values_said items is))
+body_said labelled at first (body.Ds e) is =
+    directive_said labelled (codes "DS") directive.Ds (expr_words e []) (body.Ds e) refl refl
+    (grammar.Ds (expr_said e is))
+body_said labelled at first (body.Dbit e) is =
+    directive_said labelled (codes "DBIT") directive.Dbit (expr_words e []) (body.Dbit e) refl refl
+    (grammar.Dbit (expr_said e is))
+body_said labelled at first (body.Org e) is =
+    directive_said labelled (codes "ORG") directive.Org (expr_words e []) (body.Org e) refl refl
+    (grammar.Org (expr_said e is))
+body_said labelled at first (body.Using e) is =
+    directive_said labelled (codes "USING") directive.Using (expr_words e []) (body.Using e) refl refl
+    (grammar.Using (expr_said e is))
+body_said labelled at first (body.Segment name k r b) is =
+    define_said labelled name (codes "SEGMENT") definition.Segment
+    (name_word (kind_word k) ∷ name_word (reloc_word r) ∷ overlayable_words b) (body.Segment name k r b) (first is.0)
+    is.1.name_is refl refl (segment_said name k r b is.1)
+body_said labelled at first (body.Rseg name) is =
+    directive_said labelled (codes "RSEG") directive.Rseg (name_words name []) (body.Rseg name) refl refl
+    (grammar.Rseg (name_said name is))
+body_said labelled at first (body.Select k e) is =
+    directive_said labelled (select_word k) (directive.Select k) (at_words e) (body.Select k e) is.0 (select_symbol k)
+    (select_said k e is.1)
+body_said labelled at first (body.Equ name e) is =
+    define_said labelled name (codes "EQU") definition.Equ (expr_words e []) (body.Equ name e) (first is.0) is.1 refl
+    refl (grammar.Equ (expr_said e is.2))
+body_said labelled at first (body.Set name e) is =
+    define_said labelled name (codes "SET") definition.Set (expr_words e []) (body.Set name e) (first is.0) is.1 refl
+    refl (grammar.Set (expr_said e is.2))
+body_said labelled at first (body.Address name k e) is =
+    define_said labelled name (kind_word k) (definition.Address k) (expr_words e []) (body.Address name k e)
+    (first is.0) is.1 (kind_defines k is.2) (kind_symbol k) (grammar.Address (expr_said e is.3))
+body_said labelled at first (body.Public names) is =
+    directive_said labelled (codes "PUBLIC") directive.Public (list_words name_words names) (body.Public names) refl
+    refl (grammar.Public (names_said names is))
+body_said labelled at first (body.Extrn externs) is =
+    directive_said labelled (codes "EXTRN") directive.Extrn (list_words extern_words externs) (body.Extrn externs) refl
+    refl (grammar.Extrn (externs_said externs is))
+body_said labelled at first (body.ModuleName name) is =
+    directive_said labelled (codes "NAME") directive.Name (name_words name []) (body.ModuleName name) refl refl
+    (grammar.ModuleName (name_said name is))

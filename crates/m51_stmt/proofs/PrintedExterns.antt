@@ -37,7 +37,9 @@ unfolding kind_of
 kind_read kind.Code = refl
 kind_read k = refl
 
-around : (k n r : List ℕ) → k ++ 32 ∷ 0x28 ∷ 32 ∷ (n ++ 32 ∷ 0x29 ∷ 32 ∷ r) ≡ (((word_text k ++ word_text (codes "(")) ++ word_text n) ++ word_text (codes ")")) ++ r
+around : (k n r : List ℕ)
+    → k ++ 32 ∷ 0x28 ∷ 32 ∷ (n ++ 32 ∷ 0x29 ∷ 32 ∷ r)
+    ≡ (((word_text k ++ word_text (codes "(")) ++ word_text n) ++ word_text (codes ")")) ++ r
 around k n r =
     one_laid k (0x28 ∷ 32 ∷ (n ++ 32 ∷ 0x29 ∷ 32 ∷ r))
     ∙ ap (λ l. word_text k ++ (0x28 ∷ 32 ∷ l)) (one_laid n (0x29 ∷ 32 ∷ r))
@@ -47,7 +49,8 @@ pub extern_laid : (x : List ℕ × Kind) (rest : List Word) → laid (extern_wor
 extern_laid x rest = around (kind_word x.1) x.0 (laid rest)
 
 pub extern_cut : (x : List ℕ × Kind) (rest : List Word) → IsExtern x → AreCut rest → AreCut (extern_words x rest)
-extern_cut x rest is more = (name_cut (kind_word x.1) (kind_written x.1), (open_cut, (name_cut x.0 is.leaf.written, (close_cut, more))))
+extern_cut x rest is more =
+    (name_cut (kind_word x.1) (kind_written x.1), (open_cut, (name_cut x.0 is.leaf.written, (close_cut, more))))
 
 pub kind_symbol : (k : Kind) → symbol (name_word (kind_word k)) ≡ symbols.Word (kind_word k)
 unfolding operator_of prefix_word relation_word arithmetic_word is_language_word
@@ -55,13 +58,18 @@ kind_symbol kind.Code = refl
 kind_symbol k = refl
 
 -- a group of one name, and what follows it
-group_said : (x : List ℕ × Kind) (rest : List Symbol) (xs : List (List ℕ × Kind)) → IsExtern x → grammar.AreExterns (Some x.1) (symbols.Name x.0 ∷ rest) xs → grammar.AreExterns None (symbol (name_word (kind_word x.1)) ∷ symbols.Open ∷ symbol (name_word x.0) ∷ rest) xs
+group_said : (x : List ℕ × Kind) (rest : List Symbol) (xs : List (List ℕ × Kind)) → IsExtern x
+    → grammar.AreExterns (Some x.1) (symbols.Name x.0 ∷ rest) xs
+    → grammar.AreExterns None (symbol (name_word (kind_word x.1)) ∷ symbols.Open ∷ symbol (name_word x.0) ∷ rest) xs
 group_said x rest xs is names =
     subst (λ k. grammar.AreExterns None (k ∷ symbols.Open ∷ symbol (name_word x.0) ∷ rest) xs) (sym (kind_symbol x.1))
-    (subst (λ s. grammar.AreExterns None (symbols.Word (kind_word x.1) ∷ symbols.Open ∷ s ∷ rest) xs) (sym (name_symbol x.0 is.leaf)) (grammar.Group (kind_read x.1) names))
+    (subst (λ s. grammar.AreExterns None (symbols.Word (kind_word x.1) ∷ symbols.Open ∷ s ∷ rest) xs)
+    (sym (name_symbol x.0 is.leaf)) (grammar.Group (kind_read x.1) names))
 
-pub externs_said : (xs : List (List ℕ × Kind)) → OneOrMore IsExtern xs → grammar.AreExterns None (map symbol (list_words extern_words xs)) xs
+pub externs_said : (xs : List (List ℕ × Kind)) → OneOrMore IsExtern xs
+    → grammar.AreExterns None (map symbol (list_words extern_words xs)) xs
 externs_said [] is = absurd is
 externs_said (x ∷ []) is = group_said x (symbols.Close ∷ []) (x ∷ []) is.0 (grammar.Last is.0.free)
 externs_said (x ∷ y ∷ more) is =
-    group_said x (symbols.Close ∷ symbols.Comma ∷ map symbol (list_words extern_words (y ∷ more))) (x ∷ y ∷ more) is.0 (grammar.Next is.0.free (externs_said (y ∷ more) is.1))
+    group_said x (symbols.Close ∷ symbols.Comma ∷ map symbol (list_words extern_words (y ∷ more))) (x ∷ y ∷ more) is.0
+    (grammar.Next is.0.free (externs_said (y ∷ more) is.1))

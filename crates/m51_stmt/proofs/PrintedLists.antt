@@ -1,5 +1,6 @@
 -- Printed names and items read back.
-use Rattle.std.proofs.Common.{◌≡◌, ℕ, ◌-◌, ◌==◌, Bool, true, false, cond, max, map, List, [], ◌∷◌, ◌++◌, length, take, refl, sym, ap, ◌∙◌, arith, append_assoc, length-append, subst}
+use Rattle.std.proofs.Common.{◌≡◌, ℕ, ◌-◌, ◌==◌, Bool, true, false, cond, max, map, List, [], ◌∷◌, ◌++◌, length, take}
+use Rattle.std.proofs.Common.{refl, sym, ap, ◌∙◌, arith, append_assoc, length-append, subst}
 use Rattle.std.proofs.lemmas.Grind.{common_steps}
 use Rattle.std.proofs.Math.Seq.{take-append_seam}
 use Rattle.m51_lex.specs.Characters.{quote}
@@ -26,8 +27,10 @@ names_cut name rest is more = (name_cut name is.written, more)
 pub name_said : (name : List ℕ) → IsLeafName name → grammar.IsName (map symbol (name_words name [])) name
 name_said name is = subst (λ s. grammar.IsName (s ∷ []) name) (sym (name_symbol name is)) grammar.Name
 
-pub names_said : (names : List (List ℕ)) → OneOrMore IsLeafName names → grammar.IsList grammar.IsName (map symbol (list_words name_words names)) names
-names_said names is = list_said grammar.IsName IsLeafName name_words (λ name. one_part (name_word name)) name_said names is
+pub names_said : (names : List (List ℕ)) → OneOrMore IsLeafName names
+    → grammar.IsList grammar.IsName (map symbol (list_words name_words names)) names
+names_said names is = list_said grammar.IsName IsLeafName name_words (λ name. one_part (name_word name)) name_said names
+    is
 
 -- items
 abbrev pub item_words : ItemTree → List Word → List Word
@@ -42,9 +45,11 @@ IsItem texts (Text characters) = texts ≡ true
 pub item_laid : (i : ItemTree) (rest : List Word) → laid (item_words i rest) ≡ item_text i ++ laid rest
 item_laid (Value e) rest = expr_laid e rest
 item_laid (Text characters) rest =
-    ap (λ l. quote ∷ l) (append_assoc (doubled characters) (quote ∷ []) (32 ∷ laid rest) ∙ sym (append_assoc (doubled characters) (quote ∷ 32 ∷ []) (laid rest)))
+    ap (λ l. quote ∷ l) (append_assoc (doubled characters) (quote ∷ []) (32 ∷ laid rest)
+    ∙ sym (append_assoc (doubled characters) (quote ∷ 32 ∷ []) (laid rest)))
 
-pub item_cut : (texts : Bool) (i : ItemTree) (rest : List Word) → IsItem texts i → AreCut rest → AreCut (item_words i rest)
+pub item_cut : (texts : Bool) (i : ItemTree) (rest : List Word) → IsItem texts i → AreCut rest
+    → AreCut (item_words i rest)
 item_cut texts (Value e) rest is more = expr_cut e rest is more
 item_cut texts (Text characters) rest is more = (text_cut characters, more)
 
@@ -55,7 +60,8 @@ one_character c (d ∷ more) other = ap (λ b. cond b (c ∷ characters more) (c
 is_quote : (c : ℕ) → (c == quote) ≡ true → quote ≡ c
 is_quote c h = grind (arith, common_steps, h)
 
-undoubled_by : (c : ℕ) (more : List ℕ) (b : Bool) → (c == quote) ≡ b → characters (doubled more) ≡ more → characters (cond b (quote ∷ quote ∷ doubled more) (c ∷ doubled more)) ≡ c ∷ more
+undoubled_by : (c : ℕ) (more : List ℕ) (b : Bool) → (c == quote) ≡ b → characters (doubled more) ≡ more
+    → characters (cond b (quote ∷ quote ∷ doubled more) (c ∷ doubled more)) ≡ c ∷ more
 undoubled_by c more true is h = ap (λ l. quote ∷ l) h ∙ ap (λ q. q ∷ more) (is_quote c is)
 undoubled_by c more false is h = one_character c (doubled more) is ∙ ap (λ l. c ∷ l) h
 
@@ -65,7 +71,8 @@ undoubled (c ∷ more) = undoubled_by c more (c == quote) refl (undoubled more)
 
 between : (inside : List ℕ) → between_quotes (quote ∷ inside ++ quote ∷ []) ≡ inside
 between inside =
-    let n : max (length (quote ∷ inside ++ quote ∷ [])) 2 - 1 - 1 ≡ length inside = omega (arith, length-append inside (quote ∷ [])) in
+    let n : max (length (quote ∷ inside ++ quote ∷ [])) 2 - 1 - 1 ≡ length inside =
+    omega (arith, length-append inside (quote ∷ [])) in
     ap (λ k. take k (inside ++ quote ∷ [])) n ∙ take-append_seam inside (quote ∷ [])
 
 -- a text is its characters
@@ -92,8 +99,10 @@ item_part : (i : ItemTree) → IsPart (λ rest. item_words i rest)
 item_part (Value e) = expr_part e
 item_part (Text cs) = one_part (text_word cs)
 
-pub items_said : (xs : List ItemTree) → OneOrMore (IsItem true) xs → grammar.IsList grammar.IsItem (map symbol (list_words item_words xs)) xs
+pub items_said : (xs : List ItemTree) → OneOrMore (IsItem true) xs
+    → grammar.IsList grammar.IsItem (map symbol (list_words item_words xs)) xs
 items_said xs is = list_said grammar.IsItem (IsItem true) item_words item_part item_said xs is
 
-pub values_said : (xs : List ItemTree) → OneOrMore (IsItem false) xs → grammar.IsList grammar.IsValue (map symbol (list_words item_words xs)) xs
+pub values_said : (xs : List ItemTree) → OneOrMore (IsItem false) xs
+    → grammar.IsList grammar.IsValue (map symbol (list_words item_words xs)) xs
 values_said xs is = list_said grammar.IsValue (IsItem false) item_words item_part value_said xs is

@@ -54,7 +54,8 @@ operand_laid (NotBit e) rest = ap (λ l. 0x2F ∷ 32 ∷ l) (expr_laid e rest)
 operand_laid other rest = refl
 
 pub register_written : (n : ℕ) → n < 8 → name_of (register_word n) ≡ Some (register_word n)
-register_written n h = of_register (λ n. name_of (register_word n) ≡ Some (register_word n)) refl refl refl refl refl refl refl refl n h
+register_written n h = of_register (λ n. name_of (register_word n) ≡ Some (register_word n)) refl refl refl refl refl
+    refl refl refl n h
 
 register_cut : (n : ℕ) → n < 8 → IsCut (name_word (register_word n))
 register_cut n h = name_cut (register_word n) (register_written n h)
@@ -75,11 +76,13 @@ operand_cut (NotBit e) rest is more = (over_cut, expr_cut e rest is more)
 
 register_symbol : (n : ℕ) → n < 8 → symbol (name_word (register_word n)) ≡ symbols.Word (register_word n)
 unfolding operator_of prefix_word relation_word arithmetic_word is_language_word
-register_symbol n h = of_register (λ n. symbol (name_word (register_word n)) ≡ symbols.Word (register_word n)) refl refl refl refl refl refl refl refl n h
+register_symbol n h = of_register (λ n. symbol (name_word (register_word n)) ≡ symbols.Word (register_word n)) refl refl
+    refl refl refl refl refl refl n h
 
 register_read : (n : ℕ) → n < 8 → register (register_word n) ≡ Some (R n)
 unfolding register register_number
-register_read n h = of_register (λ n. register (register_word n) ≡ Some (R n)) refl refl refl refl refl refl refl refl n h
+register_read n h = of_register (λ n. register (register_word n) ≡ Some (R n)) refl refl refl refl refl refl refl refl n
+    h
 
 pointer_read : (n : ℕ) → n < 2 → pointer (register_word n) ≡ Some (AtR n)
 unfolding pointer
@@ -96,8 +99,11 @@ operand_said Dptr is = grammar.Register {word = codes "DPTR"} refl
 operand_said APc is = grammar.Sum {word = codes "PC"} refl
 operand_said ADptr is = grammar.Sum {word = codes "DPTR"} refl
 operand_said AtDptr is = grammar.Pointer {word = codes "DPTR"} refl
-operand_said (R n) is = subst (λ s. grammar.IsOperand (s ∷ []) (R n)) (sym (register_symbol n is)) (grammar.Register (register_read n is))
-operand_said (AtR n) is = subst (λ s. grammar.IsOperand (symbols.At ∷ s ∷ []) (AtR n)) (sym (register_symbol n (omega (arith, is)))) (grammar.Pointer (pointer_read n is))
+operand_said (R n) is =
+    subst (λ s. grammar.IsOperand (s ∷ []) (R n)) (sym (register_symbol n is)) (grammar.Register (register_read n is))
+operand_said (AtR n) is =
+    subst (λ s. grammar.IsOperand (symbols.At ∷ s ∷ []) (AtR n)) (sym (register_symbol n (omega (arith, is))))
+    (grammar.Pointer (pointer_read n is))
 operand_said (Imm e) is = grammar.Immediate (expr_said e is)
 operand_said (Plain e) is = grammar.Address (expr_said e is)
 operand_said (NotBit e) is = grammar.Inverted (expr_said e is)

@@ -25,7 +25,9 @@ expr_part (tree.One op e) =
     (two_parts (first (before_word op)) (λ rest. expr_words e (close_word ∷ rest)) (one_part (before_word op))
     (two_parts (λ rest. expr_words e rest) (first close_word) (expr_part e) (one_part close_word)))
 expr_part (tree.Two op left right) =
-    two_parts (first open_word) (λ rest. expr_words left (between_word op ∷ expr_words right (close_word ∷ rest))) (one_part open_word)
-    (two_parts (λ rest. expr_words left rest) (λ rest. between_word op ∷ expr_words right (close_word ∷ rest)) (expr_part left)
+    two_parts (first open_word) (λ rest. expr_words left (between_word op ∷ expr_words right (close_word ∷ rest)))
+    (one_part open_word)
+    (two_parts (λ rest. expr_words left rest) (λ rest. between_word op ∷ expr_words right (close_word ∷ rest))
+    (expr_part left)
     (two_parts (first (between_word op)) (λ rest. expr_words right (close_word ∷ rest)) (one_part (between_word op))
     (two_parts (λ rest. expr_words right rest) (first close_word) (expr_part right) (one_part close_word))))

@@ -1,5 +1,7 @@
 -- Printed statements read back.
-use Rattle.std.proofs.Common.{◌≡◌, ℕ, ◌<◌, ◌==◌, ◌&&◌, true, false, cond, nat_le, not, map, List, [], ◌∷◌, ◌++◌, length, take, drop, Option, Some, None, Ok, Err, refl, sym, ap, ◌∙◌, arith, subst, append_assoc, inl, inr, ◌⊎◌}
+use Rattle.std.proofs.Common.{◌≡◌, ℕ, ◌<◌, ◌==◌, ◌&&◌, true, false, cond, nat_le, not, map, List, [], ◌∷◌, ◌++◌, length}
+use Rattle.std.proofs.Common.{take, drop, Option, Some, None, Ok, Err, refl, sym, ap, ◌∙◌, arith, subst, append_assoc}
+use Rattle.std.proofs.Common.{inl, inr, ◌⊎◌}
 use Rattle.std.specs.Prelude.{codes, option_and_then}
 use Rattle.std.specs.Char.{is_ascii_digit}
 use Rattle.std.specs.List.{list_all, prefix_len}
@@ -87,7 +89,8 @@ pub name_line : (text rest : List ℕ) → is_name text ≡ true → any_line (t
 unfolding any_line
 name_line [] rest h = absurd (cc h)
 name_line (c ∷ more) rest h =
-    let all = right (not (is_ascii_digit c) && nat_le (length (c ∷ more)) 31) (list_all cells.is_name_byte (c ∷ more)) h in
+    let all = right (not (is_ascii_digit c) && nat_le (length (c ∷ more)) 31) (list_all cells.is_name_byte (c ∷ more))
+    h in
     let is : cells.is_name_byte c ≡ true = left (cells.is_name_byte c) (list_all cells.is_name_byte more) all in
     let line = c ∷ (more ++ rest) in
     ap (λ b. cond b (control_line (drop 1 line)) (cond (c == 0x25) (Err BAD_FORM) (token_line line))) (no_dollar c is)
@@ -99,7 +102,8 @@ begun_line ws b =
     subst P (sym b.is) (name_line b.name (32 ∷ laid b.rest) (named_is_name b.name b.name b.written))
 
 -- a line of words is read as what its symbols say
-tokens_line : (ws : List Word) → AreCut ws → (s : StmtTree) → statement (map symbol ws) ≡ Some s → token_line (laid ws) ≡ Ok s
+tokens_line : (ws : List Word) → AreCut ws → (s : StmtTree) → statement (map symbol ws) ≡ Some s
+    → token_line (laid ws) ≡ Ok s
 tokens_line ws is s reads =
     ap (λ r. and_then r (λ tokens. read (map (symbol_of (laid ws)) tokens))) (cut ws 0 is)
     ∙ ap read (line_symbols ws) ∙ ap (or_fault (statement_fault (map symbol ws))) reads
@@ -113,44 +117,59 @@ labelled name b = record { label = Some name; body = b }
 
 -- without a label
 bare_read : (b : BodyTree) → IsBody 0 b → statement (map symbol (body_words b)) ≡ Some (bare b)
-bare_read b is = statement_reads (map symbol (body_words b)) (bare b) (grammar.Bare (body_said false 0 (λ _. refl) b is))
+bare_read b is = statement_reads (map symbol (body_words b)) (bare b)
+    (grammar.Bare (body_said false 0 (λ _. refl) b is))
 
-bare_printed : (b : BodyTree) → IsBody 0 b → (b ≡ body.Empty) ⊎ Begins (body_words b) → any_line (stmt_text (bare b)) ≡ Ok (bare b)
+bare_printed : (b : BodyTree) → IsBody 0 b → (b ≡ body.Empty) ⊎ Begins (body_words b)
+    → any_line (stmt_text (bare b)) ≡ Ok (bare b)
 unfolding any_line body_text
-bare_printed b is (inl empty) = let P : BodyTree → Type 0 = λ b. any_line (stmt_text (bare b)) ≡ Ok (bare b) in subst P (sym empty) refl
+bare_printed b is (inl empty) = let P : BodyTree → Type 0 = λ b. any_line (stmt_text (bare b)) ≡ Ok (bare b) in
+    subst P (sym empty) refl
 bare_printed b is (inr begins) =
-    ap any_line (sym (body_laid 0 b is)) ∙ begun_line (body_words b) begins ∙ tokens_line (body_words b) (body_cut 0 b is) (bare b) (bare_read b is)
+    ap any_line (sym (body_laid 0 b is)) ∙ begun_line (body_words b) begins
+    ∙ tokens_line (body_words b) (body_cut 0 b is) (bare b) (bare_read b is)
 
 -- after a label
 abbrev labelled_words : List ℕ → BodyTree → List Word
 labelled_words name b = name_word name ∷ sign_word 0x3A ∷ body_words b
 
-labelled_read : (name : List ℕ) (b : BodyTree) → IsFree name → IsBody 2 b → statement (map symbol (labelled_words name b)) ≡ Some (labelled name b)
+labelled_read : (name : List ℕ) (b : BodyTree) → IsFree name → IsBody 2 b
+    → statement (map symbol (labelled_words name b)) ≡ Some (labelled name b)
 labelled_read name b label is =
     ap (λ s. statement (s ∷ symbols.Colon ∷ map symbol (body_words b))) (name_symbol name label.leaf)
-    ∙ statement_reads (symbols.Name name ∷ symbols.Colon ∷ map symbol (body_words b)) (labelled name b) (grammar.Labelled label.free (body_said true 2 (λ h. absurd (cc h)) b is))
+    ∙ statement_reads (symbols.Name name ∷ symbols.Colon ∷ map symbol (body_words b)) (labelled name b)
+    (grammar.Labelled label.free (body_said true 2 (λ h. absurd (cc h)) b is))
 
 labelled_laid : (name : List ℕ) (b : BodyTree) → IsBody 2 b → laid (labelled_words name b) ≡ stmt_text (labelled name b)
 labelled_laid name b is =
     ap (λ l. name ++ 32 ∷ 0x3A ∷ 32 ∷ l) (body_laid 2 b is)
-    ∙ one_laid name (0x3A ∷ 32 ∷ body_text b) ∙ sym (append_assoc (word_text name) (word_text (codes ":")) (body_text b))
+    ∙ one_laid name (0x3A ∷ 32 ∷ body_text b)
+    ∙ sym (append_assoc (word_text name) (word_text (codes ":")) (body_text b))
 
-labelled_printed : (name : List ℕ) (b : BodyTree) → IsFree name → IsBody 2 b → any_line (stmt_text (labelled name b)) ≡ Ok (labelled name b)
+labelled_printed : (name : List ℕ) (b : BodyTree) → IsFree name → IsBody 2 b
+    → any_line (stmt_text (labelled name b)) ≡ Ok (labelled name b)
 labelled_printed name b label is =
     let ws = labelled_words name b in
-    ap any_line (sym (labelled_laid name b is)) ∙ begun_line ws (begun name (sign_word 0x3A ∷ body_words b) label.leaf.written)
-    ∙ tokens_line ws (name_cut name label.leaf.written, (colon_cut, body_cut 2 b is)) (labelled name b) (labelled_read name b label is)
+    ap any_line (sym (labelled_laid name b is))
+    ∙ begun_line ws (begun name (sign_word 0x3A ∷ body_words b) label.leaf.written)
+    ∙ tokens_line ws (name_cut name label.leaf.written, (colon_cut, body_cut 2 b is)) (labelled name b)
+    (labelled_read name b label is)
 
 -- controls
-closed_here : (name : List ℕ) → 0 < length name → list_all is_inside name ≡ true → closed_at (name ++ 0x29 ∷ 32 ∷ []) (prefix_len is_inside (name ++ 0x29 ∷ 32 ∷ [])) ≡ Some name
+closed_here : (name : List ℕ) → 0 < length name → list_all is_inside name ≡ true
+    → closed_at (name ++ 0x29 ∷ 32 ∷ []) (prefix_len is_inside (name ++ 0x29 ∷ 32 ∷ [])) ≡ Some name
 closed_here name some all =
     let x = name ++ 0x29 ∷ 32 ∷ [] in
     ap (closed_at x) (run_stops is_inside name 0x29 (32 ∷ []) all refl)
-    ∙ ap (λ b. cond b None (option_and_then (if_ended (take (length name) x)) (behind_sign 0x29 (drop (length name) x)))) (not_zero (length name) some)
-    ∙ ap (λ l. option_and_then (if_ended l) (behind_sign 0x29 (drop (length name) x))) (take-append_seam name (0x29 ∷ 32 ∷ []))
+    ∙ ap (λ b. cond b None
+    (option_and_then (if_ended (take (length name) x)) (behind_sign 0x29 (drop (length name) x))))
+    (not_zero (length name) some)
+    ∙ ap (λ l. option_and_then (if_ended l) (behind_sign 0x29 (drop (length name) x)))
+    (take-append_seam name (0x29 ∷ 32 ∷ []))
     ∙ ap (λ l. option_and_then (if_ended name) (behind_sign 0x29 l)) (drop-append_seam name (0x29 ∷ 32 ∷ []))
 
-include_printed : (name : List ℕ) → 0 < length name → list_all is_inside name ≡ true → any_line (stmt_text (bare (body.Include name))) ≡ Ok (bare (body.Include name))
+include_printed : (name : List ℕ) → 0 < length name → list_all is_inside name ≡ true
+    → any_line (stmt_text (bare (body.Include name))) ≡ Ok (bare (body.Include name))
 unfolding any_line body_text control.by_word
 include_printed name some all = ap (λ o. and_then (include_of o) (λ b. Ok (bare b))) (closed_here name some all)
 
@@ -162,7 +181,8 @@ control_printed (body.Mod51 true) is = refl
 control_printed (body.Mod51 false) is = refl
 control_printed b is = absurd is
 
-printed_by : (label : Option (List ℕ)) (b : BodyTree) → IsLine label b → any_line (stmt_text (record { label = label; body = b })) ≡ Ok (record { label = label; body = b })
+printed_by : (label : Option (List ℕ)) (b : BodyTree) → IsLine label b
+    → any_line (stmt_text (record { label = label; body = b })) ≡ Ok (record { label = label; body = b })
 printed_by None b (inl is) = control_printed b is
 printed_by None b (inr is) = bare_printed b is (body_begins 0 b is)
 printed_by (Some name) b is = labelled_printed name b is.0 is.1

@@ -1,5 +1,6 @@
 -- A printed expression reads back.
-use Rattle.std.proofs.Common.{◌≡◌, ℕ, zero, suc, ◌+◌, ◌-◌, ◌<◌, ◌≤◌, map, List, [], ◌∷◌, ◌++◌, length, drop, drop-drop, Some, None, refl, sym, ap, ◌∙◌, arith, subst, append_assoc, slice_get}
+use Rattle.std.proofs.Common.{◌≡◌, ℕ, zero, suc, ◌+◌, ◌-◌, ◌<◌, ◌≤◌, map, List, [], ◌∷◌, ◌++◌, length, drop, drop-drop}
+use Rattle.std.proofs.Common.{Some, None, refl, sym, ap, ◌∙◌, arith, subst, append_assoc, slice_get}
 use Rattle.std.specs.Prelude.{codes}
 use Rattle.m51_cells.specs.Name.{name_of}
 use Rattle.m51_lex.specs.declared.token.What.{What}
@@ -21,7 +22,8 @@ use Rattle.m51_expr.proofs.Complete.{ends_within}
 use Rattle.m51_stmt.specs.Grammar.{IsExpr}
 use Rattle.m51_stmt.specs.Printing.{word_text, number_text, unary_word, binary_word, expr_text}
 use Rattle.m51_stmt.proofs.LineCuts.{Word, laid, IsCut, AreCut, symbol}
-use Rattle.m51_stmt.proofs.WordCuts.{name_word, number_word, sign_word, name_cut, number_cut, open_cut, close_cut, plus_cut, minus_cut, times_cut, over_cut, dot_cut, here_cut}
+use Rattle.m51_stmt.proofs.WordCuts.{name_word, number_word, sign_word, name_cut, number_cut, open_cut, close_cut}
+use Rattle.m51_stmt.proofs.WordCuts.{plus_cut, minus_cut, times_cut, over_cut, dot_cut, here_cut}
 
 -- a name that an expression may have
 pub record IsLeafName (name : List ℕ) : Type 0 where
@@ -67,7 +69,8 @@ expr_words (tree.Number n) rest = number_word n ∷ rest
 expr_words (tree.Name name) rest = name_word name ∷ rest
 expr_words tree.Here rest = sign_word 0x24 ∷ rest
 expr_words (tree.One op e) rest = open_word ∷ before_word op ∷ expr_words e (close_word ∷ rest)
-expr_words (tree.Two op left right) rest = open_word ∷ expr_words left (between_word op ∷ expr_words right (close_word ∷ rest))
+expr_words (tree.Two op left right) rest =
+    open_word ∷ expr_words left (between_word op ∷ expr_words right (close_word ∷ rest))
 
 -- a word and a blank, before others
 pub one_laid : (text rest : List ℕ) → text ++ space ∷ rest ≡ word_text text ++ rest
@@ -76,7 +79,8 @@ one_laid text rest = sym (append_assoc text (space ∷ []) rest)
 five : (a l b m c r : List ℕ) → a ++ (l ++ (b ++ (m ++ (c ++ r)))) ≡ ((((a ++ l) ++ b) ++ m) ++ c) ++ r
 five a l b m c r = sym (simp append_assoc)
 
-around : (l b m r : List ℕ) → 0x28 ∷ space ∷ (l ++ (b ++ space ∷ (m ++ 0x29 ∷ space ∷ r))) ≡ ((((word_text (codes "(") ++ l) ++ word_text b) ++ m) ++ word_text (codes ")")) ++ r
+around : (l b m r : List ℕ) → 0x28 ∷ space ∷ (l ++ (b ++ space ∷ (m ++ 0x29 ∷ space ∷ r)))
+    ≡ ((((word_text (codes "(") ++ l) ++ word_text b) ++ m) ++ word_text (codes ")")) ++ r
 around l b m r =
     ap (λ x. 0x28 ∷ space ∷ (l ++ x)) (sym (append_assoc b (space ∷ []) (m ++ 0x29 ∷ space ∷ r)))
     ∙ five (word_text (codes "(")) l (word_text b) m (word_text (codes ")")) r
@@ -90,7 +94,8 @@ expr_laid (tree.One op e) rest =
     ap (λ l. 0x28 ∷ space ∷ (unary_word op ++ space ∷ l)) (expr_laid e (close_word ∷ rest)) ∙ simp append_assoc
 expr_laid (tree.Two op left right) rest =
     ap (λ l. 0x28 ∷ space ∷ l) (expr_laid left (between_word op ∷ expr_words right (close_word ∷ rest)))
-    ∙ ap (λ l. 0x28 ∷ space ∷ (expr_text left ++ (binary_word op ++ space ∷ l))) (expr_laid right (close_word ∷ rest)) ∙ around (expr_text left) (binary_word op) (expr_text right) (laid rest)
+    ∙ ap (λ l. 0x28 ∷ space ∷ (expr_text left ++ (binary_word op ++ space ∷ l))) (expr_laid right (close_word ∷ rest))
+    ∙ around (expr_text left) (binary_word op) (expr_text right) (laid rest)
 
 before_cut : (op : Unary) → IsCut (before_word op)
 before_cut op1.Plus = plus_cut
@@ -123,7 +128,11 @@ expr_cut (tree.Number n) rest h more = (number_cut n h, more)
 expr_cut (tree.Name name) rest h more = (name_cut name h.written, more)
 expr_cut tree.Here rest h more = (here_cut, more)
 expr_cut (tree.One op e) rest h more = (open_cut, (before_cut op, expr_cut e (close_word ∷ rest) h (close_cut, more)))
-expr_cut (tree.Two op left right) rest h more = (open_cut, expr_cut left (between_word op ∷ expr_words right (close_word ∷ rest)) h.0 (between_cut op, expr_cut right (close_word ∷ rest) h.1 (close_cut, more)))
+expr_cut (tree.Two op left right) rest h more = (
+  open_cut,
+  expr_cut left (between_word op ∷ expr_words right (close_word ∷ rest)) h.0
+      (between_cut op, expr_cut right (close_word ∷ rest) h.1 (close_cut, more)),
+)
 
 before_is : (op : Unary) → prefix_of (Some (symbol (before_word op))) (prefix_rank op) ≡ Some op
 unfolding operator_of prefix_word relation_word arithmetic_word
@@ -143,12 +152,15 @@ infix_low : (op : Binary) → infix_rank op + 1 ≤ 8
 infix_low op2.Mul = omega arith
 infix_low op = omega arith
 
-loosen : (d : ℕ) {line : Line} {at : ℕ} {e : Tree} {to : ℕ} (tight rank : ℕ) → rank + d ≡ tight → tight ≤ 8 → Writes line tight at e to → Writes line rank at e to
-loosen zero {line} {at} {e} {to} tight rank h le w = let same : tight ≡ rank = omega (arith, h) in subst (λ r. Writes line r at e to) same w
+loosen : (d : ℕ) {line : Line} {at : ℕ} {e : Tree} {to : ℕ} (tight rank : ℕ) → rank + d ≡ tight → tight ≤ 8
+    → Writes line tight at e to → Writes line rank at e to
+loosen zero {line} {at} {e} {to} tight rank h le w = let same : tight ≡ rank = omega (arith, h) in
+    subst (λ r. Writes line r at e to) same w
 loosen (suc d) tight rank h le w = Tighter (omega (arith, h, le)) (loosen d tight (rank + 1) (omega (arith, h)) le w)
 
 -- what has a rank is an expression of any looser rank
-looser : {line : Line} {at : ℕ} {e : Tree} {to : ℕ} (tight rank : ℕ) → rank ≤ tight → tight ≤ 8 → Writes line tight at e to → Writes line rank at e to
+looser : {line : Line} {at : ℕ} {e : Tree} {to : ℕ} (tight rank : ℕ) → rank ≤ tight → tight ≤ 8
+    → Writes line tight at e to → Writes line rank at e to
 looser tight rank le high w = loosen (tight - rank) tight rank (omega (arith, le)) high w
 
 -- from a place to its end the line consists of these words
@@ -161,29 +173,46 @@ record Written (line : Line) (at : ℕ) (e : Tree) (rest : List Word) : Type 0 w
   writes : Writes line 8 at e next
   then : Stands line next rest
 
-leaf_written : (line : Line) (at : ℕ) (e : Tree) (w : Word) (rest : List Word) → leaf_of (Some (symbol w)) ≡ Some e → Stands line at (w ∷ rest) → Written line at e rest
-leaf_written line at e w rest leaf h = record { next = at + 1; writes = Leaf refl (ap leaf_of h.0 ∙ leaf) refl; then = h.1 }
+leaf_written : (line : Line) (at : ℕ) (e : Tree) (w : Word) (rest : List Word) → leaf_of (Some (symbol w)) ≡ Some e
+    → Stands line at (w ∷ rest) → Written line at e rest
+leaf_written line at e w rest leaf h =
+    record { next = at + 1; writes = Leaf refl (ap leaf_of h.0 ∙ leaf) refl; then = h.1 }
 
 -- what is printed of a tree is an operand of the grammar
-written : (line : Line) (at : ℕ) (e : Tree) (rest : List Word) → IsTree e → Stands line at (expr_words e rest) → Written line at e rest
+written : (line : Line) (at : ℕ) (e : Tree) (rest : List Word) → IsTree e → Stands line at (expr_words e rest)
+    → Written line at e rest
 written line at (tree.Number n) rest is h = leaf_written line at (tree.Number n) (number_word n) rest refl h
-written line at (tree.Name name) rest is h = leaf_written line at (tree.Name name) (name_word name) rest (ap (λ o. leaf_of (Some (word_or_other o))) is.written ∙ ap (λ s. leaf_of (Some s)) is.leaf) h
+written line at (tree.Name name) rest is h =
+    leaf_written line at (tree.Name name) (name_word name) rest
+    (ap (λ o. leaf_of (Some (word_or_other o))) is.written ∙ ap (λ s. leaf_of (Some s)) is.leaf) h
 written line at tree.Here rest is h = leaf_written line at tree.Here (sign_word 0x24) rest refl h
 written line at (tree.One op e) rest is h =
     let inner = written line (at + 1 + 1) e (close_word ∷ rest) is h.1.1 in
     let r = prefix_rank op in
     let low : r ≤ 8 = prefix_low op in
     let sign : prefix_of (line (at + 1)) r ≡ Some op = ap (λ o. prefix_of o r) h.1.0 ∙ before_is op in
-    let ranked : Writes line r (at + 1) (tree.One op e) inner.next = Before sign (looser 8 r low (omega arith) inner.writes) in
-    record { next = inner.next + 1; writes = Parens refl (ap is_open h.0) (looser r 0 (omega arith) low ranked) (ap is_close inner.then.0) refl; then = inner.then.1 }
+    let ranked : Writes line r (at + 1) (tree.One op e) inner.next =
+    Before sign (looser 8 r low (omega arith) inner.writes) in
+    record {
+      next = inner.next + 1;
+      writes = Parens refl (ap is_open h.0) (looser r 0 (omega arith) low ranked) (ap is_close inner.then.0) refl;
+      then = inner.then.1;
+    }
 written line at (tree.Two op left right) rest is h =
     let l = written line (at + 1) left (between_word op ∷ expr_words right (close_word ∷ rest)) is.0 h.1 in
     let m = written line (l.next + 1) right (close_word ∷ rest) is.1 l.then.1 in
     let r = infix_rank op in
     let low : r + 1 ≤ 8 = infix_low op in
     let sign : infix_of (line l.next) r ≡ Some op = ap (λ o. infix_of o r) l.then.0 ∙ between_is op in
-    let ranked : Writes line r (at + 1) (tree.Two op left right) m.next = Between (looser 8 r (omega (arith, low)) (omega arith) l.writes) sign (looser 8 (r + 1) low (omega arith) m.writes) in
-    record { next = m.next + 1; writes = Parens refl (ap is_open h.0) (looser r 0 (omega arith) (omega (arith, low)) ranked) (ap is_close m.then.0) refl; then = m.then.1 }
+    let ranked : Writes line r (at + 1) (tree.Two op left right) m.next =
+    Between (looser 8 r (omega (arith, low)) (omega arith) l.writes) sign
+    (looser 8 (r + 1) low (omega arith) m.writes) in
+    record {
+      next = m.next + 1;
+      writes = Parens refl (ap is_open h.0) (looser r 0 (omega arith) (omega (arith, low)) ranked)
+          (ap is_close m.then.0) refl;
+      then = m.then.1;
+    }
 
 -- the words of a list of symbols are at its places
 get : (l : List Symbol) (at : ℕ) → slice_get l at ≡ slice_get (drop at l) 0
@@ -194,7 +223,8 @@ get (s ∷ l) (suc at) = get l at
 
 stand : (l : List Symbol) (ws : List Word) (at : ℕ) → drop at l ≡ map symbol ws → Stands (line_of l) at ws
 stand l [] at h = get l at ∙ ap (λ r. slice_get r 0) h
-stand l (w ∷ ws) at h = (get l at ∙ ap (λ r. slice_get r 0) h, stand l ws (at + 1) (sym (drop-drop 1 at l) ∙ ap (drop 1) h))
+stand l (w ∷ ws) at h =
+    (get l at ∙ ap (λ r. slice_get r 0) h, stand l ws (at + 1) (sym (drop-drop 1 at l) ∙ ap (drop 1) h))
 
 past_end : (l : List Symbol) (at : ℕ) → slice_get l at ≡ None → length l ≤ at
 past_end [] at h = omega arith

@@ -1,5 +1,6 @@
 -- What a line of bytes can say: the statements that can be read.
-use Rattle.std.proofs.Common.{◌≡◌, ℕ, ◌<◌, ◌≤◌, ◌==◌, ◌++◌, Bool, true, false, cond, nat_lt, List, [], ◌∷◌, length, take, drop, Option, Some, None, Err, refl, sym, ap, ◌∙◌, arith, inl, inr}
+use Rattle.std.proofs.Common.{◌≡◌, ℕ, ◌<◌, ◌≤◌, ◌==◌, ◌++◌, Bool, true, false, cond, nat_lt, List, [], ◌∷◌, length}
+use Rattle.std.proofs.Common.{take, drop, Option, Some, None, Err, refl, sym, ap, ◌∙◌, arith, inl, inr}
 use Rattle.std.specs.Prelude.{codes, option_and_then}
 use Rattle.std.specs.Char.{is_ascii_alphanumeric}
 use Rattle.std.specs.Str.{bytes_eq}
@@ -28,7 +29,8 @@ use Rattle.m51_stmt.specs.Operands.{register, pointer, sum}
 use Rattle.m51_stmt.specs.Definitions.{definition_of}
 use Rattle.m51_stmt.specs.Directives.{select_of, directive_of}
 use Rattle.m51_stmt.specs.Control as control
-use Rattle.m51_stmt.specs.Control.{opening, closing, is_inside, ends, behind_sign, if_ended, closed_at, parenthesized, include, include_of, ignored_if, is_ignored_word, by_name}
+use Rattle.m51_stmt.specs.Control.{opening, closing, is_inside, ends, behind_sign, if_ended, closed_at, parenthesized}
+use Rattle.m51_stmt.specs.Control.{include, include_of, ignored_if, is_ignored_word, by_name}
 use Rattle.m51_stmt.specs.Lines.{symbols_of, any_line}
 use Rattle.m51_stmt.specs.Grammar as grammar
 use Rattle.m51_stmt.specs.Printing.{reloc_word, stmt_text}
@@ -40,7 +42,8 @@ use Rattle.m51_stmt.proofs.PrintedLists.{IsItem}
 use Rattle.m51_stmt.proofs.PrintedExterns.{IsFree, IsExtern}
 use Rattle.m51_stmt.proofs.PrintedBodies.{IsKind, IsSelected, IsBody}
 use Rattle.m51_stmt.proofs.PrintedStatements.{IsControl, IsStatement, printed}
-use Rattle.m51_stmt.proofs.IfRead.{IfSome, some_is, none_is, some_cond, some_map, some_then, IfRead, ok_is, err_is, ok_cond, ok_if}
+use Rattle.m51_stmt.proofs.IfRead.{IfSome, some_is, none_is, some_cond, some_map, some_then, IfRead, ok_is, err_is}
+use Rattle.m51_stmt.proofs.IfRead.{ok_cond, ok_if}
 use Rattle.m51_stmt.proofs.ReadSymbols.{IsGood, symbols_good, tree_good, tokens_good}
 use Rattle.m51_stmt.proofs.LinesRead.{line_derived}
 
@@ -77,7 +80,8 @@ pointer_good word =
 
 sum_good : (word : List ℕ) → IfSome (sum word) IsOperand
 unfolding sum
-sum_good word = some_cond (bytes_eq word (codes "PC")) (some_is tt) (some_cond (bytes_eq word (codes "DPTR")) (some_is tt) none_is)
+sum_good word = some_cond (bytes_eq word (codes "PC")) (some_is tt)
+    (some_cond (bytes_eq word (codes "DPTR")) (some_is tt) none_is)
 
 -- the words for kinds and types
 kind_good : (word : List ℕ) → IfSome (kind_of word) IsKind
@@ -170,14 +174,19 @@ operand_good l o (grammar.Inverted {symbols = rest} {e = e} is) h = expr_good re
 operand_good l o (grammar.Address {e = e} is) h = expr_good l e is h
 
 -- lists
-list_good : {A : Type 0} (P : List Symbol → A → Type 0) (Q : A → Type 0) → ((l : List Symbol) (a : A) → P l a → Each IsGood l → Q a) → (l : List Symbol) (xs : List A) → grammar.IsList P l xs → Each IsGood l → OneOrMore Q xs
+list_good : {A : Type 0} (P : List Symbol → A → Type 0) (Q : A → Type 0)
+    → ((l : List Symbol) (a : A) → P l a → Each IsGood l → Q a) → (l : List Symbol) (xs : List A)
+    → grammar.IsList P l xs → Each IsGood l → OneOrMore Q xs
 list_good P Q good l xs (grammar.Last {a = a} is) h = (good l a is h, tt)
-list_good P Q good l xs (grammar.Comma {part = part} {rest = rest} {a = a} {more = more} is others) h =
-    (good part a is (each_front IsGood part _ h), some_each Q more (list_good P Q good rest more others (each_back IsGood part _ h).1))
+list_good P Q good l xs (grammar.Comma {part = part} {rest = rest} {a = a} {more = more} is others) h = (
+  good part a is (each_front IsGood part _ h),
+  some_each Q more (list_good P Q good rest more others (each_back IsGood part _ h).1),
+)
 
 operands_good : (l : List Symbol) (os : List OperandTree) → grammar.AreOperands l os → Each IsGood l → Each IsOperand os
 operands_good l os grammar.Without h = tt
-operands_good l os (grammar.With is) h = some_each IsOperand os (list_good grammar.IsOperand IsOperand operand_good l os is h)
+operands_good l os (grammar.With is) h =
+    some_each IsOperand os (list_good grammar.IsOperand IsOperand operand_good l os is h)
 
 name_good : (l : List Symbol) (name : List ℕ) → grammar.IsName l name → Each IsGood l → IsLeafName name
 name_good l name grammar.Name h = h.0
@@ -189,51 +198,73 @@ item_good : (l : List Symbol) (i : ItemTree) → grammar.IsItem l i → Each IsG
 item_good l i grammar.Text h = refl
 item_good l i (grammar.Value {e = e} other is) h = expr_good l e is h
 
-externs_good : (place : Option Kind) (l : List Symbol) (xs : List (List ℕ × Kind)) → grammar.AreExterns place l xs → Each IsGood l → OneOrMore IsExtern xs
+externs_good : (place : Option Kind) (l : List Symbol) (xs : List (List ℕ × Kind)) → grammar.AreExterns place l xs
+    → Each IsGood l → OneOrMore IsExtern xs
 externs_good place l xs (grammar.Group {k = k} {rest = rest} is d) h = externs_good (Some k) rest xs d h.1.1
-externs_good place l xs (grammar.More {k = k} {rest = rest} {xs = more} free d) h = (record { leaf = h.0; free = free }, some_each IsExtern more (externs_good (Some k) rest more d h.1.1))
+externs_good place l xs (grammar.More {k = k} {rest = rest} {xs = more} free d) h =
+    (record { leaf = h.0; free = free }, some_each IsExtern more (externs_good (Some k) rest more d h.1.1))
 externs_good place l xs (grammar.Last free) h = (record { leaf = h.0; free = free }, tt)
-externs_good place l xs (grammar.Next {rest = rest} {xs = more} free d) h = (record { leaf = h.0; free = free }, some_each IsExtern more (externs_good None rest more d h.1.1.1))
+externs_good place l xs (grammar.Next {rest = rest} {xs = more} free d) h =
+    (record { leaf = h.0; free = free }, some_each IsExtern more (externs_good None rest more d h.1.1.1))
 
 -- definitions
 type_good : (l : List Symbol) (r : Reloc) → grammar.HasType l r → IsReloc r
 type_good l r grammar.Unit = unit_good
 type_good l r (grammar.Typed {word = word} is) = (reloc_good word).holds r is
 
-definition_body : (place : ℕ) (d : DefinitionWord) (name : List ℕ) (l : List Symbol) (b : BodyTree) → place ≡ 0 → IsDefinition d → IsFree name → grammar.IsDefinition name d l b → Each IsGood l → IsBody place b
-definition_body place d name l b first good free (grammar.Segment {word = word} {k = k} {r = r} {type = type} kinds types overlaid allowed) h =
-    (first, record { name_is = free; kind_is = (kind_good word).holds k kinds; reloc_is = type_good type r types; allowed = allowed })
+definition_body : (place : ℕ) (d : DefinitionWord) (name : List ℕ) (l : List Symbol) (b : BodyTree) → place ≡ 0
+    → IsDefinition d → IsFree name → grammar.IsDefinition name d l b → Each IsGood l → IsBody place b
+definition_body place d name l b first good free
+    (grammar.Segment {word = word} {k = k} {r = r} {type = type} kinds types overlaid allowed) h = (
+      first,
+      record {
+        name_is = free;
+        kind_is = (kind_good word).holds k kinds;
+        reloc_is = type_good type r types;
+        allowed = allowed;
+      },
+    )
 definition_body place d name l b first good free (grammar.Equ {e = e} is) h = (first, free, expr_good l e is h)
 definition_body place d name l b first good free (grammar.Set {e = e} is) h = (first, free, expr_good l e is h)
-definition_body place d name l b first good free (grammar.Address {e = e} is) h = (first, free, good, expr_good l e is h)
+definition_body place d name l b first good free (grammar.Address {e = e} is) h =
+    (first, free, good, expr_good l e is h)
 
 -- directives
-directive_body : (place : ℕ) (d : Directive) (l : List Symbol) (b : BodyTree) → IsDirective d → grammar.IsDirective d l b → Each IsGood l → IsBody place b
+directive_body : (place : ℕ) (d : Directive) (l : List Symbol) (b : BodyTree) → IsDirective d
+    → grammar.IsDirective d l b → Each IsGood l → IsBody place b
 directive_body place d l b good (grammar.Using {e = e} is) h = expr_good l e is h
 directive_body place d l b good (grammar.Ds {e = e} is) h = expr_good l e is h
 directive_body place d l b good (grammar.Dbit {e = e} is) h = expr_good l e is h
 directive_body place d l b good (grammar.Org {e = e} is) h = expr_good l e is h
-directive_body place d l b good (grammar.Db {items = xs} is) h = list_good grammar.IsItem (IsItem true) item_good l xs is h
-directive_body place d l b good (grammar.Dw {items = xs} is) h = list_good grammar.IsValue (IsItem false) value_good l xs is h
+directive_body place d l b good (grammar.Db {items = xs} is) h =
+    list_good grammar.IsItem (IsItem true) item_good l xs is h
+directive_body place d l b good (grammar.Dw {items = xs} is) h =
+    list_good grammar.IsValue (IsItem false) value_good l xs is h
 directive_body place d l b good grammar.Select h = (good, tt)
 directive_body place d l b good (grammar.SelectAt {symbols = rest} {e = e} is) h = (good, expr_good rest e is h.1)
 directive_body place d l b good (grammar.Rseg {name = name} is) h = name_good l name is h
 directive_body place d l b good (grammar.ModuleName {name = name} is) h = name_good l name is h
-directive_body place d l b good (grammar.Public {names = xs} is) h = list_good grammar.IsName IsLeafName name_good l xs is h
+directive_body place d l b good (grammar.Public {names = xs} is) h =
+    list_good grammar.IsName IsLeafName name_good l xs is h
 directive_body place d l b good (grammar.Extrn {externs = xs} is) h = externs_good None l xs is h
 directive_body place d l b good grammar.End h = tt
 
 -- the statement after the label; a definition is the first in its line
-said_good : (place : ℕ) (labelled : Bool) (l : List Symbol) (b : BodyTree) → (labelled ≡ false → place ≡ 0) → grammar.IsSaid labelled l b → Each IsGood l → IsBody place b
+said_good : (place : ℕ) (labelled : Bool) (l : List Symbol) (b : BodyTree) → (labelled ≡ false → place ≡ 0)
+    → grammar.IsSaid labelled l b → Each IsGood l → IsBody place b
 said_good place labelled l b first grammar.Nothing h = tt
 said_good place labelled l b first (grammar.Instruction {symbols = rest} {os = os} is given form) h =
     record { written = h.0.written; word = h.0.symbol; form = form; each = operands_good rest os given h.1 }
-said_good place labelled l b first (grammar.Directed {word = word} {d = d} {symbols = rest} found is) h = directive_body place d rest b ((directive_good word).holds d found) is h.1
-said_good place labelled l b first (grammar.Defined {name = name} {word = word} {d = d} {symbols = rest} free found is) h =
-    definition_body place d name rest b (first refl) ((definition_good word).holds d found) (record { leaf = h.0; free = free }) is h.1.1
+said_good place labelled l b first (grammar.Directed {word = word} {d = d} {symbols = rest} found is) h =
+    directive_body place d rest b ((directive_good word).holds d found) is h.1
+said_good place labelled l b first (grammar.Defined {name = name} {word = word} {d = d} {symbols = rest} free found is)
+    h =
+    definition_body place d name rest b (first refl) ((definition_good word).holds d found)
+    (record { leaf = h.0; free = free }) is h.1.1
 
 statement_good : (l : List Symbol) (s : StmtTree) → grammar.IsStatement l s → Each IsGood l → IsStatement s
-statement_good l s (grammar.Labelled {symbols = rest} {b = b} free is) h = (record { leaf = h.0; free = free }, said_good 2 true rest b (λ other. absurd (cc other)) is h.1.1)
+statement_good l s (grammar.Labelled {symbols = rest} {b = b} free is) h =
+    (record { leaf = h.0; free = free }, said_good 2 true rest b (λ other. absurd (cc other)) is h.1.1)
 statement_good l s (grammar.Bare {b = b} is) h = inr (said_good 0 false l b (λ _. refl) is h)
 
 -- controls
@@ -243,12 +274,17 @@ IsIncluded name = (0 < length name) × (list_all is_inside name ≡ true)
 if_ended_good : (inner rest : List ℕ) → IsIncluded inner → IfSome (if_ended inner rest) IsIncluded
 if_ended_good inner rest is = some_cond (ends rest) (some_is is) none_is
 
-closed_by : (inner : List ℕ) (len : ℕ) (b : Bool) → (len == 0) ≡ b → len ≡ prefix_len is_inside inner → IfSome (cond b None (option_and_then (if_ended (take len inner)) (behind_sign closing (drop len inner)))) IsIncluded
+closed_by : (inner : List ℕ) (len : ℕ) (b : Bool) → (len == 0) ≡ b → len ≡ prefix_len is_inside inner
+    → IfSome (cond b None (option_and_then (if_ended (take len inner)) (behind_sign closing (drop len inner))))
+    IsIncluded
 closed_by inner len true is same = none_is
 closed_by inner len false is same =
-    let inside : list_all is_inside (take len inner) ≡ true = ap (λ n. list_all is_inside (take n inner)) same ∙ front_passes is_inside inner in
-    let long : length (take len inner) ≡ len = ap (λ n. length (take n inner)) same ∙ length-prefix_len is_inside inner ∙ sym same in
-    some_then (if_ended (take len inner)) IsIncluded (behind_sign closing (drop len inner)) (λ rest is'. if_ended_good (take len inner) rest (omega (arith, long, positive len is), inside))
+    let inside : list_all is_inside (take len inner) ≡ true = ap (λ n. list_all is_inside (take n inner)) same
+    ∙ front_passes is_inside inner in
+    let long : length (take len inner) ≡ len = ap (λ n. length (take n inner)) same ∙ length-prefix_len is_inside inner
+    ∙ sym same in
+    some_then (if_ended (take len inner)) IsIncluded (behind_sign closing (drop len inner))
+    (λ rest is'. if_ended_good (take len inner) rest (omega (arith, long, positive len is), inside))
 
 closed_good : (inner : List ℕ) → IfSome (closed_at inner (prefix_len is_inside inner)) IsIncluded
 closed_good inner = closed_by inner (prefix_len is_inside inner) (prefix_len is_inside inner == 0) refl refl
@@ -258,7 +294,8 @@ include_by None h = err_is
 include_by (Some name) h = ok_is (h.holds name refl)
 
 include_good : (rest : List ℕ) → IfRead (include rest) IsControl
-include_good rest = include_by (parenthesized rest) (some_then _ IsIncluded (behind_sign opening (control.behind_blanks rest)) (λ inner is. closed_good inner))
+include_good rest = include_by (parenthesized rest)
+    (some_then _ IsIncluded (behind_sign opening (control.behind_blanks rest)) (λ inner is. closed_good inner))
 
 ignored_good : (o : Option (List ℕ)) → IfRead (ignored_if o) IsControl
 ignored_good None = err_is
@@ -268,7 +305,8 @@ control_word : (word rest : List ℕ) → IfRead (control.by_word word rest) IsC
 unfolding control.by_word
 control_word word rest =
     ok_cond (bytes_eq word (codes "INCLUDE")) (λ _. include_good rest) (λ _.
-    ok_cond (bytes_eq word (codes "TITLE")) (λ _. ok_cond (ends rest) (λ _. ok_is tt) (λ _. ignored_good (parenthesized rest))) (λ _.
+    ok_cond (bytes_eq word (codes "TITLE"))
+    (λ _. ok_cond (ends rest) (λ _. ok_is tt) (λ _. ignored_good (parenthesized rest))) (λ _.
     ok_cond (bytes_eq word (codes "MOD51")) (λ _. ok_if BAD_FORM (ends rest) (λ _. ok_is tt)) (λ _.
     ok_cond (bytes_eq word (codes "NOMOD51")) (λ _. ok_if BAD_FORM (ends rest) (λ _. ok_is tt)) (λ _.
     ok_if BAD_FORM (is_ignored_word word) (λ _. ok_if BAD_FORM (ends rest) (λ _. ok_is tt))))))
@@ -278,13 +316,15 @@ control_name None rest = err_is
 control_name (Some word) rest = control_word word rest
 
 control_good : (rest : List ℕ) → IfRead (control.control rest) IsControl
-control_good rest = let len = prefix_len is_ascii_alphanumeric rest in control_name (name_of (take len rest)) (drop len rest)
+control_good rest = let len = prefix_len is_ascii_alphanumeric rest in
+    control_name (name_of (take len rest)) (drop len rest)
 
 -- each statement that a line of bytes writes can be read
 line_good : (line : List ℕ) (s : StmtTree) → grammar.IsLine line s → Each IsByte line → IsStatement s
 line_good line s (grammar.Control {b = b} dollar read') bytes = inl ((control_good (drop 1 line)).holds b read')
 line_good line s (grammar.Statement {tokens = tokens} no_dollar no_percent cut is) bytes =
-    statement_good (symbols_of line tokens) s is (symbols_good line tokens bytes ((tokens_good line 0 0).holds tokens cut))
+    statement_good (symbols_of line tokens) s is
+    (symbols_good line tokens bytes ((tokens_good line 0 0).holds tokens cut))
 
 pub each_byte : (xs : List ℕ) → AllByRecursion IsByte xs → Each IsByte xs
 each_byte [] h = tt
@@ -296,12 +336,15 @@ at_most_255 n h = grind (arith, common_steps)
 
 -- a statement that a line of bytes writes can be read
 pub written_is_good : (line : List ℕ) (s : StmtTree) → WritesStatement line s → IsStatement s
-written_is_good line s writes = line_good line s ((line_derived line).holds s writes.reads) (each_byte line (recursion_from_All IsByte line writes.bytes))
+written_is_good line s writes =
+    line_good line s ((line_derived line).holds s writes.reads)
+    (each_byte line (recursion_from_All IsByte line writes.bytes))
 
 pub printed_reads_back : PrintedReadsBack
 printed_reads_back line s writes =
     let again = printed s (written_is_good line s writes) in
     record {
       printed = again;
-      short = λ few. ap (λ b. cond b (Err LONG_LINE) (any_line (stmt_text s))) (at_most_255 (length (stmt_text s)) few) ∙ again;
+      short = λ few. ap (λ b. cond b (Err LONG_LINE) (any_line (stmt_text s))) (at_most_255 (length (stmt_text s)) few)
+          ∙ again;
     }

@@ -1,5 +1,7 @@
 -- What the symbols and the expressions of a line of bytes can be.
-use Rattle.std.proofs.Common.{◌≡◌, ℕ, zero, suc, ◌+◌, ◌-◌, ◌<◌, ◌==◌, ◌||◌, Bool, true, false, cond, max, nat_le, nat_lt, map, List, [], ◌∷◌, length, take, drop, Option, Some, None, Ok, Err, refl, ap, ◌∙◌, arith, subst, slice_get, slice_index}
+use Rattle.std.proofs.Common.{◌≡◌, ℕ, zero, suc, ◌+◌, ◌-◌, ◌<◌, ◌==◌, ◌||◌, Bool, true, false, cond, max, nat_le}
+use Rattle.std.proofs.Common.{nat_lt, map, List, [], ◌∷◌, length, take, drop, Option, Some, None, Ok, Err, refl, ap}
+use Rattle.std.proofs.Common.{◌∙◌, arith, subst, slice_get, slice_index}
 use Rattle.std.specs.Prelude.{codes, option_map}
 use Rattle.std.specs.Str.{bytes_eq}
 use Rattle.std.specs.Char.{is_ascii_digit, is_ascii_alphanumeric, to_ascii_uppercase}
@@ -17,7 +19,8 @@ use Rattle.m51_lex.specs.Lexeme.{lexeme_of, name_lexeme, number_or_fault, text_o
 use Rattle.m51_lex.specs.Tokens.{Cut, put_front, after_lexeme, tokens_at}
 use Rattle.m51_expr.specs.declared.symbol.Symbol.{Symbol}
 use Rattle.m51_expr.specs.declared.symbol.Symbol.TheVariants as symbols
-use Rattle.m51_expr.specs.Symbol.{characters, between_quotes, sign_symbol, operator_of, prefix_word, relation_word, arithmetic_word, operator_or_word, word_symbol, word_or_other, symbol_by, symbol_of}
+use Rattle.m51_expr.specs.Symbol.{characters, between_quotes, sign_symbol, operator_of, prefix_word, relation_word}
+use Rattle.m51_expr.specs.Symbol.{arithmetic_word, operator_or_word, word_symbol, word_or_other, symbol_by, symbol_of}
 use Rattle.m51_expr.specs.Words.{is_language_word}
 use Rattle.m51_expr.specs.Tree as tree
 use Rattle.m51_expr.specs.Tree.{Tree}
@@ -115,13 +118,24 @@ sign_good : (c : ℕ) → IsGood (sign_symbol c)
 sign_good c =
     either _ _ (c == 0x24) tt (either _ _ (c == 0x28) tt (either _ _ (c == 0x29) tt (either _ _ (c == 0x2B) tt
     (either _ _ (c == 0x2D) tt (either _ _ (c == 0x2A) tt (either _ _ (c == 0x2F) tt (either _ _ (c == 0x2E) tt
-    (either _ _ (c == 0x2C) tt (either _ _ (c == 0x3A) tt (either _ _ (c == 0x23) tt (either _ _ (c == 0x40) tt tt)))))))))))
+    (either _ _ (c == 0x2C) tt
+    (either _ _ (c == 0x3A) tt (either _ _ (c == 0x23) tt (either _ _ (c == 0x40) tt tt)))))))))))
 
-plain_good : (word : List ℕ) (b : Bool) → name_of word ≡ Some word → operator_of word ≡ None → is_language_word word ≡ b → IsGood (cond b (symbols.Word word) (symbols.Name word))
-plain_good word true again none is = record { written = again; symbol = ap (operator_or_word word) none ∙ ap (λ b. cond b (symbols.Word word) (symbols.Name word)) is }
-plain_good word false again none is = record { written = again; leaf = ap (operator_or_word word) none ∙ ap (λ b. cond b (symbols.Word word) (symbols.Name word)) is }
+plain_good : (word : List ℕ) (b : Bool) → name_of word ≡ Some word → operator_of word ≡ None → is_language_word word ≡ b
+    → IsGood (cond b (symbols.Word word) (symbols.Name word))
+plain_good word true again none is =
+    record {
+      written = again;
+      symbol = ap (operator_or_word word) none ∙ ap (λ b. cond b (symbols.Word word) (symbols.Name word)) is;
+    }
+plain_good word false again none is =
+    record {
+      written = again;
+      leaf = ap (operator_or_word word) none ∙ ap (λ b. cond b (symbols.Word word) (symbols.Name word)) is;
+    }
 
-word_good : (word : List ℕ) (o : Option Symbol) → name_of word ≡ Some word → operator_of word ≡ o → IfSome o IsGood → IsGood (operator_or_word word o)
+word_good : (word : List ℕ) (o : Option Symbol) → name_of word ≡ Some word → operator_of word ≡ o → IfSome o IsGood
+    → IsGood (operator_or_word word o)
 word_good word (Some s) again is h = h.holds s refl
 word_good word None again is h = plain_good word (is_language_word word) again is refl
 
@@ -130,14 +144,17 @@ name_good text None is = tt
 name_good text (Some word) is = word_good word (operator_of word) (written_again text word is) refl (operator_good word)
 
 -- texts
-characters_cond : (b : Bool) (c : ℕ) (x y : List ℕ) → IsByte c → Each IsByte x → Each IsByte y → Each IsByte (cond b (c ∷ x) (c ∷ y))
+characters_cond : (b : Bool) (c : ℕ) (x y : List ℕ) → IsByte c → Each IsByte x → Each IsByte y
+    → Each IsByte (cond b (c ∷ x) (c ∷ y))
 characters_cond true c x y is h k = (is, h)
 characters_cond false c x y is h k = (is, k)
 
 characters_good : (text : List ℕ) → Each IsByte text → Each IsByte (characters text)
 characters_good [] h = tt
 characters_good (c ∷ []) h = h
-characters_good (c ∷ d ∷ more) h = characters_cond (c == quote) c (characters more) (characters (d ∷ more)) h.0 (characters_good more h.1.1) (characters_good (d ∷ more) h.1)
+characters_good (c ∷ d ∷ more) h =
+    characters_cond (c == quote) c (characters more) (characters (d ∷ more)) h.0 (characters_good more h.1.1)
+    (characters_good (d ∷ more) h.1)
 
 each_take : {A : Type 0} (P : A → Type 0) (n : ℕ) (xs : List A) → Each P xs → Each P (take n xs)
 each_take P zero xs h = tt
@@ -155,13 +172,18 @@ each_range P xs a b h = each_take P (b - a) (drop a xs) (each_drop P a xs h)
 by_good : (w : What) (text : List ℕ) → HasNumber w → Each IsByte text → IsGood (symbol_by w text)
 by_good what.Name text is h = name_good text (name_of text) refl
 by_good (what.Number n) text is h = is
-by_good what.Text text is h = characters_good (between_quotes text) (each_range IsByte text 1 (max (length text) 2 - 1) h)
+by_good what.Text text is h =
+    characters_good (between_quotes text) (each_range IsByte text 1 (max (length text) 2 - 1) h)
 by_good (what.Sign c) text is h = sign_good c
 
-pub symbols_good : (line : List ℕ) (tokens : List Token) → Each IsByte line → Each IsToken tokens → Each IsGood (map (symbol_of line) tokens)
+pub symbols_good : (line : List ℕ) (tokens : List Token) → Each IsByte line → Each IsToken tokens
+    → Each IsGood (map (symbol_of line) tokens)
 unfolding symbol_of
 symbols_good line [] bytes h = tt
-symbols_good line (t ∷ tokens) bytes h = (by_good t.what (slice_range line t.from t.to) h.0 (each_range IsByte line t.from t.to bytes), symbols_good line tokens bytes h.1)
+symbols_good line (t ∷ tokens) bytes h = (
+  by_good t.what (slice_range line t.from t.to) h.0 (each_range IsByte line t.from t.to bytes),
+  symbols_good line tokens bytes h.1,
+)
 
 each_get : {A : Type 0} (P : A → Type 0) (xs : List A) (i : ℕ) → Each P xs → IfSome (slice_get xs i) P
 each_get P [] i h = none_is
@@ -183,20 +205,24 @@ leaf_good (Some (symbols.Name name)) h = some_is (h.holds (symbols.Name name) re
 leaf_good (Some symbols.Here) h = some_is tt
 leaf_good (Some s) h = none_is
 
-pub tree_good : (l : List Symbol) {rank from : ℕ} {e : Tree} {to : ℕ} → Each IsGood l → Writes (line_of l) rank from e to → IsTree e
-tree_good l {rank} {from} h (Leaf {e = e} is leaf end) = (leaf_good (slice_get l from) (each_get IsGood l from h)).holds e leaf
+pub tree_good : (l : List Symbol) {rank from : ℕ} {e : Tree} {to : ℕ} → Each IsGood l
+    → Writes (line_of l) rank from e to → IsTree e
+tree_good l {rank} {from} h (Leaf {e = e} is leaf end) =
+    (leaf_good (slice_get l from) (each_get IsGood l from h)).holds e leaf
 tree_good l h (Parens is open' inner close end) = tree_good l h inner
 tree_good l h (Before is inner) = tree_good l h inner
 tree_good l h (Between left' is right') = (tree_good l h left', tree_good l h right')
 tree_good l h (Tighter low inner) = tree_good l h inner
 
 -- the tokens of a line have numbers of 16 bits
-front_good : (t : Token) (r : Cut) → HasNumber t.what → IfRead r (Each IsToken) → IfRead (put_front (t ∷ []) r) (Each IsToken)
+front_good : (t : Token) (r : Cut) → HasNumber t.what → IfRead r (Each IsToken)
+    → IfRead (put_front (t ∷ []) r) (Each IsToken)
 front_good t (Ok ts) is h = ok_is (is, h.holds ts refl)
 front_good t (Err k) is h = err_is
 
 fits_by : (n m : ℕ) (b : Bool) → nat_le n 65535 ≡ b → cond b (Some n) None ≡ Some m → m < 65536
-fits_by n m true is h = let same : n ≡ m = same_Some n m h in let low : n < 65536 = grind (arith, common_steps, is) in omega (arith, same, low)
+fits_by n m true is h = let same : n ≡ m = same_Some n m h in let low : n < 65536 = grind (arith, common_steps, is) in
+    omega (arith, same, low)
 fits_by n m false is h = absurd (cc h)
 
 fits_16 : (o : Option ℕ) → IfSome (of_16_bits o) (λ n. n < 65536)
@@ -208,7 +234,8 @@ unfolding number_of
 number_fits run = fits_16 (value_in (base_of (last_of run)) 0 (digits_of run))
 
 module _ (at : ℕ) (go : ℕ → Cut) (more : (n : ℕ) → IfRead (go n) (Each IsToken)) where
-  number_tokens : (len : ℕ) (o : Option ℕ) → IfSome o (λ n. n < 65536) → IfRead (after_lexeme at (number_or_fault len o) go) (Each IsToken)
+  number_tokens : (len : ℕ) (o : Option ℕ) → IfSome o (λ n. n < 65536)
+      → IfRead (after_lexeme at (number_or_fault len o) go) (Each IsToken)
   number_tokens len None h = err_is
   number_tokens len (Some n) h = front_good _ (go (len - 1)) (h.holds n refl) (more (len - 1))
 
@@ -217,7 +244,9 @@ module _ (at : ℕ) (go : ℕ → Cut) (more : (n : ℕ) → IfRead (go n) (Each
   text_tokens (Some n) = front_good _ (go (1 + n - 1)) tt (more (1 + n - 1))
 
   name_tokens : (rest : List ℕ) → IfRead (after_lexeme at (name_lexeme rest) go) (Each IsToken)
-  name_tokens rest = read_cond (flip (after_lexeme at) go) (Each IsToken) (nat_lt 31 (prefix_len is_name_byte rest)) _ _ (λ _. err_is) (λ _. front_good _ (go (prefix_len is_name_byte rest - 1)) tt (more (prefix_len is_name_byte rest - 1)))
+  name_tokens rest = read_cond (flip (after_lexeme at) go) (Each IsToken) (nat_lt 31 (prefix_len is_name_byte rest)) _ _
+      (λ _. err_is) (λ _. front_good _ (go (prefix_len is_name_byte rest - 1)) tt
+      (more (prefix_len is_name_byte rest - 1)))
 
   lexeme_good : (rest : List ℕ) → IfRead (after_lexeme at (lexeme_of rest) go) (Each IsToken)
   unfolding lexeme_of
@@ -226,12 +255,16 @@ module _ (at : ℕ) (go : ℕ → Cut) (more : (n : ℕ) → IfRead (go n) (Each
       let len = prefix_len is_ascii_alphanumeric rest in
       read_cond (flip (after_lexeme at) go) (Each IsToken) (first == space || first == tab) _ _ (λ _. more 0) (λ _.
       read_cond (flip (after_lexeme at) go) (Each IsToken) (first == semicolon) _ _ (λ _. ok_is tt) (λ _.
-      read_cond (flip (after_lexeme at) go) (Each IsToken) (is_ascii_digit first) _ _ (λ _. number_tokens len (number_of (take len rest)) (number_fits (take len rest))) (λ _.
+      read_cond (flip (after_lexeme at) go) (Each IsToken) (is_ascii_digit first) _ _
+      (λ _. number_tokens len (number_of (take len rest)) (number_fits (take len rest))) (λ _.
       read_cond (flip (after_lexeme at) go) (Each IsToken) (is_name_byte first) _ _ (λ _. name_tokens rest) (λ _.
-      read_cond (flip (after_lexeme at) go) (Each IsToken) (first == quote) _ _ (λ _. text_tokens (text_len (drop 1 rest))) (λ _.
-      read_cond (flip (after_lexeme at) go) (Each IsToken) (is_sign first) _ _ (λ _. front_good _ (go (1 - 1)) tt (more (1 - 1))) (λ _. err_is))))))
+      read_cond (flip (after_lexeme at) go) (Each IsToken) (first == quote) _ _
+      (λ _. text_tokens (text_len (drop 1 rest))) (λ _.
+      read_cond (flip (after_lexeme at) go) (Each IsToken) (is_sign first) _ _
+      (λ _. front_good _ (go (1 - 1)) tt (more (1 - 1))) (λ _. err_is))))))
 
 pub tokens_good : (l : List ℕ) (passed at : ℕ) → IfRead (tokens_at passed at l) (Each IsToken)
 tokens_good [] passed at = ok_is tt
 tokens_good (b ∷ rest) (suc passed) at = tokens_good rest passed (at + 1)
-tokens_good (b ∷ rest) zero at = lexeme_good at (λ passed. tokens_at passed (at + 1) rest) (λ n. tokens_good rest n (at + 1)) (b ∷ rest)
+tokens_good (b ∷ rest) zero at =
+    lexeme_good at (λ passed. tokens_at passed (at + 1) rest) (λ n. tokens_good rest n (at + 1)) (b ∷ rest)

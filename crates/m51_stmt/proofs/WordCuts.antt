@@ -1,5 +1,7 @@
 -- Names, signs, numbers and texts are cut as tokens of their own before a blank.
-use Rattle.std.proofs.Common.{◌≡◌, ℕ, ◌+◌, ◌-◌, ◌*◌, ◌/◌, ◌%◌, ◌<◌, ◌==◌, ◌||◌, ◌&&◌, cond, not, nat_lt, nat_le, Bool, true, false, List, [], ◌∷◌, ◌++◌, length, length-append, take, Some, None, refl, sym, ap, ◌∙◌, arith, option_map, append_assoc}
+use Rattle.std.proofs.Common.{◌≡◌, ℕ, ◌+◌, ◌-◌, ◌*◌, ◌/◌, ◌%◌, ◌<◌, ◌==◌, ◌||◌, ◌&&◌, cond, not, nat_lt, nat_le, Bool}
+use Rattle.std.proofs.Common.{true, false, List, [], ◌∷◌, ◌++◌, length, length-append, take, Some, None, refl, sym, ap}
+use Rattle.std.proofs.Common.{◌∙◌, arith, option_map, append_assoc}
 use Rattle.std.specs.Char.{is_ascii_digit, is_ascii_alphanumeric, digit_value}
 use Rattle.std.specs.Fmt.{digit_glyph}
 use Rattle.std.specs.List.{list_all, prefix_len}
@@ -32,14 +34,16 @@ passed true x y h = refl
 passed false x y h = absurd (cc h)
 
 -- a run ends at the first byte that does not belong to it
-pub run_stops : (p : ℕ → Bool) (word : List ℕ) (c : ℕ) (rest : List ℕ) → list_all p word ≡ true → p c ≡ false → prefix_len p (word ++ c ∷ rest) ≡ length word
+pub run_stops : (p : ℕ → Bool) (word : List ℕ) (c : ℕ) (rest : List ℕ) → list_all p word ≡ true → p c ≡ false
+    → prefix_len p (word ++ c ∷ rest) ≡ length word
 run_stops p [] c rest h stop = grind (arith, common_steps)
 run_stops p (w ∷ ws) c rest h stop =
     let head : p w ≡ true = left (p w) (list_all p ws) h in
     let tail = run_stops p ws c rest (right (p w) (list_all p ws) h) stop in
     grind (arith, common_steps, head, tail)
 
-fourth : {X : Type 0} (c1 c2 c3 c4 : Bool) (x1 x2 x3 x4 x5 : X) → c1 ≡ false → c2 ≡ false → c3 ≡ false → c4 ≡ true → cond c1 x1 (cond c2 x2 (cond c3 x3 (cond c4 x4 x5))) ≡ x4
+fourth : {X : Type 0} (c1 c2 c3 c4 : Bool) (x1 x2 x3 x4 x5 : X) → c1 ≡ false → c2 ≡ false → c3 ≡ false → c4 ≡ true
+    → cond c1 x1 (cond c2 x2 (cond c3 x3 (cond c4 x4 x5))) ≡ x4
 fourth c1 c2 c3 c4 x1 x2 x3 x4 x5 a b c d = (λ i. cond (a i) x1 (cond (b i) x2 (cond (c i) x3 (cond (d i) x4 x5))))
 
 no_blank : (b : ℕ) → is_name_byte b ≡ true → (b == 32 || b == 9) ≡ false
@@ -60,13 +64,19 @@ all_same p q h [] = refl
 all_same p q h (x ∷ xs) = ap (λ b. b && list_all p xs) (h x) ∙ ap (λ b. q x && b) (all_same p q h xs)
 
 -- what begins with a byte of a name, and no digit, is a name
-pub name_first : (c : ℕ) (rest : List ℕ) → is_ascii_digit c ≡ false → is_name_byte c ≡ true → lexeme_of (c ∷ rest) ≡ name_lexeme (c ∷ rest)
+pub name_first : (c : ℕ) (rest : List ℕ) → is_ascii_digit c ≡ false → is_name_byte c ≡ true
+    → lexeme_of (c ∷ rest) ≡ name_lexeme (c ∷ rest)
 unfolding lexeme_of
-name_first c rest digit is = fourth (c == 32 || c == 9) (c == 59) (is_ascii_digit c) (is_name_byte c) _ _ _ _ _ (no_blank c is) (no_semicolon c is) digit is
+name_first c rest digit is =
+    fourth (c == 32 || c == 9) (c == 59) (is_ascii_digit c) (is_name_byte c) _ _ _ _ _ (no_blank c is)
+    (no_semicolon c is) digit is
 
-name_ends : (at : ℕ) (text rest : List ℕ) (go : ℕ → Cut) → list_all is_name_byte text ≡ true → nat_le (length text) 31 ≡ true → after_lexeme at (name_lexeme (text ++ space ∷ rest)) go ≡ put_front (token_at at (record { what = what.Name; text = text }) ∷ []) (go (length text - 1))
+name_ends : (at : ℕ) (text rest : List ℕ) (go : ℕ → Cut) → list_all is_name_byte text ≡ true
+    → nat_le (length text) 31 ≡ true → after_lexeme at (name_lexeme (text ++ space ∷ rest)) go
+    ≡ put_front (token_at at (record { what = what.Name; text = text }) ∷ []) (go (length text - 1))
 name_ends at text rest go all few =
-    let run : prefix_len is_name_byte (text ++ space ∷ rest) ≡ length text = run_stops is_name_byte text space rest all refl in
+    let run : prefix_len is_name_byte (text ++ space ∷ rest) ≡ length text =
+    run_stops is_name_byte text space rest all refl in
     let low : nat_lt 31 (length text) ≡ false = at_most_31 (length text) few in
     rw run (rw low refl)
 
@@ -76,14 +86,19 @@ name_word text = record { what = what.Name; text = text }
 named : (text : List ℕ) → is_name text ≡ true → IsCut (name_word text)
 named [] h = absurd (cc h)
 named (c ∷ more) h =
-    let front = left (not (is_ascii_digit c) && nat_le (length (c ∷ more)) 31) (list_all cells.is_name_byte (c ∷ more)) h in
-    let digit : is_ascii_digit c ≡ false = not-true (is_ascii_digit c) (left (not (is_ascii_digit c)) (nat_le (length (c ∷ more)) 31) front) in
+    let front = left (not (is_ascii_digit c) && nat_le (length (c ∷ more)) 31) (list_all cells.is_name_byte (c ∷ more))
+    h in
+    let digit : is_ascii_digit c ≡ false =
+    not-true (is_ascii_digit c) (left (not (is_ascii_digit c)) (nat_le (length (c ∷ more)) 31) front) in
     let few = right (not (is_ascii_digit c)) (nat_le (length (c ∷ more)) 31) front in
-    let all : list_all is_name_byte (c ∷ more) ≡ true = sym (all_same cells.is_name_byte is_name_byte same_byte (c ∷ more)) ∙ right (not (is_ascii_digit c) && nat_le (length (c ∷ more)) 31) (list_all cells.is_name_byte (c ∷ more)) h in
+    let all : list_all is_name_byte (c ∷ more) ≡ true =
+    sym (all_same cells.is_name_byte is_name_byte same_byte (c ∷ more))
+    ∙ right (not (is_ascii_digit c) && nat_le (length (c ∷ more)) 31) (list_all cells.is_name_byte (c ∷ more)) h in
     record {
       some = omega arith;
       front = λ at rest go.
-          ap (λ l. after_lexeme at l go) (name_first c (more ++ space ∷ rest) digit (left (is_name_byte c) (list_all is_name_byte more) all))
+          ap (λ l. after_lexeme at l go)
+          (name_first c (more ++ space ∷ rest) digit (left (is_name_byte c) (list_all is_name_byte more) all))
           ∙ name_ends at (c ∷ more) rest go all few;
     }
 
@@ -103,7 +118,8 @@ abbrev pub number_word : ℕ → Word
 number_word n = record { what = what.Number n; text = number_text n }
 
 -- one more digit of a number
-pub digit_step : (v d : ℕ) (cs : List ℕ) → d < 16 → value_in 16 v (digit_glyph true d ∷ cs) ≡ value_in 16 (v * 16 + d) cs
+pub digit_step : (v d : ℕ) (cs : List ℕ) → d < 16
+    → value_in 16 v (digit_glyph true d ∷ cs) ≡ value_in 16 (v * 16 + d) cs
 digit_step v d cs low =
     let t : nat_lt d 16 ≡ true = grind (arith, common_steps) in
     ap (λ x. cond (nat_lt x 16) (value_in 16 (v * 16 + x) cs) None) (glyph_value d low)
@@ -145,7 +161,8 @@ number_run n h =
     let rd = glyph_run (b % 16) (omega arith) in
     rw ra (rw rb (rw rc (rw rd refl)))
 
-number_front : (n : ℕ) (rest : List ℕ) → lexeme_of (number_text n ++ space ∷ rest) ≡ number_lexeme (number_text n ++ space ∷ rest)
+number_front : (n : ℕ) (rest : List ℕ)
+    → lexeme_of (number_text n ++ space ∷ rest) ≡ number_lexeme (number_text n ++ space ∷ rest)
 unfolding lexeme_of
 number_front n rest = refl
 
@@ -155,8 +172,10 @@ number_cut n h = record {
   front = λ at rest go.
       let l = number_text n ++ space ∷ rest in
       ap (λ x. after_lexeme at x go) (number_front n rest)
-      ∙ ap (λ k. after_lexeme at (number_or_fault k (number_of (take k l))) go) (run_stops is_ascii_alphanumeric (number_text n) space rest (number_run n h) refl)
-      ∙ ap (λ t. after_lexeme at (number_or_fault (length (number_text n)) (number_of t)) go) (take-append_seam (number_text n) (space ∷ rest))
+      ∙ ap (λ k. after_lexeme at (number_or_fault k (number_of (take k l))) go)
+      (run_stops is_ascii_alphanumeric (number_text n) space rest (number_run n h) refl)
+      ∙ ap (λ t. after_lexeme at (number_or_fault (length (number_text n)) (number_of t)) go)
+      (take-append_seam (number_text n) (space ∷ rest))
       ∙ ap (λ o. after_lexeme at (number_or_fault (length (number_text n)) o) go) (printed_number n h);
 }
 
@@ -164,27 +183,35 @@ number_cut n h = record {
 abbrev pub text_word : List ℕ → Word
 text_word characters = record { what = what.Text; text = quote ∷ doubled characters ++ quote ∷ [] }
 
-one_more : (c : ℕ) (rest : List ℕ) → (c == quote) ≡ false → 0 < length rest → text_len (c ∷ rest) ≡ option_map (λ n. 1 + n) (text_len rest)
+one_more : (c : ℕ) (rest : List ℕ) → (c == quote) ≡ false → 0 < length rest
+    → text_len (c ∷ rest) ≡ option_map (λ n. 1 + n) (text_len rest)
 one_more c [] other some = absurd (omega (arith, some))
-one_more c (d ∷ more) other some = ap (λ b. cond b (cond (d == quote) (option_map (λ n. 2 + n) (text_len more)) (Some 1)) (option_map (λ n. 1 + n) (text_len (d ∷ more)))) other
+one_more c (d ∷ more) other some =
+    ap (λ b. cond b (cond (d == quote) (option_map (λ n. 2 + n) (text_len more)) (Some 1))
+    (option_map (λ n. 1 + n) (text_len (d ∷ more)))) other
 
 abbrev TextEnds : List ℕ → List ℕ → Type 0
 TextEnds inside rest = text_len (inside ++ quote ∷ space ∷ rest) ≡ Some (1 + length inside)
 
-text_goes : (c : ℕ) (more rest : List ℕ) (b : Bool) → (c == quote) ≡ b → TextEnds more rest → TextEnds (cond b (quote ∷ quote ∷ more) (c ∷ more)) rest
-text_goes c more rest true is h = ap (option_map (λ n. 2 + n)) h ∙ (let same : 2 + (1 + length more) ≡ 1 + length (quote ∷ quote ∷ more) = omega arith in ap Some same)
+text_goes : (c : ℕ) (more rest : List ℕ) (b : Bool) → (c == quote) ≡ b → TextEnds more rest
+    → TextEnds (cond b (quote ∷ quote ∷ more) (c ∷ more)) rest
+text_goes c more rest true is h = ap (option_map (λ n. 2 + n)) h
+    ∙ (let same : 2 + (1 + length more) ≡ 1 + length (quote ∷ quote ∷ more) = omega arith in ap Some same)
 text_goes c more rest false is h =
     one_more c (more ++ quote ∷ space ∷ rest) is (simp length-append (omega arith))
-    ∙ ap (option_map (λ n. 1 + n)) h ∙ (let same : 1 + (1 + length more) ≡ 1 + length (c ∷ more) = omega arith in ap Some same)
+    ∙ ap (option_map (λ n. 1 + n)) h
+    ∙ (let same : 1 + (1 + length more) ≡ 1 + length (c ∷ more) = omega arith in ap Some same)
 
 text_ends : (characters rest : List ℕ) → TextEnds (doubled characters) rest
 text_ends [] rest = refl
 text_ends (c ∷ more) rest = text_goes c (doubled more) rest (c == quote) refl (text_ends more rest)
 
-text_front : (characters rest : List ℕ) → text_len ((doubled characters ++ quote ∷ []) ++ space ∷ rest) ≡ Some (length (doubled characters ++ quote ∷ []))
+text_front : (characters rest : List ℕ) → text_len ((doubled characters ++ quote ∷ []) ++ space ∷ rest)
+    ≡ Some (length (doubled characters ++ quote ∷ []))
 text_front characters rest =
     ap text_len (append_assoc (doubled characters) (quote ∷ []) (space ∷ rest)) ∙ text_ends characters rest
-    ∙ (let same : 1 + length (doubled characters) ≡ length (doubled characters ++ quote ∷ []) = simp length-append (omega arith) in ap Some same)
+    ∙ (let same : 1 + length (doubled characters) ≡ length (doubled characters ++ quote ∷ []) =
+    simp length-append (omega arith) in ap Some same)
 
 pub text_cut : (characters : List ℕ) → IsCut (text_word characters)
 unfolding lexeme_of

@@ -13,5 +13,6 @@ below_128 byte h = grind (arith, nat_tests)
 pub line_is_ascii : (line : List ℕ) → list_all is_character line ≡ true → IsAscii line
 line_is_ascii [] h = IsAscii-nil
 line_is_ascii (byte ∷ line) h =
-    let parts : (is_character byte ≡ true) × (list_all is_character line ≡ true) = and_parts (is_character byte) (list_all is_character line) h in
+    let parts : (is_character byte ≡ true) × (list_all is_character line ≡ true) =
+    and_parts (is_character byte) (list_all is_character line) h in
     IsAscii-cons byte line (below_128 byte parts.0) (line_is_ascii line parts.1)

@@ -1,5 +1,6 @@
 -- Each line of a text is a line of its file.
-use Rattle.std.proofs.Common.{◌≡◌, ℕ, zero, suc, ◌+◌, ◌<◌, ◌≤◌, List, [], ◌∷◌, ◌++◌, length, take, slice_get, Option, Some, None, Result, Ok, Err, refl, ap, ◌∙◌, subst, arith, add-one}
+use Rattle.std.proofs.Common.{◌≡◌, ℕ, zero, suc, ◌+◌, ◌<◌, ◌≤◌, List, [], ◌∷◌, ◌++◌, length, take, slice_get, Option}
+use Rattle.std.proofs.Common.{Some, None, Result, Ok, Err, refl, ap, ◌∙◌, subst, arith, add-one}
 use Rattle.std.specs.List.{All, AllByRecursion}
 use Rattle.std.specs.Str.Lines.{lines}
 use Rattle.std.proofs.lemmas.List.Elements.{All-from_recursion}
@@ -10,12 +11,14 @@ use Rattle.m51_stmt.specs.Statement.{StmtTree}
 use Rattle.m51_text.specs.declared.inclusion.Inclusion.{Inclusion}
 use Rattle.m51_text.specs.declared.inclusion.Inclusion.TheVariants.{Nothing, Refused, Given}
 use Rattle.m51_text.specs.Said.{said}
-use Rattle.m51_text.specs.Text.{TextLine, lines_with, bytes_of, include_lines, inclusion_of, brought, file_lines, text_lines}
+use Rattle.m51_text.specs.Text.{TextLine, lines_with, bytes_of, include_lines, inclusion_of, brought, file_lines}
+use Rattle.m51_text.specs.Text.{text_lines}
 use Rattle.m51_text.specs.Faults.{faults_of}
 use Rattle.m51_text.specs.Answer.{LineTree, Lines, with_statement, statements_of, faults_or_lines, text_of}
 use Rattle.m51_text.specs.Laws.{bytes_in, IsLineOf, LinesAreOfFiles}
 
-all_append : {A : Type 0} (P : A → Type 0) (xs ys : List A) → AllByRecursion P xs → AllByRecursion P ys → AllByRecursion P (xs ++ ys)
+all_append : {A : Type 0} (P : A → Type 0) (xs ys : List A) → AllByRecursion P xs → AllByRecursion P ys
+    → AllByRecursion P (xs ++ ys)
 all_append P [] ys h k = k
 all_append P (x ∷ xs) ys h k = (h.0, all_append P xs ys h.1 k)
 
@@ -33,7 +36,8 @@ module _ (source : SourceFile) (includes : List SourceFile) where
   NumberedTree l = IsLineOf source includes l.file l.line
 
   -- the lines of a file from a number on
-  with_numbers : (more : List ℕ → List TextLine) → ((line : List ℕ) → AllByRecursion Numbered (more line)) → (levels file number : ℕ) (ls : List (List ℕ))
+  with_numbers : (more : List ℕ → List TextLine) → ((line : List ℕ) → AllByRecursion Numbered (more line))
+      → (levels file number : ℕ) (ls : List (List ℕ))
       → file ≤ length includes → 0 < number → number + length ls ≤ length (lines (bytes_in source includes file)) + 1
       → AllByRecursion Numbered (lines_with more levels file number ls)
   with_numbers more all levels file number [] within some room = tt
@@ -45,16 +49,21 @@ module _ (source : SourceFile) (includes : List SourceFile) where
       )
 
   -- those of an include, where there is one
-  of_include : (more : List ℕ → List TextLine) → ((line : List ℕ) → AllByRecursion Numbered (more line)) → (levels index : ℕ) (file : Option SourceFile)
-      → slice_get includes index ≡ file → AllByRecursion Numbered (lines_with more levels (index + 1) 1 (lines (bytes_of file)))
+  of_include : (more : List ℕ → List TextLine) → ((line : List ℕ) → AllByRecursion Numbered (more line))
+      → (levels index : ℕ) (file : Option SourceFile)
+      → slice_get includes index ≡ file
+      → AllByRecursion Numbered (lines_with more levels (index + 1) 1 (lines (bytes_of file)))
   of_include more all levels index None is = tt
   of_include more all levels index (Some file) is =
       let within : index < length includes = slice_get_within includes index file is in
       let same : length (lines (bytes_in source includes (index + 1))) ≡ length (lines file.bytes) =
-      ap (λ n. length (lines (bytes_in source includes n))) (add-one index) ∙ ap (λ o. length (lines (bytes_of o))) is in
-      with_numbers more all levels (index + 1) 1 (lines file.bytes) (omega (arith, within)) (omega arith) (omega (arith, same))
+      ap (λ n. length (lines (bytes_in source includes n))) (add-one index)
+      ∙ ap (λ o. length (lines (bytes_of o))) is in
+      with_numbers more all levels (index + 1) 1 (lines file.bytes) (omega (arith, within)) (omega arith)
+      (omega (arith, same))
 
-  of_inclusion : (more : List ℕ → List TextLine) → ((line : List ℕ) → AllByRecursion Numbered (more line)) → (levels : ℕ) (inclusion : Inclusion)
+  of_inclusion : (more : List ℕ → List TextLine) → ((line : List ℕ) → AllByRecursion Numbered (more line))
+      → (levels : ℕ) (inclusion : Inclusion)
       → AllByRecursion Numbered (include_lines includes more levels inclusion)
   of_inclusion more all levels (Given index) = of_include more all levels index (slice_get includes index) refl
   of_inclusion more all levels Refused = tt
@@ -64,15 +73,18 @@ module _ (source : SourceFile) (includes : List SourceFile) where
   of_brought : (levels : ℕ) (line : List ℕ) → AllByRecursion Numbered (brought includes levels line)
   unfolding brought
   of_brought zero line = tt
-  of_brought (suc levels) line = of_inclusion (brought includes levels) (of_brought levels) levels (inclusion_of includes (suc levels) (said line))
+  of_brought (suc levels) line =
+      of_inclusion (brought includes levels) (of_brought levels) levels (inclusion_of includes (suc levels) (said line))
 
   of_text : AllByRecursion Numbered (text_lines source includes)
   unfolding text_lines
   of_text =
       all_take Numbered 65536 (file_lines includes 8 0 source.bytes)
-      (with_numbers (brought includes 8) (of_brought 8) 8 0 1 (lines source.bytes) (omega arith) (omega arith) (omega arith))
+      (with_numbers (brought includes 8) (of_brought 8) 8 0 1 (lines source.bytes) (omega arith) (omega arith)
+      (omega arith))
 
-  one_statement : (l : TextLine) (r : Result StmtTree ℕ) (more : List LineTree) → Numbered l → AllByRecursion NumberedTree more → AllByRecursion NumberedTree (with_statement l r more)
+  one_statement : (l : TextLine) (r : Result StmtTree ℕ) (more : List LineTree) → Numbered l
+      → AllByRecursion NumberedTree more → AllByRecursion NumberedTree (with_statement l r more)
   one_statement l (Ok statement) more h all = (record { given = h.given; first = h.first; last = h.last }, all)
   one_statement l (Err number) more h all = all
 
@@ -86,8 +98,11 @@ module _ (source : SourceFile) (includes : List SourceFile) where
 
   pub numbered : (found : List LineTree) → text_of source includes ≡ Lines found → All NumberedTree found
   numbered found h =
-      let is : statements_of (text_lines source includes) ≡ found = found_are (faults_of includes (text_lines source includes)) (statements_of (text_lines source includes)) found h in
-      All-from_recursion NumberedTree found (subst (λ l. AllByRecursion NumberedTree l) is (of_statements (text_lines source includes) of_text))
+      let is : statements_of (text_lines source includes) ≡ found =
+      found_are (faults_of includes (text_lines source includes)) (statements_of (text_lines source includes)) found
+      h in
+      All-from_recursion NumberedTree found
+      (subst (λ l. AllByRecursion NumberedTree l) is (of_statements (text_lines source includes) of_text))
 
 pub lines_are_of_files : LinesAreOfFiles
 lines_are_of_files = λ source includes found h. numbered source includes found h

@@ -16,7 +16,8 @@ use Rattle.m51_flat.specs.Flags.{ct2, sm0, sm1, tr2}
 use Rattle.m51_timers_uart.specs.Levels.{falls}
 use Rattle.m51_timers_uart.specs.LineLaws.{IsBounded, LineIsBounded}
 use Rattle.m51_timers_uart.specs.Timer2.{Overflowed, counted_times, gives_rate, once_more, times2}
-use Rattle.m51_timers_uart.specs.Sending.{Ticked, begun, bit_time, bit_times, clocked, ended, growth, moved, sending_ticked, serial_mode}
+use Rattle.m51_timers_uart.specs.Sending.{Ticked, begun, bit_time, bit_times, clocked, ended, growth, moved}
+use Rattle.m51_timers_uart.specs.Sending.{sending_ticked, serial_mode}
 use Rattle.m51_timers_uart.specs.Tick.{ticked}
 
 -- a bit is 0 or 1
@@ -49,13 +50,15 @@ times_most : (levels : Levels) (cpu : Cpu) → times2 levels cpu ≤ 6
 unfolding times2
 times_most levels cpu =
     either_most 6 (not (flag cpu t2con tr2)) 0 _ (lit≤ tt)
-    (either_most 6 (flag cpu t2con ct2) (bit_of (falls levels T2)) _ (one_most _ 6 (bit_most (falls levels T2)) (lit≤ tt))
+    (either_most 6 (flag cpu t2con ct2) (bit_of (falls levels T2)) _
+    (one_most _ 6 (bit_most (falls levels T2)) (lit≤ tt))
     (either_most 6 (gives_rate cpu) 6 1 (lit≤ tt) (lit≤ tt)))
 
 growth_most : (cpu : Cpu) (mode : ℕ) (one : Bool) (two : ℕ) → two ≤ 6 → growth cpu mode one two ≤ 12
 unfolding growth
 growth_most cpu mode one two h =
-    either_most 12 _ 12 _ (lit≤ tt) (either_most 12 _ two _ (le_trans h (lit≤ tt)) (one_most _ 12 (bit_most one) (lit≤ tt)))
+    either_most 12 _ 12 _ (lit≤ tt)
+    (either_most 12 _ two _ (le_trans h (lit≤ tt)) (one_most _ 12 (bit_most one) (lit≤ tt)))
 
 time_most : (cpu : Cpu) (mode : ℕ) → bit_time cpu mode ≤ 64
 unfolding bit_time
@@ -100,7 +103,8 @@ record IsPassed (t : Ticked) : Type 0 where
 end_bounds : (cpu : Cpu) (q : Periph) → IsBounded q → IsPassed (ended cpu q)
 end_bounds cpu q b = cond_both (q.left == 0) _ _ IsPassed (λ e. record { passed = b }) (λ e. record { passed = b })
 
-line_bounds : (one : Bool) (two : ℕ) (cpu : Cpu) (p : Periph) → two ≤ 6 → IsBounded p → IsPassed (sending_ticked one two cpu p)
+line_bounds : (one : Bool) (two : ℕ) (cpu : Cpu) (p : Periph) → two ≤ 6 → IsBounded p
+    → IsPassed (sending_ticked one two cpu p)
 unfolding sending_ticked
 line_bounds one two cpu p h b =
     cond_both (p.left == 0) _ _ IsPassed
@@ -120,7 +124,8 @@ begin_bounds cpu byte p = record { left = bits_most (serial_mode cpu); mode = mo
 six : (levels : Levels) (cpu : Cpu) → (counted_times (times2 levels cpu) cpu).overflows ≤ 6
 six levels cpu = le_trans (counts_most (times2 levels cpu) cpu) (times_most levels cpu)
 
-tick_bounds : (cpu : Cpu) (ext : Pins) (fs : List Frame) (p : Periph) → IsBounded p → IsBounded (ticked cpu ext fs p).periph
+tick_bounds : (cpu : Cpu) (ext : Pins) (fs : List Frame) (p : Periph) → IsBounded p
+    → IsBounded (ticked cpu ext fs p).periph
 unfolding ticked
 tick_bounds cpu ext fs p b =
     let t = line_bounds _ _ _ p (six _ _) b in

@@ -1,10 +1,12 @@
 -- What the devices leave as it is: every part of a tick writes only registers of the devices.
-use Rattle.std.proofs.Common.{◌≡◌, ◌≢◌, ℕ, ◌-◌, ◌≤◌, Bool, true, false, cond, List, refl, slice_set, sym, ap, ◌∙◌, arith}
+use Rattle.std.proofs.Common.{◌≡◌, ◌≢◌, ℕ, ◌-◌, ◌≤◌, Bool, true, false, cond, List, refl, slice_set, sym, ap, ◌∙◌}
+use Rattle.std.proofs.Common.{arith}
 use Rattle.std.proofs.lemmas.Bool.{cond_both}
 use Rattle.std.proofs.lemmas.List.{get_or-set_other, length-set}
 use Rattle.m51_flat.specs.declared.state.Cpu.{Cpu}
 use Rattle.m51_flat.specs.Flags.{ti}
-use Rattle.m51_flat.specs.Sfr.{has_register, is_one_of, latch, with_bit, with_flag, with_latch, tcon, scon, t2con, th0, tl0, th1, tl1, th2, tl2, rcap2h, rcap2l, sbuf}
+use Rattle.m51_flat.specs.Sfr.{has_register, is_one_of, latch, with_bit, with_flag, with_latch, tcon, scon, t2con, th0}
+use Rattle.m51_flat.specs.Sfr.{tl0, th1, tl1, th2, tl2, rcap2h, rcap2l, sbuf}
 use Rattle.m51_timers_uart.specs.declared.counting.TimerBytes.{TimerBytes}
 use Rattle.m51_timers_uart.specs.KeptLaws.{KeepsBut, TheRestIsKept, device_registers}
 use Rattle.m51_timers_uart.specs.Timers.{with_bytes}
@@ -48,7 +50,8 @@ module _ (ws : List ℕ) where
   keeps_latch a v cpu h d =
       cond_both (has_register a) _ cpu (KeepsBut ws cpu) (λ e. written a v cpu h d) (λ e. keeps_chain.itself cpu)
 
-  pub keeps_flag : (a k : ℕ) (b : Bool) (cpu : Cpu) → 128 ≤ a → is_one_of ws a ≡ true → KeepsBut ws cpu (with_flag cpu a k b)
+  pub keeps_flag : (a k : ℕ) (b : Bool) (cpu : Cpu) → 128 ≤ a → is_one_of ws a ≡ true
+      → KeepsBut ws cpu (with_flag cpu a k b)
   unfolding with_flag
   keeps_flag a k b cpu h d = keeps_latch a (with_bit (latch cpu a) k b) cpu h d
 
@@ -56,10 +59,12 @@ module _ (ws : List ℕ) where
       → 128 ≤ high → is_one_of ws high ≡ true → 128 ≤ low → is_one_of ws low ≡ true
       → KeepsBut ws cpu (with_bytes high low t cpu)
   keeps_bytes high low t cpu hh dh hl dl =
-      keeps_chain.on cpu (with_latch cpu high t.high) _ (keeps_latch high t.high cpu hh dh) (keeps_latch low t.low _ hl dl)
+      keeps_chain.on cpu (with_latch cpu high t.high) _ (keeps_latch high t.high cpu hh dh)
+      (keeps_latch low t.low _ hl dl)
 
   -- each part of a tick, where its registers are among these
-  pub keeps_timer0 : is_one_of ws tcon ≡ true → is_one_of ws th0 ≡ true → is_one_of ws tl0 ≡ true → ByTimer0 (KeepsBut ws)
+  pub keeps_timer0 : is_one_of ws tcon ≡ true → is_one_of ws th0 ≡ true → is_one_of ws tl0 ≡ true
+      → ByTimer0 (KeepsBut ws)
   keeps_timer0 control high low = record {
     bytes = λ t cpu. keeps_bytes th0 tl0 t cpu (omega arith) high (omega arith) low;
     high = λ v cpu. keeps_latch th0 v cpu (omega arith) high;
@@ -67,7 +72,8 @@ module _ (ws : List ℕ) where
     flag1 = λ cpu. keeps_flag tcon _ true cpu (omega arith) control;
   }
 
-  pub keeps_timer1 : is_one_of ws tcon ≡ true → is_one_of ws th1 ≡ true → is_one_of ws tl1 ≡ true → ByTimer1 (KeepsBut ws)
+  pub keeps_timer1 : is_one_of ws tcon ≡ true → is_one_of ws th1 ≡ true → is_one_of ws tl1 ≡ true
+      → ByTimer1 (KeepsBut ws)
   keeps_timer1 control high low = record {
     bytes = λ t cpu. keeps_bytes th1 tl1 t cpu (omega arith) high (omega arith) low;
     flag1 = λ cpu. keeps_flag tcon _ true cpu (omega arith) control;
@@ -85,7 +91,8 @@ module _ (ws : List ℕ) where
   pub keeps_ti : is_one_of ws scon ≡ true → (cpu : Cpu) → KeepsBut ws cpu (with_flag cpu scon ti true)
   keeps_ti control cpu = keeps_flag scon ti true cpu (omega arith) control
 
-  pub keeps_inputs : is_one_of ws tcon ≡ true → is_one_of ws scon ≡ true → is_one_of ws sbuf ≡ true → ByInputs (KeepsBut ws)
+  pub keeps_inputs : is_one_of ws tcon ≡ true → is_one_of ws scon ≡ true → is_one_of ws sbuf ≡ true
+      → ByInputs (KeepsBut ws)
   keeps_inputs timers line byte = record {
     byte = λ v cpu. keeps_latch sbuf v cpu (omega arith) byte;
     full = λ cpu. keeps_flag scon _ true cpu (omega arith) line;

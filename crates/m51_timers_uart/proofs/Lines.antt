@@ -1,5 +1,6 @@
 -- Sending over many machine cycles.
-use Rattle.std.proofs.Common.{◌≡◌, ◌≢◌, ℕ, suc, ◌+◌, ◌-◌, ◌≤◌, Bool, true, cond, List, [], ◌∷◌, length, refl, sym, arith, subst, zero-add}
+use Rattle.std.proofs.Common.{◌≡◌, ◌≢◌, ℕ, suc, ◌+◌, ◌-◌, ◌≤◌, Bool, true, cond, List, [], ◌∷◌, length, refl, sym}
+use Rattle.std.proofs.Common.{arith, subst, zero-add}
 use Rattle.std.specs.Prelude.{Option, Some, None, IfSome, IsSome, ◌==◌, nat_le}
 use Rattle.std.proofs.lemmas.Bool.{cond_both, eqb-true, eqb-false}
 use Rattle.std.proofs.lemmas.Grind.{common_steps}
@@ -8,8 +9,10 @@ use Rattle.m51_flat.specs.Sfr.{flag, scon}
 use Rattle.m51_flat.specs.Flags.{tb8}
 use Rattle.m51_timers_uart.specs.declared.periph.Periph.{Periph}
 use Rattle.m51_timers_uart.specs.declared.periph.Sent.{Sent}
-use Rattle.m51_timers_uart.specs.Sending.{begun, bit_time, bit_times, clocked, ended, growth, has_ninth, moved, sending_ticked, serial_mode}
-use Rattle.m51_timers_uart.specs.LineLaws.{AreQuiet, OneByteIsSent, Cycle, HasNinth, NinthBitsAreApart, OneBitPasses, PassesOneBit, after_cycles, cycled, written_to}
+use Rattle.m51_timers_uart.specs.Sending.{begun, bit_time, bit_times, clocked, ended, growth, has_ninth, moved}
+use Rattle.m51_timers_uart.specs.Sending.{sending_ticked, serial_mode}
+use Rattle.m51_timers_uart.specs.LineLaws.{AreQuiet, OneByteIsSent, Cycle, HasNinth, NinthBitsAreApart, OneBitPasses}
+use Rattle.m51_timers_uart.specs.LineLaws.{PassesOneBit, after_cycles, cycled, written_to}
 use Rattle.m51_timers_uart.specs.Tick.{ticked}
 
 -- what a tick does to the byte on its way
@@ -63,7 +66,11 @@ end_passes cpu p q ne m =
       mode = m.mode;
       byte = m.byte;
       ninth = m.ninth;
-      sent = (same_byte q.byte p.byte q.ninth p.ninth m.byte m.ninth, last p.left q.left ne m.least (eqb-true q.left 0 e), eqb-true q.left 0 e);
+      sent = (
+        same_byte q.byte p.byte q.ninth p.ninth m.byte m.ninth,
+        last p.left q.left ne m.least (eqb-true q.left 0 e),
+        eqb-true q.left 0 e,
+      );
     })
     (λ e. record { least = m.least; most = m.most; mode = m.mode; byte = m.byte; ninth = m.ninth; sent = tt })
 
@@ -102,7 +109,8 @@ write_ten : (k : ℕ) (cpu : Cpu) (o : Option ℕ) (p : Periph) → AreTen k p �
 write_ten k cpu None p g = g
 write_ten k cpu (Some byte) p g = begin_ten k cpu byte p
 
-tick_ten : (k : ℕ) (p q : Periph) → AreTen k p → p.left ≤ q.left + 1 → q.left ≤ p.left → q.ninth ≡ p.ninth → AreTen (k + 1) q
+tick_ten : (k : ℕ) (p q : Periph) → AreTen k p → p.left ≤ q.left + 1 → q.left ≤ p.left → q.ninth ≡ p.ninth
+    → AreTen (k + 1) q
 tick_ten k p q g least most same i ne =
     let was : p.left ≢ 0 = λ e. ne (omega (arith, e, most)) in
     let h : 10 ≤ p.left + k = g (subst (λ o. IsSome o) same i) was in
@@ -122,7 +130,8 @@ one_more k n m e = omega (arith, e)
 
 cycles_ten : (k n : ℕ) (cs : List Cycle) (p : Periph) → n ≡ k + length cs → AreTen k p → AreTen n (after_cycles cs p)
 cycles_ten k n [] p e g = subst (λ m. AreTen m p) (nothing_more k n e) g
-cycles_ten k n (c ∷ cs) p e g = cycles_ten (k + 1) n cs (cycled c p).periph (one_more k n (length cs) e) (cycle_ten k c p g)
+cycles_ten k n (c ∷ cs) p e g =
+    cycles_ten (k + 1) n cs (cycled c p).periph (one_more k n (length cs) e) (cycle_ten k c p g)
 
 -- the facts of a byte that was sent
 sent_last : (o : Option Sent) (p q : Periph) → IsSome o
@@ -146,10 +155,12 @@ pub ninth_bits_are_apart : NinthBitsAreApart
 ninth_bits_are_apart first last cs p began ended =
     let start = (cycled first p).periph in
     let one = one_bit_passes first.cpu first.ext first.frames (written_to first.cpu first.written p) in
-    let none : start.left ≡ 0 = sent_last (cycled first p).sent (written_to first.cpu first.written p) start began one.sent in
+    let none : start.left ≡ 0 =
+    sent_last (cycled first p).sent (written_to first.cpu first.written p) start began one.sent in
     let q = written_to last.cpu last.written (after_cycles cs start) in
     let two = one_bit_passes last.cpu last.ext last.frames q in
-    let facts = sent_ninth (cycled last (after_cycles cs start)).sent q (cycled last (after_cycles cs start)).periph ended two.sent in
+    let facts = sent_ninth (cycled last (after_cycles cs start)).sent q (cycled last (after_cycles cs start)).periph
+    ended two.sent in
     let run = cycles_ten 0 (length cs) cs start (sym (zero-add (length cs))) (λ i ne. absurd (ne none)) in
     let g = write_ten (length cs) last.cpu last.written (after_cycles cs start) run in
     nine q.left (length cs) facts.1 (g facts.0 (not_none q.left facts.1))
@@ -181,7 +192,8 @@ pub one_byte_is_sent : OneByteIsSent
 one_byte_is_sent first last cs p quiet still began =
     let start = (cycled first p).periph in
     let one = one_bit_passes first.cpu first.ext first.frames (written_to first.cpu first.written p) in
-    let none : start.left ≡ 0 = sent_last (cycled first p).sent (written_to first.cpu first.written p) start began one.sent in
+    let none : start.left ≡ 0 =
+    sent_last (cycled first p).sent (written_to first.cpu first.written p) start began one.sent in
     let q = written_to last.cpu last.written (after_cycles cs start) in
     let two = one_bit_passes last.cpu last.ext last.frames q in
     let left = quiet_write last.cpu last.written (after_cycles cs start) still (quiet_cycles cs start quiet none) in

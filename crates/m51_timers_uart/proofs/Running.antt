@@ -1,11 +1,13 @@
 -- A tick of timer 1 that runs free, and of what gives its rate.
-use Rattle.std.proofs.Common.{◌≡◌, ℕ, Bool, true, false, not, cond, List, [], ◌∷◌, length, refl, sym, subst, ap, ◌∙◌, lit<, lit≤}
+use Rattle.std.proofs.Common.{◌≡◌, ℕ, Bool, true, false, not, cond, List, [], ◌∷◌, length, refl, sym, subst, ap, ◌∙◌}
+use Rattle.std.proofs.Common.{lit<, lit≤}
 use Rattle.std.specs.Prelude.{◌==◌, ◌&&◌, ◌||◌}
 use Rattle.std.specs.Int.{bit_at}
 use Rattle.m51_flat.specs.declared.state.Cpu.{Cpu}
 use Rattle.m51_flat.specs.declared.state.Pins.{Pins}
 use Rattle.m51_flat.specs.Flags.{smod, tclk, tf0, tf1, ti, tr1}
-use Rattle.m51_flat.specs.Sfr.{flag, has_register, is_one_of, latch, pcon, scon, sbuf, t2con, tcon, th0, tl0, th1, tl1, th2, tl2, rcap2h, rcap2l, tmod, with_flag}
+use Rattle.m51_flat.specs.Sfr.{flag, has_register, is_one_of, latch, pcon, scon, sbuf, t2con, tcon, th0, tl0, th1, tl1}
+use Rattle.m51_flat.specs.Sfr.{th2, tl2, rcap2h, rcap2l, tmod, with_flag}
 use Rattle.m51_timers_uart.specs.declared.counting.Counted.{Counted}
 use Rattle.m51_timers_uart.specs.declared.counting.TimerMode.{TimerMode}
 use Rattle.m51_timers_uart.specs.declared.levels.Levels.{Levels}
@@ -19,11 +21,15 @@ use Rattle.m51_timers_uart.specs.RowLaws.{HasRate, RunsFree}
 use Rattle.m51_timers_uart.specs.Sending.{Ticked}
 use Rattle.m51_timers_uart.specs.Tick.{inputs_ticked, levels_met, ticked}
 use Rattle.m51_timers_uart.specs.Timer2.{timer2_ticked}
-use Rattle.m51_timers_uart.specs.Timers.{Timed, bytes_at, counted1, counts1, flagged, is_split, mode0, mode1, th0_ticked, timer0_ticked, timer1_ticked, timers_ticked, with_bytes}
-use Rattle.m51_timers_uart.proofs.Kept.{keeps_chain, keeps_flag, keeps_inputs, keeps_ti, keeps_timer0, keeps_timer1, keeps_timer2, the_rest_is_kept}
-use Rattle.m51_timers_uart.proofs.Spared.{IsBit, SameFlag, apart, bytes_stored, bytes_written, is_set, same_chain, spared_inputs, spared_ti, spared_timer0, spared_timer1, spared_timer2}
+use Rattle.m51_timers_uart.specs.Timers.{Timed, bytes_at, counted1, counts1, flagged, is_split, mode0, mode1}
+use Rattle.m51_timers_uart.specs.Timers.{th0_ticked, timer0_ticked, timer1_ticked, timers_ticked, with_bytes}
+use Rattle.m51_timers_uart.proofs.Kept.{keeps_chain, keeps_flag, keeps_inputs, keeps_ti, keeps_timer0, keeps_timer1}
+use Rattle.m51_timers_uart.proofs.Kept.{keeps_timer2, the_rest_is_kept}
+use Rattle.m51_timers_uart.proofs.Spared.{IsBit, SameFlag, apart, bytes_stored, bytes_written, is_set, same_chain}
+use Rattle.m51_timers_uart.proofs.Spared.{spared_inputs, spared_ti, spared_timer0, spared_timer1, spared_timer2}
 use Rattle.m51_timers_uart.proofs.Told.{mode_kept, th0_stays}
-use Rattle.m51_timers_uart.proofs.Walk.{after_timer1, alone_keeps, clocks_keep, first_keeps, flagged_keeps, inputs_keep, tick_keeps, timer0_keeps, timer1_keeps}
+use Rattle.m51_timers_uart.proofs.Walk.{after_timer1, alone_keeps, clocks_keep, first_keeps, flagged_keeps, inputs_keep}
+use Rattle.m51_timers_uart.proofs.Walk.{tick_keeps, timer0_keeps, timer1_keeps}
 
 -- the bits that matter
 tr1_there : IsBit tcon tr1
@@ -49,7 +55,8 @@ tl1_there = record { low = lit≤ tt; high = lit< tt; there = refl; itself = ref
 -- TR1 and TCLK after a tick, and after its clocks
 tr1_first : (levels : Levels) (cpu : Cpu) → SameFlag tcon tr1 cpu (th0_ticked (timer0_ticked levels cpu))
 tr1_first levels cpu =
-    first_keeps (SameFlag tcon tr1) (same_chain tcon tr1) (spared_timer0 tcon tr1 tr1_there refl refl refl refl) levels cpu
+    first_keeps (SameFlag tcon tr1) (same_chain tcon tr1) (spared_timer0 tcon tr1 tr1_there refl refl refl refl) levels
+    cpu
 
 tr1_kept : (cpu : Cpu) (ext : Pins) (fs : List Frame) (p : Periph) → SameFlag tcon tr1 cpu (ticked cpu ext fs p).cpu
 tr1_kept cpu ext fs p =
@@ -57,26 +64,32 @@ tr1_kept cpu ext fs p =
     (spared_timer1 tcon tr1 tr1_there refl refl refl) (spared_timer2 tcon tr1 tr1_there refl refl refl refl refl refl)
     (spared_ti tcon tr1 tr1_there refl) (spared_inputs tcon tr1 tr1_there refl refl refl refl refl) cpu ext fs p
 
-tclk_clocked : (levels : Levels) (cpu : Cpu) → SameFlag t2con tclk cpu (timer2_ticked levels (timers_ticked levels cpu).cpu).cpu
+tclk_clocked : (levels : Levels) (cpu : Cpu)
+    → SameFlag t2con tclk cpu (timer2_ticked levels (timers_ticked levels cpu).cpu).cpu
 tclk_clocked levels cpu =
     clocks_keep (SameFlag t2con tclk) (same_chain t2con tclk) (spared_timer0 t2con tclk tclk_there refl refl refl refl)
-    (spared_timer1 t2con tclk tclk_there refl refl refl) (spared_timer2 t2con tclk tclk_there refl refl refl refl refl refl) levels cpu
+    (spared_timer1 t2con tclk tclk_there refl refl refl)
+    (spared_timer2 t2con tclk tclk_there refl refl refl refl refl refl) levels cpu
 
 tclk_kept : (cpu : Cpu) (ext : Pins) (fs : List Frame) (p : Periph) → SameFlag t2con tclk cpu (ticked cpu ext fs p).cpu
 tclk_kept cpu ext fs p =
     tick_keeps (SameFlag t2con tclk) (same_chain t2con tclk) (spared_timer0 t2con tclk tclk_there refl refl refl refl)
-    (spared_timer1 t2con tclk tclk_there refl refl refl) (spared_timer2 t2con tclk tclk_there refl refl refl refl refl refl)
+    (spared_timer1 t2con tclk tclk_there refl refl refl)
+    (spared_timer2 t2con tclk tclk_there refl refl refl refl refl refl)
     (spared_ti t2con tclk tclk_there refl) (spared_inputs t2con tclk tclk_there refl refl refl refl refl) cpu ext fs p
 
 -- TI before sending, and after it
-pub ti_clocked : (levels : Levels) (cpu : Cpu) → SameFlag scon ti cpu (timer2_ticked levels (timers_ticked levels cpu).cpu).cpu
+pub ti_clocked : (levels : Levels) (cpu : Cpu)
+    → SameFlag scon ti cpu (timer2_ticked levels (timers_ticked levels cpu).cpu).cpu
 ti_clocked levels cpu =
     clocks_keep (SameFlag scon ti) (same_chain scon ti) (spared_timer0 scon ti ti_there refl refl refl refl)
-    (spared_timer1 scon ti ti_there refl refl refl) (spared_timer2 scon ti ti_there refl refl refl refl refl refl) levels cpu
+    (spared_timer1 scon ti ti_there refl refl refl) (spared_timer2 scon ti ti_there refl refl refl refl refl refl)
+    levels cpu
 
 pub ti_after : (levels : Levels) (fs : List Frame) (s : Ticked) → SameFlag scon ti s.cpu (inputs_ticked levels fs s).cpu
 ti_after levels fs s =
-    inputs_keep (SameFlag scon ti) (same_chain scon ti) (spared_inputs scon ti ti_there refl refl refl refl refl) levels fs s
+    inputs_keep (SameFlag scon ti) (same_chain scon ti) (spared_inputs scon ti ti_there refl refl refl refl refl) levels
+    fs s
 
 pub ti_set : (cpu : Cpu) → length cpu.regs ≡ 128 → flag (with_flag cpu scon ti true) scon ti ≡ true
 ti_set cpu n = is_set scon ti cpu ti_there n
@@ -90,7 +103,8 @@ mode_same : (old new : Cpu) → latch new tmod ≡ latch old tmod → mode1 new 
 unfolding flag
 mode_same old new e = ap (λ v. mode_of (bit_at v 5 == 1) (bit_at v 4 == 1)) e
 
-pub runs_on : (mode : TimerMode) (old new : Cpu) → latch new tmod ≡ latch old tmod → flag new tcon tr1 ≡ flag old tcon tr1
+pub runs_on : (mode : TimerMode) (old new : Cpu) → latch new tmod ≡ latch old tmod
+    → flag new tcon tr1 ≡ flag old tcon tr1
     → RunsFree mode old → RunsFree mode new
 runs_on mode old new e t f = record {
   mode_is = mode_same old new e ∙ f.mode_is;
@@ -109,10 +123,12 @@ all_open false s true false i true f a b d e = absurd (cc e)
 all_open false true true false i false f a b d e = refl
 all_open false false true false i false f a b d e = refl
 
-counts_free : (mode : TimerMode) (levels : Levels) (cpu : Cpu) → is_split mode ≡ false → RunsFree mode cpu → counts1 levels cpu ≡ true
+counts_free : (mode : TimerMode) (levels : Levels) (cpu : Cpu) → is_split mode ≡ false → RunsFree mode cpu
+    → counts1 levels cpu ≡ true
 unfolding counts1
 counts_free mode levels cpu h f =
-    all_open (is_split (mode1 cpu)) (is_split (mode0 cpu)) (flag cpu tcon tr1) (flag cpu tmod 7) (is_high levels Int1) (flag cpu tmod 6)
+    all_open (is_split (mode1 cpu)) (is_split (mode0 cpu)) (flag cpu tcon tr1) (flag cpu tmod 7) (is_high levels Int1)
+    (flag cpu tmod 6)
     (falls levels T1) (ap is_split f.mode_is ∙ h) f.runs f.gate f.counter
 
 timer1_free : (mode : TimerMode) (levels : Levels) (cpu : Cpu) → is_split mode ≡ false → RunsFree mode cpu
@@ -120,7 +136,8 @@ timer1_free : (mode : TimerMode) (levels : Levels) (cpu : Cpu) → is_split mode
 unfolding timer1_ticked
 timer1_free mode levels cpu h f =
     let stays : Timed = record { cpu = cpu; overflow = false } in
-    ap (λ b. cond b (counted1 (counted_in (mode1 cpu) (bytes_at th1 tl1 cpu)) cpu) stays) (counts_free mode levels cpu h f)
+    ap (λ b. cond b (counted1 (counted_in (mode1 cpu) (bytes_at th1 tl1 cpu)) cpu) stays)
+    (counts_free mode levels cpu h f)
     ∙ ap (λ m. counted1 (counted_in m (bytes_at th1 tl1 cpu)) cpu) f.mode_is
 
 -- what timer 0 and TH0 write, and what comes after timer 1
@@ -150,23 +167,32 @@ pub record IsCounted (c : Counted) (overflow : Bool) (new : Cpu) : Type 0 where
   pub bytes : bytes_at th1 tl1 new ≡ c.bytes
 
 -- what timer 1 makes of a cycle
-one_is : (mode : TimerMode) (levels : Levels) (cpu : Cpu) → is_split mode ≡ false → length cpu.regs ≡ 128 → RunsFree mode cpu
-    → timers_ticked levels cpu ≡ counted1 (counted_in mode (bytes_at th1 tl1 cpu)) (th0_ticked (timer0_ticked levels cpu))
+one_is : (mode : TimerMode) (levels : Levels) (cpu : Cpu) → is_split mode ≡ false → length cpu.regs ≡ 128
+    → RunsFree mode cpu
+    → timers_ticked levels cpu
+    ≡ counted1 (counted_in mode (bytes_at th1 tl1 cpu)) (th0_ticked (timer0_ticked levels cpu))
 one_is mode levels cpu h n f =
     let start = th0_ticked (timer0_ticked levels cpu) in
-    let before : KeepsBut of_timer0 cpu start = first_keeps (KeepsBut of_timer0) (keeps_chain of_timer0) (keeps_timer0 of_timer0 refl refl refl) levels cpu in
-    let free : RunsFree mode start = runs_on mode cpu start (before.latches tmod (lit≤ tt) refl) ((tr1_first levels cpu).bit n) f in
-    timer1_free mode levels start h free ∙ ap (λ t. counted1 (counted_in mode t) start) (bytes_same of_timer0 cpu start refl refl before)
+    let before : KeepsBut of_timer0 cpu start =
+    first_keeps (KeepsBut of_timer0) (keeps_chain of_timer0) (keeps_timer0 of_timer0 refl refl refl) levels cpu in
+    let free : RunsFree mode start =
+    runs_on mode cpu start (before.latches tmod (lit≤ tt) refl) ((tr1_first levels cpu).bit n) f in
+    timer1_free mode levels start h free
+    ∙ ap (λ t. counted1 (counted_in mode t) start) (bytes_same of_timer0 cpu start refl refl before)
 
-pub timer1_counts : (mode : TimerMode) (cpu : Cpu) (ext : Pins) (fs : List Frame) (p : Periph) → is_split mode ≡ false → length cpu.regs ≡ 128 → RunsFree mode cpu
-    → IsCounted (counted_in mode (bytes_at th1 tl1 cpu)) (timers_ticked (levels_met p cpu ext) cpu).overflow (ticked cpu ext fs p).cpu
+pub timer1_counts : (mode : TimerMode) (cpu : Cpu) (ext : Pins) (fs : List Frame) (p : Periph) → is_split mode ≡ false
+    → length cpu.regs ≡ 128 → RunsFree mode cpu
+    → IsCounted (counted_in mode (bytes_at th1 tl1 cpu)) (timers_ticked (levels_met p cpu ext) cpu).overflow
+    (ticked cpu ext fs p).cpu
 timer1_counts mode cpu ext fs p h n f =
     let levels = levels_met p cpu ext in
     let start = th0_ticked (timer0_ticked levels cpu) in
-    let before : KeepsBut of_timer0 cpu start = first_keeps (KeepsBut of_timer0) (keeps_chain of_timer0) (keeps_timer0 of_timer0 refl refl refl) levels cpu in
+    let before : KeepsBut of_timer0 cpu start =
+    first_keeps (KeepsBut of_timer0) (keeps_chain of_timer0) (keeps_timer0 of_timer0 refl refl refl) levels cpu in
     let one = one_is mode levels cpu h n f in
     let rest : KeepsBut after1 (timers_ticked levels cpu).cpu (ticked cpu ext fs p).cpu
-    = after_timer1 (KeepsBut after1) (keeps_chain after1) (keeps_timer2 after1 refl refl refl refl refl) (keeps_ti after1 refl)
+    = after_timer1 (KeepsBut after1) (keeps_chain after1) (keeps_timer2 after1 refl refl refl refl refl)
+    (keeps_ti after1 refl)
     (keeps_inputs after1 refl refl refl) cpu ext fs p in
     record {
       overflows = ap (λ (t : Timed). t.overflow) one;
@@ -192,23 +218,30 @@ unfolding flagged
 flag_set true cpu n = is_set tcon tf1 cpu tf1_there n
 flag_set false cpu n = refl
 
-tf1_first : (levels : Levels) (cpu : Cpu) → is_split (mode0 cpu) ≡ false → SameFlag tcon tf1 cpu (th0_ticked (timer0_ticked levels cpu))
+tf1_first : (levels : Levels) (cpu : Cpu) → is_split (mode0 cpu) ≡ false
+    → SameFlag tcon tf1 cpu (th0_ticked (timer0_ticked levels cpu))
 tf1_first levels cpu h =
     let first = timer0_ticked levels cpu in
-    let mode = mode_kept cpu first (timer0_keeps (KeepsBut device_registers) (keeps_chain device_registers) (keeps_timer0 device_registers refl refl refl) levels cpu) h in
+    let mode = mode_kept cpu first
+    (timer0_keeps (KeepsBut device_registers) (keeps_chain device_registers)
+    (keeps_timer0 device_registers refl refl refl) levels cpu) h in
     subst (SameFlag tcon tf1 cpu) (sym (th0_stays first mode))
-    (alone_keeps (SameFlag tcon tf1) (same_chain tcon tf1) (λ t c. bytes_stored tcon tf1 tf1_there th0 tl0 t c (lit≤ tt) (lit≤ tt) refl refl refl refl)
+    (alone_keeps (SameFlag tcon tf1) (same_chain tcon tf1)
+    (λ t c. bytes_stored tcon tf1 tf1_there th0 tl0 t c (lit≤ tt) (lit≤ tt) refl refl refl refl)
     (λ c. apart tcon tf1 tf1_there tcon tf0 true c (lit≤ tt) refl (lit< tt) refl) levels cpu)
 
-mode0_first : (levels : Levels) (cpu : Cpu) → is_split (mode0 cpu) ≡ false → is_split (mode0 (th0_ticked (timer0_ticked levels cpu))) ≡ false
+mode0_first : (levels : Levels) (cpu : Cpu) → is_split (mode0 cpu) ≡ false
+    → is_split (mode0 (th0_ticked (timer0_ticked levels cpu))) ≡ false
 mode0_first levels cpu h =
-    mode_kept cpu _ (first_keeps (KeepsBut device_registers) (keeps_chain device_registers) (keeps_timer0 device_registers refl refl refl) levels cpu) h
+    mode_kept cpu _ (first_keeps (KeepsBut device_registers) (keeps_chain device_registers)
+    (keeps_timer0 device_registers refl refl refl) levels cpu) h
 
 beside_none : (b s : Bool) → s ≡ false → (b && not s) ≡ b
 beside_none true s h = ap not h
 beside_none false s h = refl
 
-pub tf1_told : (mode : TimerMode) (cpu : Cpu) (ext : Pins) (fs : List Frame) (p : Periph) → is_split mode ≡ false → length cpu.regs ≡ 128 → RunsFree mode cpu
+pub tf1_told : (mode : TimerMode) (cpu : Cpu) (ext : Pins) (fs : List Frame) (p : Periph) → is_split mode ≡ false
+    → length cpu.regs ≡ 128 → RunsFree mode cpu
     → is_split (mode0 cpu) ≡ false
     → flag (ticked cpu ext fs p).cpu tcon tf1 ≡ ((counted_in mode (bytes_at th1 tl1 cpu)).overflow || flag cpu tcon tf1)
 tf1_told mode cpu ext fs p h n f split0 =
@@ -217,25 +250,30 @@ tf1_told mode cpu ext fs p h n f split0 =
     let c = counted_in mode (bytes_at th1 tl1 cpu) in
     let one : timers_ticked levels cpu ≡ counted1 c start = one_is mode levels cpu h n f in
     let first = tf1_first levels cpu split0 in
-    let bytes : SameFlag tcon tf1 start (with_bytes th1 tl1 c.bytes start) = bytes_stored tcon tf1 tf1_there th1 tl1 c.bytes start (lit≤ tt) (lit≤ tt) refl refl refl refl in
+    let bytes : SameFlag tcon tf1 start (with_bytes th1 tl1 c.bytes start) =
+    bytes_stored tcon tf1 tf1_there th1 tl1 c.bytes start (lit≤ tt) (lit≤ tt) refl refl refl refl in
     let size : length start.regs ≡ 128 = first.size ∙ n in
     let timer1 : KeepsBut device_registers cpu (timers_ticked levels cpu).cpu = kept_to_timer1 levels cpu in
     let rest : SameFlag tcon tf1 (timers_ticked levels cpu).cpu (ticked cpu ext fs p).cpu
-    = after_timer1 (SameFlag tcon tf1) (same_chain tcon tf1) (spared_timer2 tcon tf1 tf1_there refl refl refl refl refl refl)
+    = after_timer1 (SameFlag tcon tf1) (same_chain tcon tf1)
+    (spared_timer2 tcon tf1 tf1_there refl refl refl refl refl refl)
     (spared_ti tcon tf1 tf1_there refl) (spared_inputs tcon tf1 tf1_there refl refl refl refl refl) cpu ext fs p in
     rest.bit (timer1.size ∙ n)
     ∙ ap (λ (t : Timed). flag t.cpu tcon tf1) one
     ∙ flag_set (c.overflow && not (is_split (mode0 start))) (with_bytes th1 tl1 c.bytes start) (bytes.size ∙ size)
-    ∙ ap (λ b. b || flag (with_bytes th1 tl1 c.bytes start) tcon tf1) (beside_none c.overflow (is_split (mode0 start)) (mode0_first levels cpu split0))
+    ∙ ap (λ b. b || flag (with_bytes th1 tl1 c.bytes start) tcon tf1)
+    (beside_none c.overflow (is_split (mode0 start)) (mode0_first levels cpu split0))
     ∙ ap (λ b. c.overflow || b) (bytes.bit size ∙ first.bit n)
 
 -- after the tick it runs free still, and the rate is the same
-pub still_free : (mode : TimerMode) (cpu : Cpu) (ext : Pins) (fs : List Frame) (p : Periph) → length cpu.regs ≡ 128 → RunsFree mode cpu
+pub still_free : (mode : TimerMode) (cpu : Cpu) (ext : Pins) (fs : List Frame) (p : Periph) → length cpu.regs ≡ 128
+    → RunsFree mode cpu
     → RunsFree mode (ticked cpu ext fs p).cpu
 still_free mode cpu ext fs p n f =
     runs_on mode cpu _ ((the_rest_is_kept cpu ext fs p).latches tmod (lit≤ tt) refl) ((tr1_kept cpu ext fs p).bit n) f
 
-pub still_rated : (twice : Bool) (cpu : Cpu) (ext : Pins) (fs : List Frame) (p : Periph) → length cpu.regs ≡ 128 → HasRate twice cpu
+pub still_rated : (twice : Bool) (cpu : Cpu) (ext : Pins) (fs : List Frame) (p : Periph) → length cpu.regs ≡ 128
+    → HasRate twice cpu
     → HasRate twice (ticked cpu ext fs p).cpu
 still_rated twice cpu ext fs p n r = record {
   timer2 = (tclk_kept cpu ext fs p).bit n ∙ r.timer2;

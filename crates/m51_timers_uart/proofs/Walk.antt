@@ -6,7 +6,8 @@ use Rattle.std.proofs.lemmas.Bool.{cond_both}
 use Rattle.m51_flat.specs.declared.state.Cpu.{Cpu}
 use Rattle.m51_flat.specs.declared.state.Pins.{Pins}
 use Rattle.m51_flat.specs.Flags.{exf2, ie0, ie1, it0, it1, rb8, ri, tf0, tf1, tf2, ti}
-use Rattle.m51_flat.specs.Sfr.{with_flag, with_latch, tcon, scon, t2con, th0, tl0, th1, tl1, th2, tl2, rcap2h, rcap2l, sbuf}
+use Rattle.m51_flat.specs.Sfr.{with_flag, with_latch, tcon, scon, t2con, th0, tl0, th1, tl1, th2, tl2, rcap2h, rcap2l}
+use Rattle.m51_flat.specs.Sfr.{sbuf}
 use Rattle.m51_timers_uart.specs.declared.counting.Counted.{Counted}
 use Rattle.m51_timers_uart.specs.declared.counting.TimerBytes.{TimerBytes}
 use Rattle.m51_timers_uart.specs.declared.levels.Input.{Input}
@@ -19,8 +20,10 @@ use Rattle.m51_timers_uart.specs.External.{requested}
 use Rattle.m51_timers_uart.specs.Receiving.{frame_met, received, with_ninth}
 use Rattle.m51_timers_uart.specs.Sending.{Ticked, ended, moved, sending_ticked}
 use Rattle.m51_timers_uart.specs.Tick.{inputs_ticked, levels_met, ticked}
-use Rattle.m51_timers_uart.specs.Timer2.{Overflowed, counted2, counted_times, exchanged2, once_more, t2ex_heeded, timer2_ticked}
-use Rattle.m51_timers_uart.specs.Timers.{Timed, bytes_at, counted1, counts1, flagged, mode1, th0_ticked, timer0_ticked, timer1_ticked, timers_ticked, with_bytes}
+use Rattle.m51_timers_uart.specs.Timer2.{Overflowed, counted2, counted_times, exchanged2, once_more, t2ex_heeded}
+use Rattle.m51_timers_uart.specs.Timer2.{timer2_ticked}
+use Rattle.m51_timers_uart.specs.Timers.{Timed, bytes_at, counted1, counts1, flagged, mode1, th0_ticked, timer0_ticked}
+use Rattle.m51_timers_uart.specs.Timers.{timer1_ticked, timers_ticked, with_bytes}
 
 -- it holds of a processor and itself, and from one step to the next
 pub record IsChain (R : Cpu → Cpu → Type 0) : Type 0 where
@@ -63,7 +66,8 @@ module _ (R : Cpu → Cpu → Type 0) (chain : IsChain R) where
   unfolding flagged
   flagged_keeps b k cpu h = either_keeps cpu b _ cpu h (chain.itself cpu)
 
-  pub alone_keeps : ((t : TimerBytes) (cpu : Cpu) → R cpu (with_bytes th0 tl0 t cpu)) → ((cpu : Cpu) → R cpu (with_flag cpu tcon tf0 true))
+  pub alone_keeps : ((t : TimerBytes) (cpu : Cpu) → R cpu (with_bytes th0 tl0 t cpu))
+      → ((cpu : Cpu) → R cpu (with_flag cpu tcon tf0 true))
       → (levels : Levels) (cpu : Cpu) → R cpu (timer0_ticked levels cpu)
   unfolding timer0_ticked
   alone_keeps bytes flag0 levels cpu =
@@ -142,15 +146,18 @@ module _ (R : Cpu → Cpu → Type 0) (chain : IsChain R) where
 
   frames_keep : ByInputs R → (fs : List Frame) (cpu : Cpu) → R cpu (received fs cpu)
   frames_keep w [] cpu = chain.itself cpu
-  frames_keep w (f ∷ fs) cpu = chain.on cpu (frame_met f cpu) _ (frame_keeps w f cpu) (frames_keep w fs (frame_met f cpu))
+  frames_keep w (f ∷ fs) cpu =
+      chain.on cpu (frame_met f cpu) _ (frame_keeps w f cpu) (frames_keep w fs (frame_met f cpu))
 
-  request_keeps : (levels : Levels) (pin : Input) (it ask : ℕ) (cpu : Cpu) → ((b : Bool) → R cpu (with_flag cpu tcon ask b))
+  request_keeps : (levels : Levels) (pin : Input) (it ask : ℕ) (cpu : Cpu)
+      → ((b : Bool) → R cpu (with_flag cpu tcon ask b))
       → R cpu (requested levels pin it ask cpu)
   unfolding requested
   request_keeps levels pin it ask cpu h =
       either_keeps cpu _ _ _ (either_keeps cpu _ _ cpu (h true) (chain.itself cpu)) (h _)
 
-  pub inputs_keep : ByInputs R → (levels : Levels) (fs : List Frame) (s : Ticked) → R s.cpu (inputs_ticked levels fs s).cpu
+  pub inputs_keep : ByInputs R → (levels : Levels) (fs : List Frame) (s : Ticked)
+      → R s.cpu (inputs_ticked levels fs s).cpu
   inputs_keep w levels fs s =
       let frames = frames_keep w fs s.cpu in
       let int0 = chain.on s.cpu _ _ frames (request_keeps levels Int0 it0 ie0 _ (λ b. w.ask0 b _)) in
@@ -158,7 +165,8 @@ module _ (R : Cpu → Cpu → Type 0) (chain : IsChain R) where
 
   -- what comes after timer 1
   pub after_timer1 : ByTimer2 R → ((cpu : Cpu) → R cpu (with_flag cpu scon ti true)) → ByInputs R
-      → (cpu : Cpu) (ext : Pins) (fs : List Frame) (p : Periph) → R (timers_ticked (levels_met p cpu ext) cpu).cpu (ticked cpu ext fs p).cpu
+      → (cpu : Cpu) (ext : Pins) (fs : List Frame) (p : Periph)
+      → R (timers_ticked (levels_met p cpu ext) cpu).cpu (ticked cpu ext fs p).cpu
   unfolding ticked
   after_timer1 two ti inputs cpu ext fs p =
       let levels = levels_met p cpu ext in
@@ -166,7 +174,8 @@ module _ (R : Cpu → Cpu → Type 0) (chain : IsChain R) where
       let second = timer2_ticked levels one.cpu in
       let line = sending_ticked one.overflow second.overflows second.cpu p in
       chain.on one.cpu second.cpu _ (timer2_keeps two levels one.cpu)
-      (chain.on second.cpu line.cpu _ (sending_keeps ti one.overflow second.overflows second.cpu p) (inputs_keep inputs levels fs line))
+      (chain.on second.cpu line.cpu _ (sending_keeps ti one.overflow second.overflows second.cpu p)
+      (inputs_keep inputs levels fs line))
 
   -- what comes after timer 0 and TH0
   pub after_timer0 : ByTimer1 R → ByTimer2 R → ((cpu : Cpu) → R cpu (with_flag cpu scon ti true)) → ByInputs R
@@ -189,7 +198,8 @@ module _ (R : Cpu → Cpu → Type 0) (chain : IsChain R) where
       (chain.on start _ _ (timer1_keeps one levels start) (timer2_keeps two levels (timers_ticked levels cpu).cpu))
 
   -- the whole tick
-  pub tick_keeps : ByTimer0 R → ByTimer1 R → ByTimer2 R → ((cpu : Cpu) → R cpu (with_flag cpu scon ti true)) → ByInputs R
+  pub tick_keeps : ByTimer0 R → ByTimer1 R → ByTimer2 R → ((cpu : Cpu) → R cpu (with_flag cpu scon ti true))
+      → ByInputs R
       → (cpu : Cpu) (ext : Pins) (fs : List Frame) (p : Periph) → R cpu (ticked cpu ext fs p).cpu
   tick_keeps w one two ti inputs cpu ext fs p =
       chain.on cpu _ _ (first_keeps w (levels_met p cpu ext) cpu) (after_timer0 one two ti inputs cpu ext fs p)

@@ -18,8 +18,10 @@ use Rattle.m51_verbs.specs.Targets.{unkept_text}
 use Rattle.m51_verbs.specs.Carried.{status_told, IsWritten, IsEnded, IsUnkept, Unkept, UnkeptCut}
 
 -- a text that was written, and then another
-pub written_after : (status : Status) (front text : List ℕ) (before between after : SinkState) (result : Result Status Failed)
-    → Appends before.text between.text front → before.faults ≤ between.faults → IsWritten status text between after result
+pub written_after : (status : Status) (front text : List ℕ) (before between after : SinkState)
+    (result : Result Status Failed)
+    → Appends before.text between.text front → before.faults ≤ between.faults
+    → IsWritten status text between after result
     → IsWritten status (front ++ text) before after result
 written_after status front text before between after (Ok told) first later written =
     (written.0, Appends-trans before.text between.text after.text front text first written.1)
@@ -34,9 +36,11 @@ unkept_ended answer before after old new (Ok told) unkept written = Unkept writt
 unkept_ended answer before after old new (Err failed) unkept written = UnkeptCut refl unkept written.0 written.1
 
 -- a run, as its record is written
-pub run_written : {M : Type 0} (titles : List (List ℕ)) (machine : Machine M) (n : ℕ) (first now : State M) (old new : SinkState) (end : RunEnd)
+pub run_written : {M : Type 0} (titles : List (List ℕ)) (machine : Machine M) (n : ℕ) (first now : State M)
+    (old new : SinkState) (end : RunEnd)
     → Ended old.text new.text titles machine n first now end → (end ≡ ends.WriteFault → Rose old.faults new.faults)
-    → IsWritten (status_by (record_of machine n first).event) (record_text titles (record_of machine n first)) old new (status_after end)
+    → IsWritten (status_by (record_of machine n first).event) (record_text titles (record_of machine n first)) old new
+    (status_after end)
 run_written titles machine n first now old new ends.Finished ended fault = (rw (ended.event_is) refl, ended.text)
 run_written titles machine n first now old new (ends.Stopped event) ended fault = (rw (ended.event_is) refl, ended.text)
 run_written titles machine n first now old new ends.WriteFault ended fault = (fault refl, ended.front)

@@ -1,5 +1,7 @@
 -- Reading files one after the other.
-use Rattle.std.proofs.Common.{◌≡◌, ℕ, Err, zero, suc, ◌+◌, ◌<◌, ◌≤◌, nat_le, true, false, Bool, List, [], ◌∷◌, ◌++◌, length, take, drop, get_or, drop-cons, take-append-drop, Option, Some, None, refl, sym, ap, ◌∙◌, subst, arith, inl, inr, length-append, cond}
+use Rattle.std.proofs.Common.{◌≡◌, ℕ, Err, zero, suc, ◌+◌, ◌<◌, ◌≤◌, nat_le, true, false, Bool, List, [], ◌∷◌, ◌++◌}
+use Rattle.std.proofs.Common.{length, take, drop, get_or, drop-cons, take-append-drop, Option, Some, None, refl, sym}
+use Rattle.std.proofs.Common.{ap, ◌∙◌, subst, arith, inl, inr, length-append, cond}
 use Rattle.std.specs.Prelude.{IfSome, IsSomeAnd, Contains, slice_get}
 use Rattle.std.specs.List.{All}
 use Rattle.std.proofs.lemmas.Bool.Decides.{leb_tells}
@@ -12,7 +14,8 @@ use Rattle.m51_shelf.specs.declared.reading.FileReadError.TheVariants as errors
 use Rattle.m51_shelf.specs.Shelf.{Files}
 use Rattle.m51_shelf.specs.States.{ReadAt}
 use Rattle.m51_shelf.specs.Reading.{IsWhole, IsLong, IsRead}
-use Rattle.m51_verbs.specs.Reading.{Reading, Whole, TooLong, Absent, with_file, read_one, read_of, AreRead, AreReadOr, IsReached}
+use Rattle.m51_verbs.specs.Reading.{Reading, Whole, TooLong, Absent, with_file, read_one, read_of, AreRead, AreReadOr}
+use Rattle.m51_verbs.specs.Reading.{IsReached}
 
 -- contents before those of the files that are read next
 abbrev pub with_files : List (List ℕ) → Reading → Reading
@@ -27,7 +30,8 @@ whole_of (Absent name) = []
 
 if_whole : (b : Bool) (bytes : List ℕ) (this that rest : Reading) (contents : List (List ℕ))
     → ((more : List (List ℕ)) → this ≡ Whole more → that ≡ with_files more rest)
-    → cond b (with_file bytes this) TooLong ≡ Whole contents → cond b (with_file bytes that) TooLong ≡ with_files contents rest
+    → cond b (with_file bytes this) TooLong ≡ Whole contents
+    → cond b (with_file bytes that) TooLong ≡ with_files contents rest
 if_whole false bytes this that rest contents on h = absurd (cc h)
 if_whole true bytes (Whole more) that rest contents on h =
     let e : bytes ∷ more ≡ contents = ap whole_of h in
@@ -36,10 +40,12 @@ if_whole true bytes TooLong that rest contents on h = absurd (cc h)
 if_whole true bytes (Absent name) that rest contents on h = absurd (cc h)
 
 one_after : (name : List ℕ) (file : Option (List ℕ)) (this that rest : Reading) (contents : List (List ℕ))
-    → ((more : List (List ℕ)) → this ≡ Whole more → that ≡ with_files more rest) → read_one name file this ≡ Whole contents
+    → ((more : List (List ℕ)) → this ≡ Whole more → that ≡ with_files more rest)
+    → read_one name file this ≡ Whole contents
     → read_one name file that ≡ with_files contents rest
 one_after name None this that rest contents on h = absurd (cc h)
-one_after name (Some bytes) this that rest contents on h = if_whole (nat_le (length bytes) MOST_FILE_BYTES) bytes this that rest contents on h
+one_after name (Some bytes) this that rest contents on h =
+    if_whole (nat_le (length bytes) MOST_FILE_BYTES) bytes this that rest contents on h
 
 -- what follows files that were read whole
 pub read_after : (files : Files) (front rest contents : List (List ℕ)) → read_of files front ≡ Whole contents
@@ -73,20 +79,24 @@ beyond_test a b h =
     ]
 
 -- a file that exists and is within the limit, and one that is too long
-whole_one : (name : List ℕ) (file : Option (List ℕ)) (bytes : List ℕ) (rest : Reading) → file ≡ Some bytes → length bytes ≤ MOST_FILE_BYTES
+whole_one : (name : List ℕ) (file : Option (List ℕ)) (bytes : List ℕ) (rest : Reading) → file ≡ Some bytes
+    → length bytes ≤ MOST_FILE_BYTES
     → read_one name file rest ≡ with_file bytes rest
 whole_one name file bytes rest is small = rw (is, within_test (length bytes) MOST_FILE_BYTES small) refl
 
-long_one : (name : List ℕ) (file : Option (List ℕ)) (rest : Reading) → IsSomeAnd file (λ bytes. MOST_FILE_BYTES < length bytes) → read_one name file rest ≡ TooLong
+long_one : (name : List ℕ) (file : Option (List ℕ)) (rest : Reading)
+    → IsSomeAnd file (λ bytes. MOST_FILE_BYTES < length bytes) → read_one name file rest ≡ TooLong
 long_one name None rest h = absurd h
 long_one name (Some bytes) rest h = rw (beyond_test (length bytes) MOST_FILE_BYTES h) refl
 
-one_more_held : (holds : Option Files) (front contents : List (List ℕ)) (name bytes : List ℕ) → length bytes ≤ MOST_FILE_BYTES
+one_more_held : (holds : Option Files) (front contents : List (List ℕ)) (name bytes : List ℕ)
+    → length bytes ≤ MOST_FILE_BYTES
     → IfSome holds (λ files. read_of files front ≡ Whole contents) → IfSome holds (λ files. files name ≡ Some bytes)
     → IfSome holds (λ files. read_of files (front ++ name ∷ []) ≡ Whole (contents ++ bytes ∷ []))
 one_more_held None front contents name bytes small h is = tt
 one_more_held (Some files) front contents name bytes small h is =
-    read_after files front (name ∷ []) contents h ∙ ap (with_files contents) (whole_one name (files name) bytes (Whole []) is small)
+    read_after files front (name ∷ []) contents h
+    ∙ ap (with_files contents) (whole_one name (files name) bytes (Whole []) is small)
     ∙ with_whole contents (bytes ∷ [])
 
 all_one : (P : List ℕ → Type 0) (x : List ℕ) → P x → All P (x ∷ [])
@@ -94,26 +104,35 @@ all_one P x h zero d low = h
 all_one P x h (suc k) d low = absurd (omega (arith, low))
 
 -- one more file that was read whole
-pub one_more : (holds : Option Files) (front contents : List (List ℕ)) (name bytes : List ℕ) (after : ReadAt) → AreRead holds front contents
+pub one_more : (holds : Option Files) (front contents : List (List ℕ)) (name bytes : List ℕ) (after : ReadAt)
+    → AreRead holds front contents
     → IsWhole holds after bytes → after.named ≡ name → AreRead holds (front ++ name ∷ []) (contents ++ bytes ∷ [])
 one_more holds front contents name bytes after read whole named = record {
   count = length-append contents (bytes ∷ []) ∙ ap (λ n. n + 1) read.count ∙ sym (length-append front (name ∷ []));
-  within = All-append (λ b. length b ≤ MOST_FILE_BYTES) contents (bytes ∷ []) read.within (all_one (λ b. length b ≤ MOST_FILE_BYTES) bytes whole.within);
-  held = one_more_held holds front contents name bytes whole.within read.held (subst (λ n. IfSome holds (λ files. files n ≡ Some bytes)) named whole.held);
+  within = All-append (λ b. length b ≤ MOST_FILE_BYTES) contents (bytes ∷ []) read.within
+      (all_one (λ b. length b ≤ MOST_FILE_BYTES) bytes whole.within);
+  held = one_more_held holds front contents name bytes whole.within read.held
+      (subst (λ n. IfSome holds (λ files. files n ≡ Some bytes)) named whole.held);
 }
 
 -- a file that is too long, after files that were read whole
-pub long_after : (files : Files) (names : List (List ℕ)) (after : ReadAt) → IsReached (Some files) names after.named → IsLong (Some files) after
+pub long_after : (files : Files) (names : List (List ℕ)) (after : ReadAt) → IsReached (Some files) names after.named
+    → IsLong (Some files) after
     → read_of files names ≡ TooLong
 long_after files names after reached long =
-    ap (read_of files) reached.is ∙ read_after files reached.front (after.named ∷ reached.rest) reached.contents reached.read.held
-    ∙ ap (with_files reached.contents) (long_one after.named (files after.named) (read_of files reached.rest) long.held) ∙ with_long reached.contents
+    ap (read_of files) reached.is ∙ read_after files reached.front (after.named ∷ reached.rest) reached.contents
+    reached.read.held
+    ∙ ap (with_files reached.contents) (long_one after.named (files after.named) (read_of files reached.rest) long.held)
+    ∙ with_long reached.contents
 
 -- the name at an index
-pub at_index : (names : List (List ℕ)) (index : ℕ) (name : List ℕ) → index < length names → name ≡ get_or names index name
+pub at_index : (names : List (List ℕ)) (index : ℕ) (name : List ℕ) → index < length names
+    → name ≡ get_or names index name
     → names ≡ take index names ++ name ∷ drop (suc index) names
 at_index names index name low is =
-    sym (take-append-drop index names) ∙ ap (λ rest. take index names ++ rest) (drop-cons names index name low ∙ ap (λ n. n ∷ drop (suc index) names) (sym is))
+    sym (take-append-drop index names)
+    ∙ ap (λ rest. take index names ++ rest)
+    (drop-cons names index name low ∙ ap (λ n. n ∷ drop (suc index) names) (sym is))
 
 -- the next names
 pub up_to : (names : List (List ℕ)) (index : ℕ) (name : List ℕ) → index < length names → name ≡ get_or names index name
@@ -121,31 +140,49 @@ pub up_to : (names : List (List ℕ)) (index : ℕ) (name : List ℕ) → index 
 up_to names index name low is = take_more names index name low ∙ ap (λ n. take index names ++ n ∷ []) (sym is)
 
 -- the file at an index is reached
-pub reached : (holds : Option Files) (names contents : List (List ℕ)) (index : ℕ) (name named : List ℕ) → index < length names
-    → AreRead holds (take index names) contents → name ≡ get_or names index name → named ≡ name → IsReached holds names named
+pub reached : (holds : Option Files) (names contents : List (List ℕ)) (index : ℕ) (name named : List ℕ)
+    → index < length names
+    → AreRead holds (take index names) contents → name ≡ get_or names index name → named ≡ name
+    → IsReached holds names named
 reached holds names contents index name named low read is same =
     subst (λ n. IsReached holds names n) (sym same)
-    (record { front = take index names; rest = drop (suc index) names; contents = contents; is = at_index names index name low is; read = read })
+    (record {
+      front = take index names;
+      rest = drop (suc index) names;
+      contents = contents;
+      is = at_index names index name low is;
+      read = read;
+    })
 
 -- and one more name is read
-pub read_more : (holds : Option Files) (names contents more : List (List ℕ)) (index : ℕ) (name bytes : List ℕ) (after : ReadAt) → index < length names
-    → AreRead holds (take index names) contents → name ≡ get_or names index name → after.named ≡ name → IsWhole holds after bytes
+pub read_more : (holds : Option Files) (names contents more : List (List ℕ)) (index : ℕ) (name bytes : List ℕ)
+    (after : ReadAt) → index < length names
+    → AreRead holds (take index names) contents → name ≡ get_or names index name → after.named ≡ name
+    → IsWhole holds after bytes
     → more ≡ contents ++ bytes ∷ [] → AreRead holds (take (index + 1) names) more
 read_more holds names contents more index name bytes after low read is named whole items =
-    rw (up_to names index name low is, items) (one_more holds (take index names) contents name bytes after read whole named)
+    rw (up_to names index name low is, items)
+    (one_more holds (take index names) contents name bytes after read whole named)
 
-pub named_there : (names : List (List ℕ)) (index : ℕ) (name named : List ℕ) → index < length names → name ≡ get_or names index name → named ≡ name
+pub named_there : (names : List (List ℕ)) (index : ℕ) (name named : List ℕ) → index < length names
+    → name ≡ get_or names index name → named ≡ name
     → slice_get names index ≡ Some named
-named_there names index name named low is same = slice_get-get_or names index name low ∙ ap (λ n. Some n) (sym is ∙ sym same)
+named_there names index name named low is same = slice_get-get_or names index name low
+    ∙ ap (λ n. Some n) (sym is ∙ sym same)
 
-pub named_among : (names : List (List ℕ)) (index : ℕ) (name named : List ℕ) → index < length names → name ≡ get_or names index name → named ≡ name
+pub named_among : (names : List (List ℕ)) (index : ℕ) (name named : List ℕ) → index < length names
+    → name ≡ get_or names index name → named ≡ name
     → Contains names named
-named_among names index name named low is same = subst (λ n. Contains names n) (sym is ∙ sym same) (Contains-get_or names index name low)
+named_among names index name named low is same =
+    subst (λ n. Contains names n) (sym is ∙ sym same) (Contains-get_or names index name low)
 
 -- The file at an index was not read whole.
-pub unread : (holds : Option Files) (names contents : List (List ℕ)) (index : ℕ) (name : List ℕ) (first before after : ReadAt) (error : FileReadError)
-    → index < length names → AreRead holds (take index names) contents → name ≡ get_or names index name → after.named ≡ name
-    → first.faults ≤ before.faults → IsRead holds before after (Err error) → AreReadOr holds names contents first after (Err error)
+pub unread : (holds : Option Files) (names contents : List (List ℕ)) (index : ℕ) (name : List ℕ)
+    (first before after : ReadAt) (error : FileReadError)
+    → index < length names → AreRead holds (take index names) contents → name ≡ get_or names index name
+    → after.named ≡ name
+    → first.faults ≤ before.faults → IsRead holds before after (Err error)
+    → AreReadOr holds names contents first after (Err error)
 unread holds names contents index name first before after errors.TooLong low read is same later long =
     (long, reached holds names contents index name after.named low read is same)
 unread holds names contents index name first before after errors.Failed low read is same later failed =

@@ -15,8 +15,17 @@ returns-then-not-is_empty c = λ a f.
     let lines = map line_tree c.args.named.now.lines.now in
     let placed = c.requires.placed a f in
     let h : IsGivenTo lines a (length lines) c.in_ok-contents.contents =
-    c.in_ok-contents.ensures lines a (record { read = refl; fits = f; names = c.requires.names; predefined = c.requires.predefined; placed = placed; numbered = c.in_ok-numbering.ensures a f }) in
-    faults_answer c.args.file.now lines a placed.free c.in_ok-contents.contents.faults (all_faults lines a c.in_ok-contents.contents h)
+    c.in_ok-contents.ensures lines a
+    (record {
+      read = refl;
+      fits = f;
+      names = c.requires.names;
+      predefined = c.requires.predefined;
+      placed = placed;
+      numbered = c.in_ok-numbering.ensures a f;
+    }) in
+    faults_answer c.args.file.now lines a placed.free c.in_ok-contents.contents.faults
+    (all_faults lines a c.in_ok-contents.contents h)
     (sym c.is_empty.ensures ∙ c.if-not-is_empty.true)
 
 pub gather_lines-requires-clause-counted : goal.gather_lines-requires-clause-counted
@@ -25,7 +34,15 @@ gather_lines-requires-clause-counted c =
     let a = fitting lines in
     let placed = c.requires.placed a (fits lines) in
     let h : IsGivenTo lines a (length lines) c.in_ok-contents.contents =
-    c.in_ok-contents.ensures lines a (record { read = refl; fits = fits lines; names = c.requires.names; predefined = c.requires.predefined; placed = placed; numbered = c.in_ok-numbering.ensures a (fits lines) }) in
+    c.in_ok-contents.ensures lines a
+    (record {
+      read = refl;
+      fits = fits lines;
+      names = c.requires.names;
+      predefined = c.requires.predefined;
+      placed = placed;
+      numbered = c.in_ok-numbering.ensures a (fits lines);
+    }) in
     ap length c.as_slice.ensures ∙ h.counted ∙ length-map c.args.named.now.lines.now line_tree
 
 pub gather_lines-requires-clause-given : goal.gather_lines-requires-clause-given
@@ -33,10 +50,26 @@ gather_lines-requires-clause-given c = λ a f.
     let lines = map line_tree c.args.named.now.lines.now in
     let placed = c.requires.placed a f in
     let h : IsGivenTo lines a (length lines) c.in_ok-contents.contents =
-    c.in_ok-contents.ensures lines a (record { read = refl; fits = f; names = c.requires.names; predefined = c.requires.predefined; placed = placed; numbered = c.in_ok-numbering.ensures a f }) in
+    c.in_ok-contents.ensures lines a
+    (record {
+      read = refl;
+      fits = f;
+      names = c.requires.names;
+      predefined = c.requires.predefined;
+      placed = placed;
+      numbered = c.in_ok-numbering.ensures a f;
+    }) in
     record {
-      ready = record { read = refl; fits = f; names = c.requires.names; predefined = c.requires.predefined; placed = placed; numbered = c.in_ok-numbering.ensures a f };
-      content = all_faults lines a c.in_ok-contents.contents h ∙ is_nothing c.in_ok-contents.contents.faults (sym c.is_empty.ensures ∙ c.if-not-is_empty.false);
+      ready = record {
+        read = refl;
+        fits = f;
+        names = c.requires.names;
+        predefined = c.requires.predefined;
+        placed = placed;
+        numbered = c.in_ok-numbering.ensures a f;
+      };
+      content = all_faults lines a c.in_ok-contents.contents h
+          ∙ is_nothing c.in_ok-contents.contents.faults (sym c.is_empty.ensures ∙ c.if-not-is_empty.false);
       each = subst (AreContents lines a) (sym c.as_slice.ensures) h.each;
     }
 
@@ -48,8 +81,17 @@ make-requires c =
     let placed = c.requires.placed a f in
     let numbered = c.in_ok-numbering.ensures a f in
     let h : IsGivenTo lines a (length lines) c.in_ok-contents.contents =
-    c.in_ok-contents.ensures lines a (record { read = refl; fits = f; names = c.requires.names; predefined = c.requires.predefined; placed = placed; numbered = numbered }) in
-    let none : content_faults lines a ≡ [] = all_faults lines a c.in_ok-contents.contents h ∙ is_nothing c.in_ok-contents.contents.faults (sym c.is_empty.ensures ∙ c.if-not-is_empty.false) in
+    c.in_ok-contents.ensures lines a
+    (record {
+      read = refl;
+      fits = f;
+      names = c.requires.names;
+      predefined = c.requires.predefined;
+      placed = placed;
+      numbered = numbered;
+    }) in
+    let none : content_faults lines a ≡ [] = all_faults lines a c.in_ok-contents.contents h
+    ∙ is_nothing c.in_ok-contents.contents.faults (sym c.is_empty.ensures ∙ c.if-not-is_empty.false) in
     let text = c.requires.text in
     subst IsValid (sym (c.in_ok-parts.ensures a placed.each numbered.segments h.publics (c.in_ok-content.ensures a f)))
     (valid_where text.source text.includes lines a text.read f placed.free none c.args.file.now)
@@ -60,8 +102,17 @@ returns c = λ a f.
     let placed = c.requires.placed a f in
     let numbered = c.in_ok-numbering.ensures a f in
     let h : IsGivenTo lines a (length lines) c.in_ok-contents.contents =
-    c.in_ok-contents.ensures lines a (record { read = refl; fits = f; names = c.requires.names; predefined = c.requires.predefined; placed = placed; numbered = numbered }) in
-    let none : content_faults lines a ≡ [] = all_faults lines a c.in_ok-contents.contents h ∙ is_nothing c.in_ok-contents.contents.faults (sym c.is_empty.ensures ∙ c.if-not-is_empty.false) in
+    c.in_ok-contents.ensures lines a
+    (record {
+      read = refl;
+      fits = f;
+      names = c.requires.names;
+      predefined = c.requires.predefined;
+      placed = placed;
+      numbered = numbered;
+    }) in
+    let none : content_faults lines a ≡ [] = all_faults lines a c.in_ok-contents.contents h
+    ∙ is_nothing c.in_ok-contents.contents.faults (sym c.is_empty.ensures ∙ c.if-not-is_empty.false) in
     module_answer c.args.file.now lines a placed.free c.make.result c.in_ok-contents.contents.rows none
     (c.make.ensures ∙ c.in_ok-parts.ensures a placed.each numbered.segments h.publics (c.in_ok-content.ensures a f))
     (all_rows lines a c.in_ok-contents.contents h)

@@ -16,7 +16,8 @@ place_lines-requires-clause-named c = few_names (map line_tree c.args.lines.now)
 pub bounds-lines-k : goal.bounds-lines-k
 bounds-lines-k c =
     let lines = map line_tree c.args.lines.now in
-    let h : IsFirstFault lines (fitting lines) c.in-Fault.k c.in-Fault.number = subst (IsPassed lines (fitting lines)) c.in-Fault.is (c.in_ok-k.ensures (fitting lines) (fits lines)) in
+    let h : IsFirstFault lines (fitting lines) c.in-Fault.k c.in-Fault.number =
+    subst (IsPassed lines (fitting lines)) c.in-Fault.is (c.in_ok-k.ensures (fitting lines) (fits lines)) in
     let within = h.within in
     let len = length-map c.args.lines.now line_tree in
     omega (arith, within, len)
@@ -24,7 +25,8 @@ bounds-lines-k c =
 pub offset_bounds-lines-k : goal.offset_bounds-lines-k
 offset_bounds-lines-k c =
     let lines = map line_tree c.args.lines.now in
-    let h : IsFirstFault lines (fitting lines) c.in-Fault.k c.in-Fault.number = subst (IsPassed lines (fitting lines)) c.in-Fault.is (c.in_ok-k.ensures (fitting lines) (fits lines)) in
+    let h : IsFirstFault lines (fitting lines) c.in-Fault.k c.in-Fault.number =
+    subst (IsPassed lines (fitting lines)) c.in-Fault.is (c.in_ok-k.ensures (fitting lines) (fits lines)) in
     let within = h.within in
     let len = length-map c.args.lines.now line_tree in
     let few = c.requires.few in
@@ -34,20 +36,24 @@ pub returns-in-Fault : goal.returns-in-Fault
 returns-in-Fault c =
     let lines = map line_tree c.args.lines.now in
     if_ok c.answer_fault.result _ _ (λ assembled e a f.
-    let h : IsFirstFault lines a c.in-Fault.k c.in-Fault.number = subst (IsPassed lines a) c.in-Fault.is (c.in_ok-k.ensures a f) in
+    let h : IsFirstFault lines a c.in-Fault.k c.in-Fault.number =
+    subst (IsPassed lines a) c.in-Fault.is (c.in_ok-k.ensures a f) in
     let within = h.within in
     let len = length-map c.args.lines.now line_tree in
     e ∙ sym (fault_answer c.args.file.now lines a c.in-Fault.k c.in-Fault.number (line_tree c.index-lines-k.result)
-    (line_at c.args.lines.now c.in-Fault.k c.index-lines-k.result (omega (arith, within, len)) c.index-lines-k.is) h)) c.answer_fault.ensures
+    (line_at c.args.lines.now c.in-Fault.k c.index-lines-k.result (omega (arith, within, len)) c.index-lines-k.is) h))
+    c.answer_fault.ensures
 
 pub answer_placed-requires-clause-counted : goal.answer_placed-requires-clause-counted
 answer_placed-requires-clause-counted c =
     let lines = map line_tree c.args.lines.now in
-    let h : IsPlaced lines (fitting lines) c.in-Stands.places c.in-Stands.end = subst (IsPassed lines (fitting lines)) c.in-Stands.is (c.in_ok-k.ensures (fitting lines) (fits lines)) in
+    let h : IsPlaced lines (fitting lines) c.in-Stands.places c.in-Stands.end =
+    subst (IsPassed lines (fitting lines)) c.in-Stands.is (c.in_ok-k.ensures (fitting lines) (fits lines)) in
     ap length c.as_slice.ensures ∙ h.counted ∙ length-map c.args.lines.now line_tree
 
 pub answer_placed-requires-clause-placed : goal.answer_placed-requires-clause-placed
 answer_placed-requires-clause-placed c = λ a f.
     let lines = map line_tree c.args.lines.now in
-    let h : IsPlaced lines a c.in-Stands.places c.in-Stands.end = subst (IsPassed lines a) c.in-Stands.is (c.in_ok-k.ensures a f) in
+    let h : IsPlaced lines a c.in-Stands.places c.in-Stands.end =
+    subst (IsPassed lines a) c.in-Stands.is (c.in_ok-k.ensures a f) in
     subst (λ places. IsPlaced lines a places c.in-Stands.end) (sym c.as_slice.ensures) h

@@ -24,5 +24,6 @@ loop-k-preserved c = λ a places.
 
 pub returns : goal.returns
 returns c = λ a places.
-    let same : c.loop-k.k ≡ length (map line_tree c.args.lines.now) = omega (arith, length-map c.args.lines.now line_tree) in
+    let same : c.loop-k.k ≡ length (map line_tree c.args.lines.now) =
+    omega (arith, length-map c.args.lines.now line_tree) in
     c.loop-k.invariant a places ∙ ap (is_selected (map line_tree c.args.lines.now) a c.args.bank) same

@@ -19,18 +19,22 @@ returns c = λ lines a k ready is stands h.
     let n = c.names_of-names.result in
     let e = c.names_of-names.ensures in
     let names : AreNamesAt lines a k n =
-    names_are lines a k t ready c.args.contents.now.set h.sets c.args.place.now stands n e.names e.kept e.set e.mod51 e.bank e.numbering
+    names_are lines a k t ready c.args.contents.now.set h.sets c.args.place.now stands n e.names e.kept e.set e.mod51
+    e.bank e.numbering
     (ap located_value e.place ∙ c.here_of-here.ensures) in
     let of = published_by t n in
     let told = c.in_ok-told.ensures in
-    next_given lines a k line is c.args.contents.now _ h (object_names n) c.args.place.now.form names.meanings stands.form of
+    next_given lines a k line is c.args.contents.now _ h (object_names n) c.args.place.now.form names.meanings
+    stands.form of
     (λ i name. published_is lines a t ready k n names name i) c.row_at.result c.in_ok-told.told.content
     (c.in_ok-take_set.ensures lines a k is stands h.sets)
     (ap (λ l. l.made) told)
-    (c.in_ok-unpublished.ensures.publics ∙ ap (λ ns. c.args.contents.now.publics ++ publics_among of ns) c.publics_in.ensures)
+    (c.in_ok-unpublished.ensures.publics ∙ ap (λ ns. c.args.contents.now.publics ++ publics_among of ns)
+    c.publics_in.ensures)
     (c.in_ok-push_fault.ensures
     ∙ ap (λ o. c.args.contents.now.faults ++ if_fault line o [])
-    (c.or_next.ensures ∙ (λ i. or_next ((ap (λ l. l.fault) told) i) ((c.in_ok-unpublished.ensures.fault ∙ ap (fault_among of) c.publics_in.ensures) i))))
+    (c.or_next.ensures ∙ (λ i. or_next ((ap (λ l. l.fault) told) i)
+    ((c.in_ok-unpublished.ensures.fault ∙ ap (fault_among of) c.publics_in.ensures) i))))
     c.in_ok-push.ensures.ok
     (c.row_at.ensures lines a k ready.fits stands)
     c.in_ok-push-2.ensures.ok

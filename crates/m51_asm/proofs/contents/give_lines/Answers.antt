@@ -16,10 +16,13 @@ loop-k-preserved c = λ lines a ready.
     let k = c.loop-k.k in
     let within : k < length read = omega arith in
     let room : k < length c.args.text.now.places.now = omega arith in
-    let said = subst (λ ls. slice_get ls k ≡ Some (line_tree c.line-item.result)) ready.read (line_at read k c.line-item.result within c.line-item.is) in
-    rw add-one (c.in_ok-give_line.ensures lines a k ready said (place_at lines a c.args.text.now.places.now k _ room ready.placed.each) (c.loop-k.invariant lines a ready))
+    let said = subst (λ ls. slice_get ls k ≡ Some (line_tree c.line-item.result)) ready.read
+    (line_at read k c.line-item.result within c.line-item.is) in
+    rw add-one (c.in_ok-give_line.ensures lines a k ready said
+    (place_at lines a c.args.text.now.places.now k _ room ready.placed.each) (c.loop-k.invariant lines a ready))
 
 pub returns : goal.returns
 returns c = λ lines a ready.
-    let same : c.loop-k.k ≡ length lines = omega (arith, length-map c.args.text.now.text.lines.now line_tree, ap length ready.read) in
+    let same : c.loop-k.k ≡ length lines =
+    omega (arith, length-map c.args.text.now.text.lines.now line_tree, ap length ready.read) in
     subst (λ n. IsGivenTo lines a n c.loop-k.contents) same (c.loop-k.invariant lines a ready)

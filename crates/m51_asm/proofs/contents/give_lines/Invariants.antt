@@ -7,4 +7,5 @@ use Rattle.m51_asm.proofs.contents.give_lines.Given as goal
 
 -- what the lines so far give
 abbrev pub invariant-loop-k : goal.invariant-loop-k
-invariant-loop-k l = (lines : List LineTree) (a : Assignment) → IsReady lines a l.text → IsGivenTo lines a l.k l.contents
+invariant-loop-k l = (lines : List LineTree) (a : Assignment) → IsReady lines a l.text
+    → IsGivenTo lines a l.k l.contents

@@ -7,7 +7,8 @@ use Rattle.m51_asm.specs.Numbering.{segment_filled, segment_added, as_list, next
 use Rattle.m51_asm.proofs.AnAssignment.{fitting, fits}
 use Rattle.m51_asm.proofs.GoodLines.{free_where}
 use Rattle.m51_asm.proofs.ReadLines.{line_at, place_at}
-use Rattle.m51_asm.proofs.NumberedSegments.{numbered_first, numbered_more, numbered_all, numbered_as, added_is, few_first, few_more}
+use Rattle.m51_asm.proofs.NumberedSegments.{numbered_first, numbered_more, numbered_all, numbered_as, added_is}
+use Rattle.m51_asm.proofs.NumberedSegments.{few_first, few_more}
 use Rattle.m51_asm.proofs.numbering.number_segments.Goals as goal
 
 pub add-requires : goal.add-requires
@@ -22,7 +23,8 @@ loop-k-init c = λ a f.
     numbered_as lines a 0 (as_list o) _ (0 ∷ next_number 0 o ∷ []) _ (numbered_first lines a o is)
     (c.in_ok-add.ensures.segments ∙ ap (λ s. s ++ as_list o) c.new-segments.ensures)
     (c.in_ok-add.ensures.numbers
-    ∙ (λ i. (c.in_ok-push.ensures.ok ∙ ap (λ ns. ns ++ 0 ∷ []) c.new-numbers.ensures) i ++ next_number (length (c.new-segments.ensures i)) o ∷ []))
+    ∙ (λ i. (c.in_ok-push.ensures.ok ∙ ap (λ ns. ns ++ 0 ∷ []) c.new-numbers.ensures) i
+    ++ next_number (length (c.new-segments.ensures i)) o ∷ []))
 
 pub add-requires-in-loop-k : goal.add-requires-in-loop-k
 add-requires-in-loop-k c =
@@ -38,7 +40,8 @@ add-requires-in-loop-k c =
     let o = c.segment_added-added.result in
     let is : o ≡ segment_added (size_of lines a) k (a.segment (suc k)) (body_at lines k) =
     c.segment_added-added.ensures
-    ∙ added_is lines a k _ _ _ placed.at.sizes (place_at lines a c.args.places.now k _ room placed.each).next (ap body_of (sym said)) in
+    ∙ added_is lines a k _ _ _ placed.at.sizes (place_at lines a c.args.places.now k _ room placed.each).next
+    (ap body_of (sym said)) in
     few_more lines a (free_where text.source text.includes lines a text.read f placed.free) k
     (omega (arith, within, length-map c.args.lines.now line_tree)) c.loop-k.segments o _
     (numbered_more lines a k c.loop-k.segments c.loop-k.numbers (c.loop-k.invariant a f) o is)
@@ -54,8 +57,10 @@ loop-k-preserved c = λ a f.
     let o = c.segment_added-added.result in
     let is : o ≡ segment_added (size_of lines a) k (a.segment (suc k)) (body_at lines k) =
     c.segment_added-added.ensures
-    ∙ added_is lines a k _ _ _ placed.at.sizes (place_at lines a c.args.places.now k _ room placed.each).next (ap body_of (sym said)) in
-    rw add-one (numbered_as lines a (suc k) (c.loop-k.segments ++ as_list o) _ (c.loop-k.numbers ++ next_number (length c.loop-k.segments) o ∷ []) _
+    ∙ added_is lines a k _ _ _ placed.at.sizes (place_at lines a c.args.places.now k _ room placed.each).next
+    (ap body_of (sym said)) in
+    rw add-one (numbered_as lines a (suc k) (c.loop-k.segments ++ as_list o) _
+    (c.loop-k.numbers ++ next_number (length c.loop-k.segments) o ∷ []) _
     (numbered_more lines a k c.loop-k.segments c.loop-k.numbers (c.loop-k.invariant a f) o is)
     c.in_ok-add-2.ensures.segments c.in_ok-add-2.ensures.numbers)
 
@@ -63,4 +68,5 @@ pub returns : goal.returns
 returns c = λ a f.
     let lines = map line_tree c.args.lines.now in
     let same : c.loop-k.k ≡ length lines = omega (arith, length-map c.args.lines.now line_tree) in
-    numbered_all lines a _ (subst (λ n. IsNumberedTo lines a n c.loop-k.segments c.loop-k.numbers) same (c.loop-k.invariant a f))
+    numbered_all lines a _
+    (subst (λ n. IsNumberedTo lines a n c.loop-k.segments c.loop-k.numbers) same (c.loop-k.invariant a f))

@@ -21,7 +21,8 @@ loop-k-init c = λ a f.
 
 pub returns-then-is_reached : goal.returns-then-is_reached
 returns-then-is_reached c = λ a f.
-    reached (map line_tree c.args.text.now.lines.now) a c.args.repeated c.loop-k.k c.requires.repeated (c.loop-k.invariant a f).free
+    reached (map line_tree c.args.text.now.lines.now) a c.args.repeated c.loop-k.k c.requires.repeated
+    (c.loop-k.invariant a f).free
     (sym c.is_reached.ensures ∙ c.if-is_reached.true)
 
 pub step-requires-clause-line : goal.step-requires-clause-line
@@ -32,7 +33,8 @@ step-requires-clause-line c =
 pub step-requires-clause-few : goal.step-requires-clause-few
 step-requires-clause-few c =
     let within : c.loop-k.k < length c.args.text.now.lines.now = omega arith in
-    subst HasFewNames (ap body_of (line_at c.args.text.now.lines.now c.loop-k.k c.index-lines-k.result within c.index-lines-k.is))
+    subst HasFewNames (ap body_of
+    (line_at c.args.text.now.lines.now c.loop-k.k c.index-lines-k.result within c.index-lines-k.is))
     (c.requires.named c.loop-k.k)
 
 pub loop-k-preserved : goal.loop-k-preserved
@@ -40,8 +42,8 @@ loop-k-preserved c = λ a f.
     let lines = map line_tree c.args.text.now.lines.now in
     let k = c.loop-k.k in
     let h = c.loop-k.invariant a f in
-    let told = subst (λ o. IsLineOutcome lines a k o) c.in-Stands.is (c.in_ok-number.ensures a f h.at) in
-    rw add-one (passed_more lines a k c.loop-k.places _ c.in-Stands.place c.loop-k.placing c.in-Stands.next h
+    let told = subst (IsLineOutcome lines a k c.step.new.placing) c.in-Stands.is (c.in_ok-number.ensures a f h.at) in
+    rw add-one (passed_more lines a k c.loop-k.places _ c.in-Stands.place c.loop-k.placing c.step.new.placing h
     c.in_ok-push-in-Stands.ensures.ok told.0 told.1 told.2)
 
 pub returns : goal.returns

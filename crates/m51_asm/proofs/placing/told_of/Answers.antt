@@ -17,6 +17,8 @@ returns c = λ a f once at.
     c.here_of-here.ensures ∙ ap (here_of (text_segment s.segment)) c.of.ensures in
     told_line lines a f c.args.k s at (line_tree c.args.line.now) c.requires.line once table c.requires.names
     (kept_meanings lines table s.values c.args.k c.args.text.now.mod51 s.bank c.here_of-here.result)
-    (names_are lines a f c.args.k s at table c.requires.names c.args.text.now.mod51 c.requires.predefined c.here_of-here.result here)
-    c.named_by-named.result c.named_by-named.ensures c.in_ok-told.told c.in_ok-told.ensures.here c.in_ok-told.ensures.form
+    (names_are lines a f c.args.k s at table c.requires.names c.args.text.now.mod51 c.requires.predefined
+    c.here_of-here.result here)
+    c.named_by-named.result c.named_by-named.ensures c.in_ok-told.told c.in_ok-told.ensures.here
+    c.in_ok-told.ensures.form
     c.in_ok-told.ensures.size c.in_ok-told.ensures.next c.in_ok-told.ensures.operand

@@ -14,47 +14,60 @@ pub returns-in-Some : goal.returns-in-Some
 returns-in-Some c = λ a f at.
     let lines = map line_tree c.args.text.now.lines.now in
     let k = c.args.k in
-    let s = c.args.placing in
+    let s = c.args.placing.now in
     let t = c.in_ok-told.told in
     let n = c.count-counts.result in
     let body = body_tree c.args.line.now.stmt.body in
     let is : body ≡ body_at lines k = ap body_of (sym c.requires.line) in
     let told : IsTold lines a k t = c.in_ok-told.ensures a f c.requires.once at in
     let counts : IsCounted lines a k n =
-    counted lines a k s t n body at told is c.count-counts.ensures.next c.count-counts.ensures.segments c.count-counts.ensures.externals in
-    sym (fault_told lines a k s t n body f at told counts is c.requires.once) ∙ sym c.fault_of-fault.ensures ∙ c.in-Some.is
+    counted lines a k s t n body at told is c.count-counts.ensures.next c.count-counts.ensures.segments
+    c.count-counts.ensures.externals in
+    sym (fault_told lines a k s t n body f at told counts is c.requires.once) ∙ sym c.fault_of-fault.ensures
+    ∙ c.in-Some.is
 
-pub after-requires-clause-next : goal.after-requires-clause-next
-after-requires-clause-next c = (small_counts (text_segment c.in_ok-told.told.next) c.count-counts.result _ _ (sym c.fault_of-fault.ensures ∙ c.in-None.is)).next
+pub take_in-requires-clause-next : goal.take_in-requires-clause-next
+take_in-requires-clause-next c =
+    (small_counts (text_segment c.in_ok-told.told.next) c.count-counts.result _ _
+    (sym c.fault_of-fault.ensures ∙ c.in-None.is)).next
 
-pub after-requires-clause-segments : goal.after-requires-clause-segments
-after-requires-clause-segments c = (small_counts (text_segment c.in_ok-told.told.next) c.count-counts.result _ _ (sym c.fault_of-fault.ensures ∙ c.in-None.is)).segments
+pub take_in-requires-clause-segments : goal.take_in-requires-clause-segments
+take_in-requires-clause-segments c =
+    (small_counts (text_segment c.in_ok-told.told.next) c.count-counts.result _ _
+    (sym c.fault_of-fault.ensures ∙ c.in-None.is)).segments
 
-pub after-requires-clause-externals : goal.after-requires-clause-externals
-after-requires-clause-externals c = (small_counts (text_segment c.in_ok-told.told.next) c.count-counts.result _ _ (sym c.fault_of-fault.ensures ∙ c.in-None.is)).externals
+pub take_in-requires-clause-externals : goal.take_in-requires-clause-externals
+take_in-requires-clause-externals c =
+    (small_counts (text_segment c.in_ok-told.told.next) c.count-counts.result _ _
+    (sym c.fault_of-fault.ensures ∙ c.in-None.is)).externals
 
-pub after-requires-clause-declared : goal.after-requires-clause-declared
-after-requires-clause-declared c =
-    small_sum_is c.args.placing.externals (externals_in (body_tree c.args.line.now.stmt.body)) c.count-counts.result.externals
-    c.count-counts.ensures.externals (small_counts (text_segment c.in_ok-told.told.next) c.count-counts.result _ _ (sym c.fault_of-fault.ensures ∙ c.in-None.is)).externals
+pub take_in-requires-clause-declared : goal.take_in-requires-clause-declared
+take_in-requires-clause-declared c =
+    small_sum_is c.args.placing.now.externals (externals_in (body_tree c.args.line.now.stmt.body))
+    c.count-counts.result.externals
+    c.count-counts.ensures.externals
+    (small_counts (text_segment c.in_ok-told.told.next) c.count-counts.result _ _
+    (sym c.fault_of-fault.ensures ∙ c.in-None.is)).externals
 
-pub returns-in_ok-next-in-None : goal.returns-in_ok-next-in-None
-returns-in_ok-next-in-None c = λ a f at.
+pub returns-in_ok-take_in-in-None : goal.returns-in_ok-take_in-in-None
+returns-in_ok-take_in-in-None c = λ a f at.
     let lines = map line_tree c.args.text.now.lines.now in
     let k = c.args.k in
-    let s = c.args.placing in
+    let s = c.args.placing.now in
     let t = c.in_ok-told.told in
     let n = c.count-counts.result in
     let body = body_tree c.args.line.now.stmt.body in
     let is : body ≡ body_at lines k = ap body_of (sym c.requires.line) in
     let told : IsTold lines a k t = c.in_ok-told.ensures a f c.requires.once at in
     let counts : IsCounted lines a k n =
-    counted lines a k s t n body at told is c.count-counts.ensures.next c.count-counts.ensures.segments c.count-counts.ensures.externals in
+    counted lines a k s t n body at told is c.count-counts.ensures.next c.count-counts.ensures.segments
+    c.count-counts.ensures.externals in
     let none : placed_fault lines a k ≡ None =
-    sym (fault_told lines a k s t n body f at told counts is c.requires.once) ∙ sym c.fault_of-fault.ensures ∙ c.in-None.is in
+    sym (fault_told lines a k s t n body f at told counts is c.requires.once) ∙ sym c.fault_of-fault.ensures
+    ∙ c.in-None.is in
     let is_free = free lines a k none in (
       none,
-      c.in_ok-next-in-None.ensures lines a f c.requires.line none at told counts,
+      c.in_ok-take_in-in-None.ensures lines a f c.requires.line none at told counts,
       record {
         segment = at.segment;
         next = told.next;

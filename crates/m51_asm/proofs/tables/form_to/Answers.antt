@@ -13,5 +13,7 @@ returns g c =
     let e : Tree = tree_of c.args.target.now in
     let table : List ℕ = c.as_slice-table.result.now in
     let is : table ≡ base_ids names.here.base ++ ids_in names e = search rules in
-    let enough : IsEnough names (take 255 table) e = front_enough names table e is (table_few names e table is c.requires) in
-    c.jump_form.ensures ∙ ap (jump_form_of (local names (take 255 table)) c.args.verb) c.value_of.ensures ∙ enough.form c.args.verb
+    let enough : IsEnough names (take 255 table) e =
+    front_enough names table e is (table_few names e table is c.requires) in
+    c.jump_form.ensures ∙ ap (jump_form_of (local names (take 255 table)) c.args.verb) c.value_of.ensures
+    ∙ enough.form c.args.verb

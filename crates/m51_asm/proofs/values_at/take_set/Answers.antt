@@ -7,4 +7,5 @@ use Rattle.m51_asm.proofs.values_at.take_set.Goals as goal
 pub returns : goal.returns
 returns c = λ lines a k is place before.
     set_next lines a k (line_tree c.args.line.now) c.args.place.now c.args.set.now c.put_if.new.set is place before
-    (subst (λ o. PutsIf c.args.set.now c.put_if.new.set o c.args.place.now.given) c.set_in-name.ensures c.in_ok-put_if.ensures)
+    (subst (λ o. PutsIf c.args.set.now c.put_if.new.set o c.args.place.now.given) c.set_in-name.ensures
+    c.in_ok-put_if.ensures)

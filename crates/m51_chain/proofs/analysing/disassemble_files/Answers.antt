@@ -5,10 +5,13 @@ use Rattle.m51_chain.proofs.analysing.disassemble_files.Goals as goal
 
 pub returns : goal.returns
 returns c =
-    linked_comes (link_files c.args.job.now) c.args.contents.now (λ script linked. IsDisassembled linked.layout linked.image) c.in_ok-found.found _
+    linked_comes (link_files c.args.job.now) c.args.contents.now
+    (λ script linked. IsDisassembled linked.layout linked.image) c.in_ok-found.found _
     (rw c.as_slice.ensures at c.in_ok-found.ensures.answer) c.disassembly.ensures
 
 pub returns-in_err-found : goal.returns-in_err-found
 returns-in_err-found c =
     rw (came c.from_residual.result _ c.from_residual.ensures.1)
-    (files_refused (link_files c.args.job.now) c.args.contents.now (λ script linked. IsDisassembled linked.layout linked.image) _ (rw c.as_slice.ensures at c.in_err-found.ensures.answer))
+    (files_refused (link_files c.args.job.now) c.args.contents.now
+    (λ script linked. IsDisassembled linked.layout linked.image) _
+    (rw c.as_slice.ensures at c.in_err-found.ensures.answer))

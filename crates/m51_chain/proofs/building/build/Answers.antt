@@ -6,7 +6,8 @@ use Rattle.m51_chain.proofs.building.build.Goals as goal
 pub returns : goal.returns
 returns c =
     let job = c.args.job.now in
-    follows (build_files job) c.args.contents.now (λ script linked. IsReport linked job.hex script job.steps) c.in_ok-found.found _
+    follows (build_files job) c.args.contents.now (λ script linked. IsReport linked job.hex script job.steps)
+    c.in_ok-found.found _
     (rw c.as_slice.ensures at c.in_ok-found.ensures.answer) c.in_ok-report.ensures
 
 pub returns-in_err-found : goal.returns-in_err-found

@@ -11,5 +11,7 @@ returns c =
     let job = c.args.job.now in
     let answered : IsAnswer (generated job.units job.start) [] (Gives c.in-Module.parts c.in-Module.field-1) =
     rw (c.in_ok-source.ensures, c.in-Module.is) at c.in_ok-faults.ensures in
-    comes_weaker (IsGenOutcome job) (IsProgramOutcome (alone c.in-Module.parts) (IsCounted job.steps)) c.count_program.result
-    (λ o it. record { answer = Gives c.in-Module.parts c.in-Module.field-1; answered = answered; is = it }) c.count_program.ensures
+    comes_weaker (IsGenOutcome job) (IsProgramOutcome (alone c.in-Module.parts) (IsCounted job.steps))
+    c.count_program.result
+    (λ o it. record { answer = Gives c.in-Module.parts c.in-Module.field-1; answered = answered; is = it })
+    c.count_program.ensures

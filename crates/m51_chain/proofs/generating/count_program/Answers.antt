@@ -13,4 +13,5 @@ returns c =
 pub returns-in_err-linked : goal.returns-in_err-linked
 returns-in_err-linked c =
     let is : IsLinkedOr (alone c.args.parts) (Err c.in_err-linked.field-0.0) = c.in_err-linked.ensures.answer in
-    rw (came c.from_residual.result _ c.from_residual.ensures.1) (IfSome_then _ is (unlinked _ (IsCounted c.args.steps)))
+    rw (came c.from_residual.result _ c.from_residual.ensures.1)
+    (IfSome_then _ is (unlinked _ (IsCounted c.args.steps)))

@@ -10,8 +10,10 @@ pub loop-parts-preserved : goal.loop-parts-preserved
 loop-parts-preserved c =
     let before = c.loop-parts.invariant in (
       before.0 ++ c.in-Some.parts ∷ [],
-      append_assoc before.0 (c.in-Some.parts ∷ []) c.pop_front.new.self.items ∙ ap (λ rest. before.0 ++ rest) (sym c.in-Some.ensures.items) ∙ before.1,
-      λ script is. for_more script before.0 c.in-Some.parts _ _ _ (before.2 script is) (c.in_ok-board.ensures script is) c.in_ok-push.ensures.ok,
+      append_assoc before.0 (c.in-Some.parts ∷ []) c.pop_front.new.self.items
+          ∙ ap (λ rest. before.0 ++ rest) (sym c.in-Some.ensures.items) ∙ before.1,
+      λ script is. for_more script before.0 c.in-Some.parts _ _ _ (before.2 script is) (c.in_ok-board.ensures script is)
+          c.in_ok-push.ensures.ok,
     )
 
 pub returns-in_err-board : goal.returns-in_err-board
@@ -19,10 +21,12 @@ returns-in_err-board c = λ script is.
     let before = c.loop-parts.invariant in
     rw (came c.from_residual.result _ c.from_residual.ensures.1)
     (for_refused script c.args.modules.items before.0 c.pop_front.new.self.items c.in-Some.parts _ _
-    (ap (λ rest. before.0 ++ rest) (sym c.in-Some.ensures.items) ∙ before.1) (before.2 script is) (c.in_err-board.ensures script is))
+    (ap (λ rest. before.0 ++ rest) (sym c.in-Some.ensures.items) ∙ before.1) (before.2 script is)
+    (c.in_err-board.ensures script is))
 
 pub returns : goal.returns
 returns c = λ script is.
     let before = c.loop-parts.invariant in
-    rw c.into_vec.ensures (for_all script c.args.modules.items before.0 c.loop-parts.left.items c.pop_front.new.self.items _
+    rw c.into_vec.ensures
+    (for_all script c.args.modules.items before.0 c.loop-parts.left.items c.pop_front.new.self.items _
     c.in_default.ensures.items c.in_default.ensures.rest before.1 (before.2 script is))

@@ -8,7 +8,8 @@ pub plan_job-requires : goal.plan_job-requires
 plan_job-requires g c = record { fit = asked_fit _ _ c.in-Ok.ensures }
 
 pub returns-in-Ok-clause-due : goal.returns-in-Ok-clause-due
-returns-in-Ok-clause-due g c = IfOk-weaker c.plan_job.result _ _ (λ plan it. Asked _ c.in-Ok.ensures it) c.plan_job.ensures.due
+returns-in-Ok-clause-due g c =
+    IfOk-weaker c.plan_job.result _ _ (λ plan it. Asked _ c.in-Ok.ensures it) c.plan_job.ensures.due
 
 pub returns-in-Ok-clause-reads : goal.returns-in-Ok-clause-reads
 returns-in-Ok-clause-reads g c =

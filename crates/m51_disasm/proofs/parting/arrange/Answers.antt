@@ -2,12 +2,12 @@
 use Rattle.std.proofs.Common.{rules, ◌<◌, List, get_or, arith}
 use Rattle.std.specs.List.{All}
 use Rattle.std.proofs.lemmas.List.Sorted.{All-permutation}
-use Rattle.m51_disasm.specs.declared.part.Part.{Part}
+use Rattle.m51_disasm.specs.declared.part.CodeRange.{CodeRange}
 use Rattle.m51_disasm.specs.Parts.{IsInside}
 use Rattle.m51_disasm.proofs.Sorting.{after_sort}
 use Rattle.m51_disasm.proofs.parting.arrange.Goals as goal
 
-bases : (xs : List Part) → All IsInside xs → All (λ y. y.base < 65536) xs
+bases : (xs : List CodeRange) → All IsInside xs → All (λ y. y.base < 65536) xs
 bases xs h k d below = let inside : IsInside (get_or xs k d) = h k d below in omega (arith, inside.some, inside.ends)
 
 pub returns-clause-inside : goal.returns-clause-inside

@@ -6,4 +6,5 @@ use Rattle.m51_disasm_proof.proofs.laws.labels_stand.Goals as goal
 
 pub returns : goal.returns
 returns c = λ l image text sound bytes answer a f before part after is j s e led k.
-    label_of_part image bytes (parts_of l) (parts_inside l sound) (parts_in_order l sound) a f before part after is j s e led k
+    label_of_part image bytes (parts_of l) (parts_inside l sound) (parts_in_order l sound) a f before part after is j s
+    e led k

@@ -7,4 +7,5 @@ use Rattle.m51_disasm_proof.proofs.laws.no_line_has_fault.Goals as goal
 
 pub returns : goal.returns
 returns c = λ l image text sound sizes bytes is a f.
-    faultless image bytes (parts_of l) (parts_inside l sound) (parts_in_order l sound) a f (all_small l sound sizes) (given l image text is).parts
+    faultless image bytes (parts_of l) (parts_inside l sound) (parts_in_order l sound) a f (all_small l sound sizes)
+    (given l image text is).parts

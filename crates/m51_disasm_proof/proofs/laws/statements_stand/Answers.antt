@@ -11,6 +11,7 @@ use Rattle.m51_disasm_proof.proofs.laws.statements_stand.Goals as goal
 
 pub returns : goal.returns
 returns c = λ l image text sound bytes answer a f before part after is j s e.
-    lines_stand (lines_of image (parts_of l)) (lines_sound image bytes (parts_of l) (parts_inside l sound)) a f (lines_before image before + suc j) _
+    lines_stand (lines_of image (parts_of l)) (lines_sound image bytes (parts_of l) (parts_inside l sound)) a f
+    (lines_before image before + suc j) _
     (ap (λ parts. slice_get (spots_from 0 opening 0 (lines_of image parts)) (lines_before image before + suc j)) is
     ∙ statement_spot image before part after j s e)

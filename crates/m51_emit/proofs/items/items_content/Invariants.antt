@@ -13,6 +13,8 @@ invariant-loop-item g l =
     let items = map item_tree l.items in
     let outcome = λ (item : ItemTree). item_outcome (item_field names l.width item) in
     record {
-      content : followed_by (content_in l.growing) (joined (map (item_content names l.width) (drop l.item-index items))) ≡ joined (map (item_content names l.width) items);
-      count : counted_all l.growing.count (map outcome (drop l.item-index items)) ≡ counted_all (none_of l.made) (map outcome items);
+      content : followed_by (content_in l.growing) (joined (map (item_content names l.width) (drop l.item-index items)))
+          ≡ joined (map (item_content names l.width) items);
+      count : counted_all l.growing.count (map outcome (drop l.item-index items))
+          ≡ counted_all (none_of l.made) (map outcome items);
     }

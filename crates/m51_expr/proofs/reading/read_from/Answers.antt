@@ -13,5 +13,6 @@ returns-clause-sound c =
 pub returns-clause-complete : goal.returns-clause-complete
 returns-clause-complete c = λ e to whole.
     let n = enough (length c.args.symbols.now - c.args.from) 0 in
-    gives_same c.read.result (read n (line_of c.args.symbols.now) 0 c.args.from) _ (c.read.ensures.gives n (omega arith))
+    gives_same c.read.result (read n (line_of c.args.symbols.now) 0 c.args.from) _
+    (c.read.ensures.gives n (omega arith))
     (sym (expression_from_is c.args.symbols.now c.args.from e to whole))

@@ -6,7 +6,8 @@ pub returns-clause-linked : goal.returns-clause-linked
 returns-clause-linked c = record {
   layout = refl;
   image = c.requires.image;
-  written = runs_are c.args.joined.now c.args.placing c.args.content.now c.in_ok-written.written c.requires.content c.in_ok-written.ensures;
+  written = runs_are c.args.joined.now c.args.placing c.args.content.now c.in_ok-written.written c.requires.content
+      c.in_ok-written.ensures;
   roots = c.in_ok-roots.ensures;
 }
 

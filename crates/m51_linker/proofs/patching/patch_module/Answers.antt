@@ -16,8 +16,12 @@ loop-fixup-preserved c =
     let fixups = c.fixups-fixup-items.result.now in
     let i = c.loop-fixup.fixup-index in
     record {
-      put = fixup_written (placed_field c.args.joined.now c.args.placing.now c.args.module) fixups i _ (image_at c.args.image.now) (image_at c.loop-fixup.image)
-          (image_at c.patch_fixup-spot.new.image) c.loop-fixup-test.true c.loop-fixup.invariant.put c.patch_fixup-spot.ensures.put;
-      broken = least_more (broken_spot c.args.joined.now c.args.placing.now c.args.module) fixups i _ c.loop-fixup.broken c.patch_fixup-spot.result
-          c.earlier_of-broken.result c.loop-fixup-test.true c.loop-fixup.invariant.broken c.patch_fixup-spot.ensures.broken c.earlier_of-broken.ensures;
+      put = fixup_written (placed_field c.args.joined.now c.args.placing.now c.args.module) fixups i _
+          (image_at c.args.image.now) (image_at c.loop-fixup.image)
+          (image_at c.patch_fixup-spot.new.image) c.loop-fixup-test.true c.loop-fixup.invariant.put
+          c.patch_fixup-spot.ensures.put;
+      broken = least_more (broken_spot c.args.joined.now c.args.placing.now c.args.module) fixups i _
+          c.loop-fixup.broken c.patch_fixup-spot.result
+          c.earlier_of-broken.result c.loop-fixup-test.true c.loop-fixup.invariant.broken
+          c.patch_fixup-spot.ensures.broken c.earlier_of-broken.ensures;
     }

@@ -12,7 +12,8 @@ bounds-holders-from c =
     let now = c.loop-place.holders in
     let place = c.loop-place.place in
     let inside : place < length locals = grind (arith, common_steps) in
-    let below : slice_index locals place < length now = rw c.loop-place.invariant.len (item_is locals (length c.args.holders.now) place c.requires.inside inside) in
+    let below : slice_index locals place < length now =
+    rw c.loop-place.invariant.len (item_is locals (length c.args.holders.now) place c.requires.inside inside) in
     rw c.from.ensures below
 
 pub bounds-holders-from-in-loop-place : goal.bounds-holders-from-in-loop-place
@@ -21,7 +22,8 @@ bounds-holders-from-in-loop-place c =
     let now = c.loop-place.holders in
     let place = c.loop-place.place in
     let inside : place < length locals = grind (arith, common_steps) in
-    let below : slice_index locals place < length now = rw c.loop-place.invariant.len (item_is locals (length c.args.holders.now) place c.requires.inside inside) in
+    let below : slice_index locals place < length now =
+    rw c.loop-place.invariant.len (item_is locals (length c.args.holders.now) place c.requires.inside inside) in
     rw c.from.ensures below
 
 pub overflow_add-holders : goal.overflow_add-holders
@@ -30,7 +32,8 @@ overflow_add-holders c =
     let now = c.loop-place.holders in
     let place = c.loop-place.place in
     let inside : place < length locals = grind (arith, common_steps) in
-    let below : slice_index locals place < length now = rw c.loop-place.invariant.len (item_is locals (length c.args.holders.now) place c.requires.inside inside) in
+    let below : slice_index locals place < length now =
+    rw c.loop-place.invariant.len (item_is locals (length c.args.holders.now) place c.requires.inside inside) in
     let room = c.requires.room (slice_index locals place) (rw (sym c.loop-place.invariant.len) below) in
     let all = c.loop-place.invariant.number (slice_index locals place) in
     let some = left_some locals place inside in
@@ -42,9 +45,11 @@ loop-place-preserved c =
     let now = c.loop-place.holders in
     let place = c.loop-place.place in
     let inside : place < length locals = grind (arith, common_steps) in
-    let below : slice_index locals place < length now = rw c.loop-place.invariant.len (item_is locals (length c.args.holders.now) place c.requires.inside inside) in
+    let below : slice_index locals place < length now =
+    rw c.loop-place.invariant.len (item_is locals (length c.args.holders.now) place c.requires.inside inside) in
     rw c.from.ensures (record {
-      len = length-set now (slice_index locals place) (slice_index now (slice_index locals place) + 1) ∙ c.loop-place.invariant.len;
+      len = length-set now (slice_index locals place) (slice_index now (slice_index locals place) + 1)
+          ∙ c.loop-place.invariant.len;
       number = one_more locals now c.args.holders.now place inside below c.loop-place.invariant.number;
     })
 

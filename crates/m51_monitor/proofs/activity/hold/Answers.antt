@@ -6,12 +6,15 @@ use Rattle.m51_monitor.proofs.activity.hold.Goals as goal
 
 pub count_more-requires-clause-inside : goal.count_more-requires-clause-inside
 count_more-requires-clause-inside c = λ t h.
-    rw (c.deref_mut.ensures.value, c.requires.some.1.len) (below c.args.layout.now c.locals.result.now c.args.unit c.placed-sound.ensures.sound c.locals.ensures t h)
+    rw (c.deref_mut.ensures.value, c.requires.some.1.len)
+    (below c.args.layout.now c.locals.result.now c.args.unit c.placed-sound.ensures.sound c.locals.ensures t h)
 
 pub count_more-requires-clause-room : goal.count_more-requires-clause-room
 count_more-requires-clause-room c =
     let some = c.requires.some in
-    rw c.deref_mut.ensures.value (room_for c.args.layout.now c.args.unit c.locals.result.now c.locals.ensures some.0 c.args.holders.now.items some.1 some.2)
+    rw c.deref_mut.ensures.value
+    (room_for c.args.layout.now c.args.unit c.locals.result.now c.locals.ensures some.0 c.args.holders.now.items
+    some.1 some.2)
 
 pub returns : goal.returns
 returns c = λ units are.
@@ -20,5 +23,6 @@ returns c = λ units are.
     let len : length new ≡ length old = rw c.deref_mut.ensures.value at c.count_more.ensures.len in
     let number = rw c.deref_mut.ensures.value at c.count_more.ensures.number in
     let all : c.args.holders.now.len ≡ length old = search rules in
-    subst (λ holders. AreHolders c.args.layout.now (c.args.unit ∷ units) holders) (sym (whole_row c.args.holders.now.len old new (all ∙ sym len)))
+    subst (λ holders. AreHolders c.args.layout.now (c.args.unit ∷ units) holders)
+    (sym (whole_row c.args.holders.now.len old new (all ∙ sym len)))
     (held_more c.args.layout.now c.args.unit c.locals.result.now c.locals.ensures units old new are len number)

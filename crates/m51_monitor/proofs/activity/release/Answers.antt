@@ -6,12 +6,15 @@ use Rattle.m51_monitor.proofs.activity.release.Goals as goal
 
 pub count_less-requires-clause-inside : goal.count_less-requires-clause-inside
 count_less-requires-clause-inside c = λ t h.
-    rw (c.deref_mut.ensures.value, c.requires.some.1.len) (below c.args.layout.now c.locals.result.now c.args.unit c.placed-sound.ensures.sound c.locals.ensures t h)
+    rw (c.deref_mut.ensures.value, c.requires.some.1.len)
+    (below c.args.layout.now c.locals.result.now c.args.unit c.placed-sound.ensures.sound c.locals.ensures t h)
 
 pub count_less-requires-clause-some : goal.count_less-requires-clause-some
 count_less-requires-clause-some c =
     let some = c.requires.some in
-    rw c.deref_mut.ensures.value (some_held c.args.layout.now c.args.unit c.locals.result.now c.locals.ensures some.0 c.args.holders.now.items some.1)
+    rw c.deref_mut.ensures.value
+    (some_held c.args.layout.now c.args.unit c.locals.result.now c.locals.ensures some.0 c.args.holders.now.items
+    some.1)
 
 pub returns : goal.returns
 returns c = λ units are.
@@ -20,5 +23,6 @@ returns c = λ units are.
     let len : length new ≡ length old = rw c.deref_mut.ensures.value at c.count_less.ensures.len in
     let number = rw c.deref_mut.ensures.value at c.count_less.ensures.number in
     let all : c.args.holders.now.len ≡ length old = search rules in
-    subst (λ holders. AreHolders c.args.layout.now units holders) (sym (whole_row c.args.holders.now.len old new (all ∙ sym len)))
+    subst (λ holders. AreHolders c.args.layout.now units holders)
+    (sym (whole_row c.args.holders.now.len old new (all ∙ sym len)))
     (held_less c.args.layout.now c.args.unit c.locals.result.now c.locals.ensures units old new are len number)

@@ -5,5 +5,6 @@ use Rattle.m51_party.proofs.handing.kept_for.Given as goal
 abbrev pub invariant-loop-at : goal.invariant-loop-at
 invariant-loop-at l = record {
   within : l.further.count ≤ l.at;
-  frames : take l.further.count l.further.frames ++ kept_from l.at l.index (drop l.at l.seats) ≡ kept_for l.index l.seats;
+  frames : take l.further.count l.further.frames ++ kept_from l.at l.index (drop l.at l.seats)
+      ≡ kept_for l.index l.seats;
 }

@@ -5,4 +5,5 @@ use Rattle.m51_print.specs.Map.{unit_title}
 use Rattle.m51_print.proofs.titles.target_titles.Given as goal
 
 abbrev pub invariant-loop-target : goal.invariant-loop-target
-invariant-loop-target l = l.titles.items ≡ map (unit_title l.layout) (filter (has_edge l.layout.edges l.unit) (range_with_len 0 l.target))
+invariant-loop-target l =
+    l.titles.items ≡ map (unit_title l.layout) (filter (has_edge l.layout.edges l.unit) (range_with_len 0 l.target))

@@ -23,18 +23,24 @@ pub returns-in-Ok-clause-order : goal.returns-in-Ok-clause-order
 returns-in-Ok-clause-order c =
     let inputs = with_extra c.args.extra.now (inputs_of c.args.chip.now.script) in
     let allowed : Allowed = record { effect = c.judge.new.effect; step = c.in-Ok.step } in
-    let passed : IsPassed inputs c.args.chip.now c.pass.new.self allowed.effect c.pass.result = record { port = c.pass.ensures.port; passed = c.pass.ensures.passed } in
-    order_after c.args.monitor.now c.commit.new.monitor c.args.chip.now.cpu c.pass.new.self.cpu allowed c.stand.ensures.sound c.stand.ensures.records c.requires.order c.in-Ok.ensures.may
-    c.commit.ensures.layout (ap (λ (m : Separate). m.records) c.commit.ensures.memory) (passed_keeps inputs c.args.chip.now c.pass.new.self allowed.effect c.pass.result passed)
+    let passed : IsPassed inputs c.args.chip.now c.pass.new.self allowed.effect c.pass.result =
+    record { port = c.pass.ensures.port; passed = c.pass.ensures.passed } in
+    order_after c.args.monitor.now c.commit.new.monitor c.args.chip.now.cpu c.pass.new.self.cpu allowed
+    c.stand.ensures.sound c.stand.ensures.records c.requires.order c.in-Ok.ensures.may
+    c.commit.ensures.layout (ap (λ (m : Separate). m.records) c.commit.ensures.memory)
+    (passed_keeps inputs c.args.chip.now c.pass.new.self allowed.effect c.pass.result passed)
 
 pub returns-in-Ok-clause-step : goal.returns-in-Ok-clause-step
 returns-in-Ok-clause-step c =
     let inputs = with_extra c.args.extra.now (inputs_of c.args.chip.now.script) in
-    step_done c.args.monitor.now.layout c.args.chip.now.image inputs c.args.chip.now (memory_of c.args.monitor.now) c.pass.new.self (memory_of c.commit.new.monitor)
+    step_done c.args.monitor.now.layout c.args.chip.now.image inputs c.args.chip.now (memory_of c.args.monitor.now)
+    c.pass.new.self (memory_of c.commit.new.monitor)
     (record { effect = c.judge.new.effect; step = c.in-Ok.step }) c.pass.result
-    c.in-Ok.ensures.value c.commit.ensures.memory (record { port = c.pass.ensures.port; passed = c.pass.ensures.passed })
+    c.in-Ok.ensures.value c.commit.ensures.memory
+    (record { port = c.pass.ensures.port; passed = c.pass.ensures.passed })
 
 pub returns-in-Err-clause-step : goal.returns-in-Err-clause-step
 returns-in-Err-clause-step c =
     let inputs = with_extra c.args.extra.now (inputs_of c.args.chip.now.script) in
-    step_stopped c.args.monitor.now.layout c.args.chip.now.image inputs c.args.chip.now (memory_of c.args.monitor.now) c.in-Err.event c.in-Err.ensures.value
+    step_stopped c.args.monitor.now.layout c.args.chip.now.image inputs c.args.chip.now (memory_of c.args.monitor.now)
+    c.in-Err.event c.in-Err.ensures.value

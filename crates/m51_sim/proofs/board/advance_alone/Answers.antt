@@ -12,5 +12,6 @@ advance-requires-clause-few c = none_are_few
 pub returns-clause-step : goal.returns-clause-step
 returns-clause-step c =
     let old = state_with c.args.chip.now (memory_of c.args.monitor.now) in
-    subst (λ (inputs : Inputs). IsAdvance (separate_machine c.args.monitor.now.layout c.args.chip.now.image inputs old) c.advance.result old (state_with c.advance.new.chip (memory_of c.advance.new.monitor)))
+    subst (λ (inputs : Inputs). IsAdvance (separate_machine c.args.monitor.now.layout c.args.chip.now.image inputs old)
+    c.advance.result old (state_with c.advance.new.chip (memory_of c.advance.new.monitor)))
     (no_extra (inputs_of c.args.chip.now.script)) c.advance.ensures.step

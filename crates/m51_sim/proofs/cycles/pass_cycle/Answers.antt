@@ -1,5 +1,5 @@
-use Rattle.std.proofs.Common.{refl, ap, ◌∙◌}
-use Rattle.m51_sim.specs.Cycles.{first_sent, inputs_of, with_extra}
+use Rattle.std.proofs.Common.{refl}
+use Rattle.m51_sim.specs.Cycles.{inputs_of, with_extra}
 use Rattle.m51_sim.proofs.Passes.{cycle_is}
 use Rattle.m51_sim.proofs.cycles.pass_cycle.Goals as goal
 
@@ -7,4 +7,4 @@ pub returns : goal.returns
 returns c =
     let inputs = with_extra c.args.extra.now (inputs_of c.args.script.now) in
     cycle_is inputs c.args.passing.now _ _ _ c.tick-sent.result c.next_cycle-cycle.ensures refl refl c.tick-sent.ensures
-    (c.first_sent-passing.ensures ∙ ap (first_sent c.args.passing.now.sent) c.sent_in.ensures)
+    c.keep_sent.ensures

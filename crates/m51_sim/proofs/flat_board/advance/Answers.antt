@@ -13,10 +13,13 @@ returns-in-Ok-clause-step c =
     let new = c.pass.new.self in
     let e = c.judge.new.effect in
     let told = c.pass.result in
-    let passed = subst (λ (inputs : Inputs). IsPassed inputs chip new e told) (no_extra (inputs_of chip.script)) (record { port = c.pass.ensures.port; passed = c.pass.ensures.passed }) in
-    flat_done chip.image (inputs_of chip.script) chip (map_of c.args.memory.now) new (map_of c.put_both.new.memory) e told c.in-Ok.ensures.value c.put_both.ensures passed
+    let passed = subst (λ (inputs : Inputs). IsPassed inputs chip new e told) (no_extra (inputs_of chip.script))
+    (record { port = c.pass.ensures.port; passed = c.pass.ensures.passed }) in
+    flat_done chip.image (inputs_of chip.script) chip (map_of c.args.memory.now) new (map_of c.put_both.new.memory) e
+    told c.in-Ok.ensures.value c.put_both.ensures passed
 
 pub returns-in-Err-clause-step : goal.returns-in-Err-clause-step
 returns-in-Err-clause-step c =
     let chip = c.args.chip.now in
-    flat_stopped chip.image (inputs_of chip.script) chip (map_of c.args.memory.now) c.in-Err.event c.in-Err.ensures.value
+    flat_stopped chip.image (inputs_of chip.script) chip (map_of c.args.memory.now) c.in-Err.event
+    c.in-Err.ensures.value

@@ -7,4 +7,5 @@ use Rattle.m51_sim.proofs.judging.judge.Goals as goal
 pub vectoring-requires-clause-taken : goal.vectoring-requires-clause-taken
 vectoring-requires-clause-taken c =
     subst (λ (cpu : Cpu). chosen cpu ≡ Some c.in-Vectoring.source) (sym c.cpu.ensures)
-    (attempt_taken c.args.chip.now.image c.args.chip.now.cpu c.in-Vectoring.source (sym c.attempt.ensures ∙ c.in-Vectoring.is))
+    (attempt_taken c.args.chip.now.image c.args.chip.now.cpu c.in-Vectoring.source
+    (sym c.attempt.ensures ∙ c.in-Vectoring.is))

@@ -5,10 +5,14 @@ use Rattle.m51_sim.proofs.Preparing.{vector_ready}
 use Rattle.m51_sim.proofs.judging.vector_outcome.Goals as goal
 
 pub returns-clause-value : goal.returns-clause-value
-returns-clause-value c = rw (c.store.ensures.barred, c.store.ensures.answers (stores_read c.args.monitor.now) c.stand.ensures.stores) at c.vector_into.ensures.outcome
+returns-clause-value c =
+    rw (c.store.ensures.barred, c.store.ensures.answers (stores_read c.args.monitor.now) c.stand.ensures.stores) at
+    c.vector_into.ensures.outcome
 
 pub returns-clause-ready : goal.returns-clause-ready
 returns-clause-ready c =
     let m = c.args.monitor.now in
-    vector_ready m c.args.cpu.now c.args.source (shared_cells m.store) (outcome_by c.vector_into.result c.vector_into.new.effect) c.requires.order c.requires.taken
-    (rw c.store.ensures.store at c.vector_into.ensures.outcome) (rw c.store.ensures.store at c.vector_into.ensures.missing) c.vector_into.ensures.control
+    vector_ready m c.args.cpu.now c.args.source (shared_cells m.store)
+    (outcome_by c.vector_into.result c.vector_into.new.effect) c.requires.order c.requires.taken
+    (rw c.store.ensures.store at c.vector_into.ensures.outcome)
+    (rw c.store.ensures.store at c.vector_into.ensures.missing) c.vector_into.ensures.control

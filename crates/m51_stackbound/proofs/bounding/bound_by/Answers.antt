@@ -17,7 +17,8 @@ returns-then-total-gt255 c =
     let is : c.deref.result.now ≡ handlers l = c.deref.ensures.value ∙ c.in_ok-vectors.ensures in
     let sum = subst (λ (vs : List ℕ). IsSum c.args.depths.now vs c.total_of-total.result) is c.total_of-total.ensures in (
       c.requires.heights,
-      total_above l c.args.image.now c.args.points.now c.args.depths.now c.requires.points c.requires.depths c.if-above.ensures.1 c.total_of-total.result sum (omega (arith, c.if-total-gt255.true)),
+      total_above l c.args.image.now c.args.points.now c.args.depths.now c.requires.points c.requires.depths
+          c.if-above.ensures.1 c.total_of-total.result sum (omega (arith, c.if-total-gt255.true)),
     )
 
 pub returns : goal.returns
@@ -25,4 +26,6 @@ returns c =
     let l = c.args.layout.now in
     let is : c.deref.result.now ≡ handlers l = c.deref.ensures.value ∙ c.in_ok-vectors.ensures in
     let sum = subst (λ (vs : List ℕ). IsSum c.args.depths.now vs c.total_of-total.result) is c.total_of-total.ensures in
-    bound_is l c.args.image.now c.args.points.now c.args.depths.now c.requires.points c.requires.depths c.if-above.ensures.1 c.total_of-total.result c.in_ok-bound.bound sum c.requires.heights c.if-above.ensures.0 c.in_ok-bound.ensures
+    bound_is l c.args.image.now c.args.points.now c.args.depths.now c.requires.points c.requires.depths
+    c.if-above.ensures.1 c.total_of-total.result c.in_ok-bound.bound sum c.requires.heights c.if-above.ensures.0
+    c.in_ok-bound.ensures

@@ -18,12 +18,20 @@ loop-point-preserved c =
     let i = c.loop-point.point-index in
     let none : Point = point_at Reset 0 0 in
     let p : Point = get_or points i none in
-    let is : c.call_from.result ≡ call_from p (call_of l image p) = c.call_from.ensures ∙ ap (call_from p) c.call_of.ensures in
-    let more : (calls : List Call) → calls ≡ c.loop-point.calls.items ++ cons_option c.call_from.result [] → calls ≡ calls_of l image (take (i + 1) points) =
-    λ calls e. e ∙ ap (λ (o : Option Call). c.loop-point.calls.items ++ cons_option o []) is ∙ ap (λ (cs : List Call). cs ++ cons_option (call_from p (call_of l image p)) []) c.loop-point.invariant
+    let is : c.call_from.result ≡ call_from p (call_of l image p) =
+    c.call_from.ensures ∙ ap (call_from p) c.call_of.ensures in
+    let more : (calls : List Call) → calls ≡ c.loop-point.calls.items ++ cons_option c.call_from.result []
+    → calls ≡ calls_of l image (take (i + 1) points) =
+    λ calls e. e ∙ ap (λ (o : Option Call). c.loop-point.calls.items ++ cons_option o []) is
+    ∙ ap (λ (cs : List Call). cs ++ cons_option (call_from p (call_of l image p)) []) c.loop-point.invariant
     ∙ sym (calls_more l image points i none c.loop-point-test.true) in
     elim c.match-call_from.branch as (λ _. c.match-call_from.calls.items ≡ calls_of l image (take (i + 1) points)) [
-      | in-Some+in_ok-push-in-Some w ↦ rw w.calls-is (more w.push.new.self.items (w.in_ok-push-in-Some.ensures.items ∙ ap (λ (o : Option Call). c.loop-point.calls.items ++ cons_option o []) (sym w.in-Some.is)))
+      | in-Some+in_ok-push-in-Some w ↦ rw w.calls-is
+          (more w.push.new.self.items
+          (w.in_ok-push-in-Some.ensures.items ∙ ap (λ (o : Option Call). c.loop-point.calls.items ++ cons_option o [])
+          (sym w.in-Some.is)))
       | in-None w ↦
-          rw w.calls-is (more c.loop-point.calls.items (sym (append-nil c.loop-point.calls.items) ∙ ap (λ (o : Option Call). c.loop-point.calls.items ++ cons_option o []) (sym w.in-None.is)))
+          rw w.calls-is (more c.loop-point.calls.items
+          (sym (append-nil c.loop-point.calls.items)
+          ∙ ap (λ (o : Option Call). c.loop-point.calls.items ++ cons_option o []) (sym w.in-None.is)))
     ]

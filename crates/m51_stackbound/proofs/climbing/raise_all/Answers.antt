@@ -21,11 +21,14 @@ loop-call-preserved c =
     let none : Call = record { from = Reset; height = 0; to = 0 } in
     let call : Call = get_or calls i none in
     let before : Bool = c.loop-call.rose in
-    let up : Raises call.from (depth_by now call) now new c.raise.result = subst (λ (d : ℕ). Raises call.from d now new c.raise.result) c.depth_by-depth.ensures c.raise.ensures.raised in
-    let rose : (c.raise.result || before) ≡ c.if-raise.rose = elim c.if-raise.branch as (λ _. (c.raise.result || before) ≡ c.if-raise.rose) [
+    let up : Raises call.from (depth_by now call) now new c.raise.result =
+    subst (λ (d : ℕ). Raises call.from d now new c.raise.result) c.depth_by-depth.ensures c.raise.ensures.raised in
+    let rose : (c.raise.result || before) ≡ c.if-raise.rose =
+    elim c.if-raise.branch as (λ _. (c.raise.result || before) ≡ c.if-raise.rose) [
       | then-raise w ↦ ap (λ b. b || before) w.if-raise.true ∙ sym w.rose-is
       | else-raise w ↦ ap (λ b. b || before) w.if-raise.false ∙ sym w.rose-is
     ] in
     subst (λ b. IsRaised l image (take (i + 1) calls) c.args.depths.now new b) rose
-    (raised_next l image calls i none c.args.depths.now now new before c.raise.result c.loop-call-test.true (omega (arith, c.raise.ensures.few, c.loop-call.invariant.are.len))
+    (raised_next l image calls i none c.args.depths.now now new before c.raise.result c.loop-call-test.true
+    (omega (arith, c.raise.ensures.few, c.loop-call.invariant.are.len))
     (c.requires.calls call (Contains-get_or calls i none c.loop-call-test.true)) c.loop-call.invariant up)

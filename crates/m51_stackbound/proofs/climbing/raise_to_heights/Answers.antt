@@ -17,7 +17,10 @@ loop-point-preserved c =
     let now = c.loop-point.depths in
     let none : Point = point_at Reset 0 0 in
     let p : Point = get_or points i none in
-    climbing_next c.args.layout.now c.args.image.now points i none now c.raise.new.depths c.raise.result c.loop-point-test.true
+    climbing_next c.args.layout.now c.args.image.now points i none now c.raise.new.depths c.raise.result
+    c.loop-point-test.true
     (omega (arith, c.raise.ensures.few, c.loop-point.invariant.are.len))
-    (c.requires.points p (Contains-get_or points i none c.loop-point-test.true)) (omega (arith, c.height_of.ensures.value, c.height_of.ensures.few)) c.loop-point.invariant
-    (subst (λ (d : ℕ). Raises p.start d now c.raise.new.depths c.raise.result) c.height_of.ensures.value c.raise.ensures.raised)
+    (c.requires.points p (Contains-get_or points i none c.loop-point-test.true))
+    (omega (arith, c.height_of.ensures.value, c.height_of.ensures.few)) c.loop-point.invariant
+    (subst (λ (d : ℕ). Raises p.start d now c.raise.new.depths c.raise.result) c.height_of.ensures.value
+    c.raise.ensures.raised)

@@ -10,7 +10,8 @@ use Rattle.m51_stackbound.proofs.cycling.first_cyclic.Goals as goal
 
 pub returns-then-not-is_too_deep : goal.returns-then-not-is_too_deep
 returns-then-not-is_too_deep c = λ start h.
-    low_not_cyclic c.args.layout.now c.args.image.now c.args.points.now c.args.depths.now c.requires.points c.requires.depths start
+    low_not_cyclic c.args.layout.now c.args.image.now c.args.points.now c.args.depths.now c.requires.points
+    c.requires.depths start
     (all_low c.args.depths.now (sym c.is_too_deep.ensures ∙ c.if-not-is_too_deep.true) start) h
 
 pub loop-place-preserved : goal.loop-place-preserved
@@ -18,19 +19,29 @@ loop-place-preserved c =
     let l = c.args.layout.now in
     let image = c.args.image.now in
     let place = c.loop-place.place in
-    let rows : AreCallRows l image c.deref-in-loop-place.result.now = subst (λ (rows : List (List ℕ)). AreCallRows l image rows) (sym c.deref-in-loop-place.ensures.value)
-    (rows_are l image c.args.points.now c.args.calls.now c.in_ok-rows.rows.items c.requires.points c.requires.calls c.in_ok-rows.ensures) in
+    let rows : AreCallRows l image c.deref-in-loop-place.result.now =
+    subst (λ (rows : List (List ℕ)). AreCallRows l image rows) (sym c.deref-in-loop-place.ensures.value)
+    (rows_are l image c.args.points.now c.args.calls.now c.in_ok-rows.rows.items c.requires.points c.requires.calls
+    c.in_ok-rows.ensures) in
     below_more (λ a. CallsThrough l image (At a) a → ⊥) place c.loop-place.invariant
-    (λ h. absurd (cc (c.in_ok-is_cyclic.ensures.1 (leads_from l image c.deref-in-loop-place.result.now rows place place h), c.if-branch.false)))
+    (λ h. absurd (cc (
+      c.in_ok-is_cyclic.ensures.1
+          (leads_from l image c.deref-in-loop-place.result.now rows place place h),
+      c.if-branch.false,
+    )))
 
 pub returns-then-branch : goal.returns-then-branch
 returns-then-branch c =
     let l = c.args.layout.now in
     let image = c.args.image.now in
     let place = c.loop-place.place in
-    let rows : AreCallRows l image c.deref-in-loop-place.result.now = subst (λ (rows : List (List ℕ)). AreCallRows l image rows) (sym c.deref-in-loop-place.ensures.value)
-    (rows_are l image c.args.points.now c.args.calls.now c.in_ok-rows.rows.items c.requires.points c.requires.calls c.in_ok-rows.ensures) in
-    first_is l image place (through_from l image c.deref-in-loop-place.result.now rows place place (c.in_ok-is_cyclic.ensures.0 c.if-branch.true)) c.loop-place.invariant
+    let rows : AreCallRows l image c.deref-in-loop-place.result.now =
+    subst (λ (rows : List (List ℕ)). AreCallRows l image rows) (sym c.deref-in-loop-place.ensures.value)
+    (rows_are l image c.args.points.now c.args.calls.now c.in_ok-rows.rows.items c.requires.points c.requires.calls
+    c.in_ok-rows.ensures) in
+    first_is l image place
+    (through_from l image c.deref-in-loop-place.result.now rows place place
+    (c.in_ok-is_cyclic.ensures.0 c.if-branch.true)) c.loop-place.invariant
 
 pub returns : goal.returns
 returns c =

@@ -1,5 +1,5 @@
 use Rattle.std.proofs.Common.{◌≡◌, ◌+◌, List, get_or, length, ap, sym, subst, ◌∙◌, inl, inr, Option, Some, arith}
-use Rattle.m51_stackbound.specs.declared.point.Place.{Place}
+use Rattle.m51_stackbound.specs.declared.point.ReachedAddress.{ReachedAddress}
 use Rattle.m51_stackbound.specs.declared.point.Point.{Point}
 use Rattle.m51_module.specs.declared.start.Start.TheVariants.{Reset}
 use Rattle.m51_stackbound.specs.Points.{point_at}
@@ -14,25 +14,30 @@ loop-point-preserved c =
     let points = c.args.points.now in
     let i = c.loop-point.point-index in
     let none : Point = point_at Reset 0 0 in
-    let here : Place = place_of (get_or points i none) in
-    let places : List Place = c.loop-point.places in
-    let new : List Place = c.note.new.self in
-    let least : Option Place = c.loop-point.least in
+    let here : ReachedAddress = place_of (get_or points i none) in
+    let places : List ReachedAddress = c.loop-point.places in
+    let new : List ReachedAddress = c.note.new.self in
+    let least : Option ReachedAddress = c.loop-point.least in
     let again = c.in_ok-note.field-0 in
-    let noted : NotesPlace places here new again = subst (λ (p : Place). NotesPlace places p new again) c.place_of-place.ensures c.in_ok-note.ensures in
+    let noted : NotesPlace places here new again =
+    subst (λ (p : ReachedAddress). NotesPlace places p new again) c.place_of-place.ensures c.in_ok-note.ensures in
     elim c.if-branch.branch [
       | then-branch w ↦
-          let is : Some (lesser least here) ≡ c.if-branch.least = ap (λ (p : Place). Some (lesser least p)) (sym c.place_of-place.ensures) ∙ ap Some (sym w.lesser.ensures) ∙ sym w.least-is in
-          subst (λ (r : Option Place). IsDoubling points (i + 1) new r) is
+          let is : Some (lesser least here) ≡ c.if-branch.least =
+          ap (λ (p : ReachedAddress). Some (lesser least p)) (sym c.place_of-place.ensures)
+          ∙ ap Some (sym w.lesser.ensures) ∙ sym w.least-is in
+          subst (λ (r : Option ReachedAddress). IsDoubling points (i + 1) new r) is
           (elim noted as (λ _. IsDoubling points (i + 1) new (Some (lesser least here))) [
-            | inl old ↦ doubling_again points i none c.loop-point-test.true places new least old.1 old.2 c.loop-point.invariant
+            | inl old ↦ doubling_again points i none c.loop-point-test.true places new least old.1 old.2
+                c.loop-point.invariant
             | inr first ↦ absurd (cc (first.0, w.if-branch.true))
           ])
       | else-branch w ↦
-          subst (λ (r : Option Place). IsDoubling points (i + 1) new r) (sym w.least-is)
+          subst (λ (r : Option ReachedAddress). IsDoubling points (i + 1) new r) (sym w.least-is)
           (elim noted as (λ _. IsDoubling points (i + 1) new least) [
             | inl old ↦ absurd (cc (old.0, w.if-branch.false))
-            | inr first ↦ doubling_new points i none c.loop-point-test.true places new least first.1 first.2 c.loop-point.invariant
+            | inr first ↦ doubling_new points i none c.loop-point-test.true places new least first.1 first.2
+                c.loop-point.invariant
           ])
     ]
 

@@ -1,6 +1,6 @@
 use Rattle.std.proofs.Common.{◌≡◌, ◌+◌, List, get_or, take, ap, sym, subst, ◌∙◌, Option, Some, arith}
 use Rattle.std.proofs.lemmas.List.{take_all}
-use Rattle.m51_stackbound.specs.declared.point.Place.{Place}
+use Rattle.m51_stackbound.specs.declared.point.ReachedAddress.{ReachedAddress}
 use Rattle.m51_stackbound.specs.declared.point.Point.{Point}
 use Rattle.m51_module.specs.declared.start.Start.TheVariants.{Reset}
 use Rattle.m51_stackbound.specs.Points.{point_at}
@@ -16,20 +16,25 @@ loop-point-preserved c =
     let rule = c.args.rule in
     let points = c.args.points.now in
     let i = c.loop-point.point-index in
-    let least : Option Place = c.loop-point.least in
+    let least : Option ReachedAddress = c.loop-point.least in
     let none : Point = point_at Reset 0 0 in
     elim c.if-breaks_at.branch [
       | then-breaks_at w ↦
           let is : Some (lesser least (place_of (get_or points i none))) ≡ c.if-breaks_at.least =
           ap Some (ap (λ place. lesser least place) (sym w.place_of.ensures) ∙ sym w.lesser.ensures) ∙ sym w.least-is in
-          subst (λ (r : Option Place). IsFirstBreach l image rule (take (i + 1) points) r) is
-          (breach_more l image rule points i none least c.loop-point-test.true (sym c.breaks_at.ensures ∙ w.if-breaks_at.true) c.loop-point.invariant)
-      | else-breaks_at w ↦ subst (λ (r : Option Place). IsFirstBreach l image rule (take (i + 1) points) r) (sym w.least-is)
-          (breach_passes l image rule points i none least c.loop-point-test.true (sym c.breaks_at.ensures ∙ w.if-breaks_at.false) c.loop-point.invariant)
+          subst (λ (r : Option ReachedAddress). IsFirstBreach l image rule (take (i + 1) points) r) is
+          (breach_more l image rule points i none least c.loop-point-test.true
+          (sym c.breaks_at.ensures ∙ w.if-breaks_at.true) c.loop-point.invariant)
+      | else-breaks_at w ↦ subst (λ (r : Option ReachedAddress). IsFirstBreach l image rule (take (i + 1) points) r)
+          (sym w.least-is)
+          (breach_passes l image rule points i none least c.loop-point-test.true
+          (sym c.breaks_at.ensures ∙ w.if-breaks_at.false) c.loop-point.invariant)
     ]
 
 pub returns : goal.returns
 returns c =
     let points = c.args.points.now in
-    let whole : take c.loop-point.point-index points ≡ points = take_all c.loop-point.point-index points (omega arith) in
-    subst (λ (ps : List Point). IsFirstBreach c.args.layout.now c.args.image.now c.args.rule ps c.loop-point.least) whole c.loop-point.invariant
+    let whole : take c.loop-point.point-index points ≡ points =
+    take_all c.loop-point.point-index points (omega arith) in
+    subst (λ (ps : List Point). IsFirstBreach c.args.layout.now c.args.image.now c.args.rule ps c.loop-point.least)
+    whole c.loop-point.invariant

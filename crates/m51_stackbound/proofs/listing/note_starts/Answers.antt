@@ -14,7 +14,8 @@ loop-point-preserved c =
     let none : Point = point_at Reset 0 0 in
     let p : Point = get_or points i none in
     subst (λ starts. AreStarts (take (i + 1) points) starts) (sym c.note_start.ensures.noted)
-    (starts_more points i none c.loop-point-test.true c.loop-point.starts p.start refl c.note_start.ensures.few c.loop-point.invariant)
+    (starts_more points i none c.loop-point-test.true c.loop-point.starts p.start refl c.note_start.ensures.few
+    c.loop-point.invariant)
 
 pub returns : goal.returns
 returns c =

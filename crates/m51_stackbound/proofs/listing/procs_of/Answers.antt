@@ -7,7 +7,8 @@ use Rattle.m51_stackbound.proofs.listing.procs_of.Goals.{then-starts-place+in_ok
 
 pub loop-place-init : goal.loop-place-init
 loop-place-init c =
-    subst (λ procs. AreListed c.args.layout.now c.args.starts.now c.args.depths.now 0 procs) (sym c.new-procs.ensures.items)
+    subst (λ procs. AreListed c.args.layout.now c.args.starts.now c.args.depths.now 0 procs)
+    (sym c.new-procs.ensures.items)
     (listed_none c.args.layout.now c.args.starts.now c.args.depths.now)
 
 pub loop-place-preserved : goal.loop-place-preserved
@@ -22,7 +23,12 @@ loop-place-preserved c =
           let p : Proc = record { at = place; unit = w.unit_number.result; depth = w.depth_in.result } in
           subst (λ (v : Vec Proc Global). AreListed l starts depths (place + 1) v.items) (sym w.procs-is)
           (subst (λ procs. AreListed l starts depths (place + 1) procs) (sym w.in_ok-push.ensures.items)
-          (listed_more l starts depths place old p refl (record { noted = w.if-starts-place.true; unit = w.unit_number.ensures; depth = w.depth_in.ensures.value }) c.loop-place.invariant))
+          (listed_more l starts depths place old p refl
+          (record {
+            noted = w.if-starts-place.true;
+            unit = w.unit_number.ensures;
+            depth = w.depth_in.ensures.value;
+          }) c.loop-place.invariant))
       | else-starts-place w ↦
           subst (λ (v : Vec Proc Global). AreListed l starts depths (place + 1) v.items) (sym w.procs-is)
           (listed_same l starts depths place old w.if-starts-place.false c.loop-place.invariant)

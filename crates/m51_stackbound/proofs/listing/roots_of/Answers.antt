@@ -7,7 +7,9 @@ use Rattle.m51_stackbound.proofs.Deciding.{rows_more}
 use Rattle.m51_stackbound.proofs.listing.roots_of.Goals as goal
 
 pub root_number-root-requires : goal.root_number-root-requires
-root_number-root-requires c = c.requires.handlers (get_or c.args.vectors.now c.loop-vector.vector-index 0) (Contains-get_or c.args.vectors.now c.loop-vector.vector-index 0 c.loop-vector-test.true)
+root_number-root-requires c =
+    c.requires.handlers (get_or c.args.vectors.now c.loop-vector.vector-index 0)
+    (Contains-get_or c.args.vectors.now c.loop-vector.vector-index 0 c.loop-vector-test.true)
 
 pub loop-vector-preserved : goal.loop-vector-preserved
 loop-vector-preserved c =

@@ -1,7 +1,8 @@
 use Rattle.std.proofs.Common.{◌≡◌, length}
 use Rattle.m51_stackbound.proofs.Walks.{marks_len}
 use Rattle.m51_stackbound.proofs.ordering.left_in_order.Goals as goal
-use Rattle.m51_stackbound.proofs.ordering.left_in_order.Goals.{in-Some+in_ok-follow, in_default+then-first-lt-ADDRESSES+in_ok-enter}
+use Rattle.m51_stackbound.proofs.ordering.left_in_order.Goals.{in-Some+in_ok-follow}
+use Rattle.m51_stackbound.proofs.ordering.left_in_order.Goals.{in_default+then-first-lt-ADDRESSES+in_ok-enter}
 
 pub loop-init : goal.loop-init
 loop-init c = marks_len 65536 c.in_ok-entered.entered.items c.in_ok-entered.ensures

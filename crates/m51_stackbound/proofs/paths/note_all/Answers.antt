@@ -20,13 +20,17 @@ loop-point-preserved c =
     let new : List Next = c.note_next.new.nexts in
     let none : Point = point_at Reset 0 0 in
     let p : Point = get_or points i none in
-    let way_is : c.next_by-next.result ≡ next_by depths p (call_of l image p) = c.next_by-next.ensures ∙ ap (λ (o : Option ℕ). next_by depths p o) c.call_of.ensures in
+    let way_is : c.next_by-next.result ≡ next_by depths p (call_of l image p) =
+    c.next_by-next.ensures ∙ ap (λ (o : Option ℕ). next_by depths p o) c.call_of.ensures in
     let noted : new ≡ set old (rank p.start) (earlier (next_in old p.start) (next_by depths p (call_of l image p))) =
     c.note_next.ensures.noted ∙ ap (λ (w : Next). set old (rank p.start) (earlier (next_in old p.start) w)) way_is in
-    nexts_more l image points depths i none c.loop-point-test.true old new (omega (arith, c.note_next.ensures.few, c.loop-point.invariant.len)) noted c.loop-point.invariant
+    nexts_more l image points depths i none c.loop-point-test.true old new
+    (omega (arith, c.note_next.ensures.few, c.loop-point.invariant.len)) noted c.loop-point.invariant
 
 pub returns : goal.returns
 returns c =
     let points = c.args.points.now in
-    let whole : take c.loop-point.point-index points ≡ points = take_all c.loop-point.point-index points (omega arith) in
-    subst (λ (ps : List Point). AreNexts c.args.layout.now c.args.image.now ps c.args.depths.now c.loop-point.nexts) whole c.loop-point.invariant
+    let whole : take c.loop-point.point-index points ≡ points =
+    take_all c.loop-point.point-index points (omega arith) in
+    subst (λ (ps : List Point). AreNexts c.args.layout.now c.args.image.now ps c.args.depths.now c.loop-point.nexts)
+    whole c.loop-point.invariant

@@ -18,8 +18,10 @@ loop-next-preserved c =
     let next = c.loop-next.next in
     let none : Point = point_at Reset 0 0 in
     let noted : NotesAll points (successors l image (get_or points next none)) new =
-    subst (λ (ps : List Point). NotesAll points (successors l image (get_or ps next none)) new) c.as_slice.ensures c.in_ok-visit.ensures in
+    subst (λ (ps : List Point). NotesAll points (successors l image (get_or ps next none)) new) c.as_slice.ensures
+    c.in_ok-visit.ensures in
     search_step l image c.args.firsts points new next none c.loop-next.invariant (omega arith) (omega arith) noted
 
 pub returns : goal.returns
-returns c = search_done c.args.layout.now c.args.image.now c.args.firsts c.loop-next.points c.loop-next.next c.loop-next.invariant (omega arith)
+returns c = search_done c.args.layout.now c.args.image.now c.args.firsts c.loop-next.points c.loop-next.next
+    c.loop-next.invariant (omega arith)

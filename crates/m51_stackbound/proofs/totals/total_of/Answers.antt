@@ -15,7 +15,8 @@ loop-vector-preserved c =
     let i = c.loop-vector.vector-index in
     let old : Greatest = c.loop-vector.greatest in
     let bytes : c.depth_in.result + 2 ≡ added depths (get_or vectors i 0) = ap (λ n. n + 2) c.depth_in.ensures.value in
-    let new : c.with_bytes-greatest.result ≡ with_bytes old (added depths (get_or vectors i 0)) = c.with_bytes-greatest.ensures ∙ ap (λ n. with_bytes old n) bytes in
+    let new : c.with_bytes-greatest.result ≡ with_bytes old (added depths (get_or vectors i 0)) =
+    c.with_bytes-greatest.ensures ∙ ap (λ n. with_bytes old n) bytes in
     subst (λ (g : Greatest). AreGreatest depths (take (i + 1) vectors) g) (sym new)
     (greatest_more depths vectors i c.loop-vector-test.true c.requires.rising old c.loop-vector.invariant)
 

@@ -17,5 +17,6 @@ loop-start-preserved c =
     let start = get_or c.args.order.now c.loop-start.start-index 0 in (
       c.in_ok-is_clear.ensures.closed,
       subst (λ (marks : List Bool). AreCleared rows marks) (sym c.mark_if.ensures.marked)
-          (cleared_more rows c.loop-start.cleared.items start c.in_ok-is_clear.is_clear c.mark_if.ensures.few c.in_ok-is_clear.ensures.apart c.loop-start.invariant.1),
+          (cleared_more rows c.loop-start.cleared.items start c.in_ok-is_clear.is_clear c.mark_if.ensures.few
+          c.in_ok-is_clear.ensures.apart c.loop-start.invariant.1),
     )

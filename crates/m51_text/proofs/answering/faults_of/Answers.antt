@@ -5,4 +5,6 @@ use Rattle.m51_text.specs.Entries.{fault_kept}
 use Rattle.m51_text.proofs.answering.faults_of.Goals as goal
 
 pub returns : goal.returns
-returns c = items_from_collect _ c.collect.ensures.ran (YieldsList-from_filter_map _ fault_kept (YieldsList-from_slice c.args.entries.now cc) c.filter_map.ensures.closure (λ x r q k. search (rules, tests)))
+returns c = items_from_collect _ c.collect.ensures.ran
+    (YieldsList-from_filter_map _ fault_kept (YieldsList-from_slice c.args.entries.now cc) c.filter_map.ensures.closure
+    (λ x r q k. search (rules, tests)))

@@ -8,5 +8,7 @@ use Rattle.m51_text.proofs.answering.read_text.Goals as goal
 pub returns : goal.returns
 returns c =
     let whole : told (map entry_tree c.settled.result.items) ≡ text_of c.args.source.now c.args.includes.now =
-    told_whole c.args.source.now c.args.includes.now (state_of c.new-reading.result) (state_of c.read_file.new.reading) _ (map entry_tree c.settled.result.items) c.new-reading.ensures c.as_slice.ensures c.in_ok-read_file.ensures.state c.settled.ensures in
+    told_whole c.args.source.now c.args.includes.now (state_of c.new-reading.result) (state_of c.read_file.new.reading)
+    _ (map entry_tree c.settled.result.items) c.new-reading.ensures c.as_slice.ensures
+    c.in_ok-read_file.ensures.state c.settled.ensures in
     rw whole at c.told.ensures

@@ -12,7 +12,9 @@ decreases-insert l = 2 * l.levels
 
 abbrev pub invariant-read_file-loop-text : goal.invariant-read_file-loop-text
 invariant-read_file-loop-text l = record {
-  state : after l.includes (state_of l.reading) (lines_with (brought l.includes l.levels) l.levels l.file l.line (lines l.rest)) ≡ after l.includes (state_of l.fn.reading) (file_lines l.includes l.levels l.file l.bytes);
+  state : after l.includes (state_of l.reading)
+      (lines_with (brought l.includes l.levels) l.levels l.file l.line (lines l.rest))
+      ≡ after l.includes (state_of l.fn.reading) (file_lines l.includes l.levels l.file l.bytes);
   line : l.line ≤ vec_len l.reading.entries + 1;
   grows : vec_len l.fn.reading.entries ≤ vec_len l.reading.entries;
 }

@@ -11,5 +11,12 @@ returns-in-Err-clause-carried g c =
     let text : c.as_slice-in-Err.result.now ≡ unkept_text (g.F.Shelf.state c.keep.new.self).keeps.missed =
     c.as_slice-in-Err.ensures ∙ c.into_parts-name.ensures.text ∙ ap unkept_text (sym missed) in
     rw c.status_told-in-Err.ensures
-    (unkept_ended _ _ _ _ _ _ (record { file = file_of c.args.file; is = refl; rose = c.in-Err.ensures.cause.failed; missed = missed; kept = c.in-Err.ensures.kept })
+    (unkept_ended _ _ _ _ _ _
+    (record {
+      file = file_of c.args.file;
+      is = refl;
+      rose = c.in-Err.ensures.cause.failed;
+      missed = missed;
+      kept = c.in-Err.ensures.kept;
+    })
     (rw text at c.write.ensures.written))

@@ -4,7 +4,9 @@ use Rattle.m51_verbs.proofs.Carries.{written_after}
 use Rattle.m51_verbs.proofs.carrying.report.Goals as goal
 
 pub returns-in-Err-clause-written : goal.returns-in-Err-clause-written
-returns-in-Err-clause-written g c = (c.in-Err.ensures.cause.failed, front_more _ _ _ _ (front_of_stop _ _ _ c.in-Err.ensures.short))
+returns-in-Err-clause-written g c =
+    (c.in-Err.ensures.cause.failed, front_more _ _ _ _ (front_of_stop _ _ _ c.in-Err.ensures.short))
 
 pub returns-in-Ok-clause-written : goal.returns-in-Ok-clause-written
-returns-in-Ok-clause-written g c = written_after _ _ _ _ _ _ _ c.in-Ok.ensures.whole c.in-Ok.ensures.cause.later c.end.ensures.written
+returns-in-Ok-clause-written g c =
+    written_after _ _ _ _ _ _ _ c.in-Ok.ensures.whole c.in-Ok.ensures.cause.later c.end.ensures.written

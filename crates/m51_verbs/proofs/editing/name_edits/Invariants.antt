@@ -3,4 +3,5 @@ use Rattle.m51_verbs.specs.Edits.{name_edit}
 use Rattle.m51_verbs.proofs.editing.name_edits.Given as goal
 
 abbrev pub invariant-loop-name : goal.invariant-loop-name
-invariant-loop-name l = l.edits ++ map (name_edit l.operation) (drop l.name-index l.names) ≡ map (name_edit l.operation) l.names
+invariant-loop-name l = l.edits ++ map (name_edit l.operation) (drop l.name-index l.names)
+    ≡ map (name_edit l.operation) l.names

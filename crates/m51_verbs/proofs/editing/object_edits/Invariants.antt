@@ -5,4 +5,5 @@ use Rattle.m51_verbs.proofs.editing.object_edits.Given as goal
 
 abbrev pub invariant-loop-at : goal.invariant-loop-at
 invariant-loop-at l =
-    edits_before l.edits (object_edits l.operation (drop l.at l.names) (drop l.at l.files)) ≡ object_edits l.operation l.names l.files
+    edits_before l.edits (object_edits l.operation (drop l.at l.names) (drop l.at l.files))
+    ≡ object_edits l.operation l.names l.files

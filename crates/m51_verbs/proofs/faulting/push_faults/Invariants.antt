@@ -4,4 +4,5 @@ use Rattle.m51_verbs.proofs.faulting.push_faults.Given as goal
 
 abbrev pub invariant-loop-fault : goal.invariant-loop-fault
 invariant-loop-fault l =
-    l.text.items ++ fault_lines l.source l.files (drop l.fault-index l.faults) ≡ l.fn.text.items ++ fault_lines l.source l.files l.faults
+    l.text.items ++ fault_lines l.source l.files (drop l.fault-index l.faults) ≡ l.fn.text.items
+    ++ fault_lines l.source l.files l.faults

@@ -9,5 +9,6 @@ invariant-loop-name g l = record {
   read : AreRead (g.F.Shelf.state l.fn.files).holds (take l.name-index l.names) l.contents;
   reads : ((g.F.Shelf.state l.files).reads ≡ (g.F.Shelf.state l.fn.files).reads)
       ⊎ ReadsSome l.names (g.F.Shelf.state l.fn.files).reads (g.F.Shelf.state l.files).reads;
-  given : AreGiven (take l.name-index l.names) (g.F.Shelf.state l.fn.files).reads (g.F.Shelf.state l.files).reads l.contents;
+  given : AreGiven (take l.name-index l.names) (g.F.Shelf.state l.fn.files).reads (g.F.Shelf.state l.files).reads
+      l.contents;
 }

@@ -5,4 +5,6 @@ use Rattle.m51_verbs.specs.Refusals.{joined}
 use Rattle.m51_verbs.proofs.refusing.joined.Given as goal
 
 abbrev pub invariant-loop-part : goal.invariant-loop-part
-invariant-loop-part l = fold (λ (text : List ℕ) (part : List ℕ). text ++ part) l.bytes.items (lent (drop l.part-index l.parts)) ≡ joined (lent l.parts)
+invariant-loop-part l =
+    fold (λ (text : List ℕ) (part : List ℕ). text ++ part) l.bytes.items (lent (drop l.part-index l.parts))
+    ≡ joined (lent l.parts)

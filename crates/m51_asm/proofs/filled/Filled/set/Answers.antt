@@ -7,4 +7,5 @@ pub returns : goal.returns
 returns c = λ other.
     ap (λ xs. size_in xs other) c.store.ensures
     ∙ set_one c.reach.new.sizes.items c.args.id c.args.size other c.in_ok-reach.ensures.room
-    ∙ ap (λ n. cond (c.args.id == other) c.args.size n) (c.in_ok-reach.ensures.same other ∙ ap (λ xs. size_in xs other) c.self.view_is)
+    ∙ ap (λ n. cond (c.args.id == other) c.args.size n)
+    (c.in_ok-reach.ensures.same other ∙ ap (λ xs. size_in xs other) c.self.view_is)

@@ -9,5 +9,6 @@ use Rattle.m51_asm.proofs.valuation.Values.get.Goals as goal
 pub returns : goal.returns
 returns c =
     c.known.ensures
-    ∙ ap known (c.copied.ensures ∙ c.get.ensures.value ∙ ap (λ n. lookup (λ (k : Vec ℕ). bytes_eq n k.items) c.self.inside.values.entries) c.bytes.ensures.bytes)
+    ∙ ap known (c.copied.ensures ∙ c.get.ensures.value
+    ∙ ap (λ n. lookup (λ (k : Vec ℕ). bytes_eq n k.items) c.self.inside.values.entries) c.bytes.ensures.bytes)
     ∙ lookup_value c.args.name.now c.self.inside.values.entries ∙ ap (λ v. value_in v c.args.name.now) c.self.view_is

@@ -2,4 +2,5 @@ use Rattle.m51_sim.proofs.Sums.{told_from_advance}
 use Rattle.m51_sim.proofs.board.Board.step_on.Goals as goal
 
 pub returns-clause-step : goal.returns-clause-step
-returns-clause-step c = rw (← c.self.view_is) (told_from_advance _ _ _ _ _ c.advance-answer.ensures.step c.told_by.ensures)
+returns-clause-step c =
+    rw (← c.self.view_is) (told_from_advance _ _ _ _ _ c.advance-answer.ensures.step c.told_by.ensures)

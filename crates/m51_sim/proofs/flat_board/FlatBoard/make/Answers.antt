@@ -2,4 +2,5 @@ use Rattle.m51_sim.proofs.Flatly.{flat_started}
 use Rattle.m51_sim.proofs.flat_board.FlatBoard.make.Goals as goal
 
 pub returns : goal.returns
-returns c = flat_started c.args.image c.args.script c.fill.result c.in_ok-chip.chip c.in_ok-memory.memory c.fill.ensures c.in_ok-chip.ensures c.in_ok-memory.ensures
+returns c = flat_started c.args.image c.args.script c.fill.result c.in_ok-chip.chip c.in_ok-memory.memory c.fill.ensures
+    c.in_ok-chip.ensures c.in_ok-memory.ensures

@@ -14,9 +14,12 @@ invariant_of-self-2 c =
     let marks = c.self.inside.marks.items in
     let start = c.args.start in
     let few : start < 65536 = search rules in
-    let absent : Contains starts start → ⊥ = λ k. absurd (cc (c.has.ensures.1 (subst (λ (ss : List ℕ). Contains ss start) c.self.view_is k), c.if-has.false)) in
+    let absent : Contains starts start
+    → ⊥ = λ k. absurd (cc
+    (c.has.ensures.1 (subst (λ (ss : List ℕ). Contains ss start) c.self.view_is k), c.if-has.false)) in
     subst (λ (ss : List ℕ). AreMarked ss (slice_set marks c.from.result true)) (sym c.in_ok-push.ensures.items)
-    (subst (λ (n : ℕ). AreMarked (starts ++ start ∷ []) (slice_set marks n true)) (sym c.from.ensures) (marked_more starts marks start few absent c.self.invariant))
+    (subst (λ (n : ℕ). AreMarked (starts ++ start ∷ []) (slice_set marks n true)) (sym c.from.ensures)
+    (marked_more starts marks start few absent c.self.invariant))
 
 pub returns : goal.returns
 returns c =

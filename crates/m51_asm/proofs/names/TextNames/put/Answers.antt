@@ -1,0 +1,15 @@
+use Rattle.std.proofs.Common.{◌≡◌, ◌++◌, ◌∷◌, [], ap, ◌∙◌, None}
+use Rattle.m51_asm.specs.Table.{entries_of, first_in}
+use Rattle.m51_asm.proofs.NamedEntries.{put_last}
+use Rattle.m51_asm.proofs.names.TextNames.put.Goals as goal
+
+pub returns : goal.returns
+returns c =
+    let entries = c.self.inside.names.entries in
+    let key_is : c.in_ok-key.key.items ≡ c.args.name.now = c.in_ok-key.ensures.items ∙ c.bytes.ensures.bytes in
+    let absent : first_in (entries_of entries) c.in_ok-key.key.items ≡ None =
+    ap (λ n. first_in (entries_of entries) n) key_is ∙ ap (λ v. first_in v c.args.name.now) c.self.view_is
+    ∙ c.requires in
+    ap entries_of c.in_ok-insert.ensures.entries ∙ put_last entries c.in_ok-key.key c.args.first absent
+    ∙ ap (λ n. entries_of entries ++ (n, c.args.first) ∷ []) key_is
+    ∙ ap (λ v. v ++ (c.args.name.now, c.args.first) ∷ []) c.self.view_is

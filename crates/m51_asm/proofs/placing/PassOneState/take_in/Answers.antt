@@ -1,0 +1,37 @@
+use Rattle.std.proofs.Common.{rules, ◌≡◌, ap, map, refl, ◌∙◌}
+use Rattle.m51_stmt.specs.Statement.{stmt_tree}
+use Rattle.m51_text.specs.Answer.{line_tree}
+use Rattle.m51_asm.specs.declared.giving.Giving.{Giving}
+use Rattle.m51_asm.specs.Definitions.{definitions_in}
+use Rattle.m51_asm.specs.Table.{brief}
+use Rattle.m51_asm.specs.Above.{value_in}
+use Rattle.m51_asm.specs.GivenValues.{given_or}
+use Rattle.m51_asm.proofs.GivenValues.{have_numbers}
+use Rattle.m51_asm.proofs.GoodLines.{free}
+use Rattle.m51_asm.proofs.PlacedLines.{at_next}
+use Rattle.m51_asm.proofs.placing.PassOneState.take_in.Goals as goal
+
+pub take_in-requires-clause-numbers : goal.take_in-requires-clause-numbers
+take_in-requires-clause-numbers c =
+    let defined : c.deref.result.now ≡ map brief (definitions_in (stmt_tree c.args.line.now.stmt)) = search rules in
+    have_numbers c.args.self.now.externals (stmt_tree c.args.line.now.stmt) c.deref.result.now defined
+    c.requires.declared
+
+pub returns : goal.returns
+returns c = λ lines a f is none at told counts.
+    let defined : c.deref.result.now ≡ map brief (definitions_in (stmt_tree c.args.line.now.stmt)) = search rules in
+    let g : Giving =
+    record {
+      here = c.args.told.now.here;
+      expression = c.given.result;
+      line = c.args.k;
+      externals = c.args.self.now.externals;
+    } in
+    at_next lines a f c.args.k (line_tree c.args.line.now) is (free lines a c.args.k none) c.args.self.now at
+    c.args.told.now told
+    c.args.counts.now counts
+    (record { next = c.requires.next; segments = c.requires.segments; externals = c.requires.externals })
+    g refl c.given.ensures refl refl _
+    (λ name. c.in_ok-take_in.ensures name
+    ∙ ap (λ ds. given_or g ds name (value_in c.args.self.now.values name)) defined)
+    c.in_ok-set.ensures c.note.ensures refl c.bank-self.ensures refl refl

@@ -1,0 +1,21 @@
+use Rattle.std.proofs.Common.{◌≡◌, ◌<◌, length, sym, ◌∙◌, arith}
+use Rattle.std.specs.Prelude.{slice_index}
+use Rattle.std.proofs.lemmas.Grind.{common_steps}
+use Rattle.std.proofs.lemmas.Bool.{eqb-true}
+use Rattle.m51_monitor.proofs.FlagBytes.{length_flags, full_byte}
+use Rattle.m51_monitor.proofs.bits.Flags.are_set.Goals as goal
+
+pub index-requires : goal.index-requires
+index-requires c =
+    let bytes = c.self.inside.bytes.items in
+    let flags = rw (← c.self.view_is) at c.requires in
+    let inside : c.args.byte < length bytes = omega (arith, flags, length_flags bytes) in
+    grind (arith, common_steps, inside)
+
+pub returns : goal.returns
+returns c = λ set.
+    let bytes = c.self.inside.bytes.items in
+    let flags = rw (← c.self.view_is) at c.requires in
+    let inside : c.args.byte < length bytes = omega (arith, flags, length_flags bytes) in
+    let byte : c.index.result.now ≡ slice_index bytes c.args.byte = grind (arith, common_steps, inside) in
+    rw (← c.self.view_is) (full_byte bytes c.args.byte (sym byte ∙ eqb-true c.index.result.now 255 set))

@@ -1,4 +1,0 @@
-use Rattle.m51_sim.proofs.board.BoardSteps.advance.Goals as goal
-
-pub returns-clause-step : goal.returns-clause-step
-returns-clause-step c = rw (← c.self.view_is) c.advance_alone.ensures.step

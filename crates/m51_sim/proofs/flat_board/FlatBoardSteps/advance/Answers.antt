@@ -1,4 +1,0 @@
-use Rattle.m51_sim.proofs.flat_board.FlatBoardSteps.advance.Goals as goal
-
-pub returns-clause-step : goal.returns-clause-step
-returns-clause-step c = rw (← c.self.view_is) c.advance.ensures.step
